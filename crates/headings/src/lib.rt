@@ -1,0 +1,30 @@
+// Headings of items: their types and parts, the 54 bytes in which they are read and written, and the heading that an outcome
+// derives from one. Reading, writing and deriving are open jobs: they take every input, refuse by document 01's numbers, and a
+// refusal changes no lent byte. Stands on the digits of `text` and on `laws`.
+pub mod item_types;
+
+// A participant's code.
+pub struct Code(pub u32);
+
+// An item's number. Seven digits like a code, and never in a code's place.
+pub struct ItemNo(pub u32);
+
+// Money in hundredths.
+pub struct Amount(pub u64);
+
+// What a heading says: the item's type, its day, and five seven-digit parts.
+pub struct Heading {
+    pub kind: u32,
+    pub day: u32,
+    pub first: Code,
+    pub number: ItemNo,
+    pub second: Code,
+    pub output: ItemNo,
+    pub third: Code,
+}
+
+// What a heading's text gives.
+pub enum Read {
+    Reads(Heading),
+    Unreadable,
+}

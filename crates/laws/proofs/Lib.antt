@@ -1,0 +1,6 @@
+pub mod Every
+pub mod Entries
+pub mod Finite
+pub mod OneOf
+pub mod Any
+pub mod Put

@@ -1,0 +1,52 @@
+use borrow.Author.Needs.{needs}
+use Rattle.text.proofs.days.is_real.Statement.{statement}
+use Rattle.text.proofs.days.is_real.Tie as tie
+use Rattle.text.proofs.Calendar.{not-real, real-by-last}
+use borrow.Author.Tests.{le-leb, lt-leb}
+use Rattle.text.specs.Days.{monthLength}
+
+returns : tie.Need-returns
+returns c = not-real _ 0 (lt-leb 1 _ (c .if1 .taken))
+
+returns-2 : tie.Need-returns-2
+returns-2 c = not-real _ 1 (lt-leb _ 9999 (c .if2 .taken))
+
+returns-3 : tie.Need-returns-3
+returns-3 c = not-real _ 2 (lt-leb 1 _ (c .if3 .taken))
+
+returns-4 : tie.Need-returns-4
+returns-4 c = not-real _ 3 (lt-leb _ 12 (c .if4 .taken))
+
+returns-5 : tie.Need-returns-5
+returns-5 c = not-real _ 4 (lt-leb 1 _ (c .if5 .taken))
+
+is-leap-requires : tie.Need-is-leap-requires
+is-leap-requires c κs = search needs
+
+cast-month-length : tie.Need-cast-month-length
+cast-month-length c = search needs
+
+month-length-requires : tie.Need-month-length-requires
+month-length-requires c κs = search needs
+
+returns-6 : tie.Need-returns-6
+unfolding monthLength
+returns-6 c =
+    let t = c .before .before in
+    rw (c .month-length .ensures, c .before .is-leap .ensures)
+    (real-by-last (t .before .before .before .before .before .args .day) (t .before .before .before .before .if1 .left) (t .before .before .before .if2 .left)
+    (t .before .before .if3 .left) (t .before .if4 .left) (t .if5 .left))
+
+pub is-real-spec : {M : Type 1} → statement M
+is-real-spec =
+    tie.close
+    (tie.spec
+    returns
+    returns-2
+    returns-3
+    returns-4
+    returns-5
+    is-leap-requires
+    cast-month-length
+    month-length-requires
+    returns-6)

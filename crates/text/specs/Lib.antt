@@ -1,0 +1,4 @@
+pub mod Characters
+pub mod Digits
+pub mod Days
+pub mod Strings

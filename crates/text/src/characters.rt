@@ -1,0 +1,86 @@
+// Admissible bytes (document 01; 000, 2.1): one test, the table of all answers, and the look over a part of a slice.
+ghost use mathlib.Core.Path.{_≡_};
+ghost use Rattle.laws.specs.Lists.{anyOf};
+ghost use Rattle.text.specs.Characters.{isPlain, isAdmissible, isOdd, isInadmissible, answers};
+
+fn is_plain(b: u8) -> bool
+    ensures { λ r. ⌜ r ≡ isPlain b ⌝ }
+{
+    (0x20 <= b) & (b <= 0x7E)
+}
+
+// Of the bytes from 80 on, 64 to a word, one bit each.
+pub fn is_admissible(b: u8) -> bool
+    ensures { λ r. ⌜ r ≡ isAdmissible b ⌝ }
+{
+    if b < 0x80 {
+        return is_plain(b);
+    }
+    let word: u64 = if b < 0xC0 {
+        0x00A0_30CF_9E7F_4036
+    } else {
+        0x3000_37E5_4174_0000
+    };
+    (word >> ((b % 64) as u64)) % 2 == 1
+}
+
+// The answer for each byte. A caller makes it once and lends it: a table that stands in the code would be built anew at each use.
+pub fn table() -> [bool; 256]
+    ensures { λ r. ⌜ r ≡ answers ⌝ }
+{
+    let mut t = [false; 256];
+    let mut b: usize = 0;
+    while b < 256 {
+        t[b] = is_admissible(b as u8);
+        b += 1;
+    }
+    t
+}
+
+// Only sets a flag, so that it is compiled to whole words.
+fn holds_odd(s: &[u8]) -> bool
+    ensures { λ r. ⌜ r ≡ anyOf isOdd (now (s .entry)) ⌝ }
+{
+    let mut odd = false;
+    let mut i = 0;
+    while i < s.len() {
+        if !is_plain(s[i]) {
+            odd = true;
+        }
+        i += 1;
+    }
+    odd
+}
+
+fn is_bad(t: &[bool; 256], b: u8) -> bool
+    requires { ⌜ now t ≡ answers ⌝ }
+    ensures { λ r. ⌜ r ≡ isInadmissible b ⌝ }
+{
+    !t[b as usize]
+}
+
+fn holds_bad(t: &[bool; 256], s: &[u8]) -> bool
+    requires { ⌜ now t ≡ answers ⌝ }
+    ensures { λ r. ⌜ r ≡ anyOf isInadmissible (now (s .entry)) ⌝ }
+{
+    let mut bad = false;
+    let mut i = 0;
+    while i < s.len() {
+        if is_bad(t, s[i]) {
+            bad = true;
+        }
+        i += 1;
+    }
+    bad
+}
+
+// Whether a text holds an inadmissible byte (rule 1). The table is asked only where a byte is not plain.
+pub fn holds_inadmissible(t: &[bool; 256], s: &[u8]) -> bool
+    requires { ⌜ now t ≡ answers ⌝ }
+    ensures { λ r. ⌜ r ≡ anyOf isInadmissible (now (s .entry)) ⌝ }
+{
+    if holds_odd(s) {
+        return holds_bad(t, s);
+    }
+    false
+}

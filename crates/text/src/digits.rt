@@ -1,0 +1,60 @@
+// Numbers as digits, at every width that fits 64 bits.
+ghost use mathlib.Core.Path.{_≡_};
+ghost use Prim.Native.Nat.{_+_, _≤_};
+ghost use lib.ListN.{length, take, drop};
+ghost use Rattle.laws.specs.Lists.{put};
+ghost use Rattle.text.specs.Digits.{numberOf, digits};
+
+pub enum Number {
+    Value(u64),
+    NotDigits,
+}
+
+fn wide(b: u8) -> u64
+    ensures { λ r. ⌜ r ≡ b ⌝ }
+{
+    b as u64
+}
+
+// All the bytes of a part as one number.
+pub fn read(s: &[u8]) -> Number
+    requires { ⌜ length (now s) ≤ 19 ⌝ }
+    ensures { λ r. ⌜ r ≡ numberOf (now (s .entry)) ⌝ }
+{
+    let mut v: u64 = 0;
+    let mut i = 0;
+    while i < s.len() {
+        let b = s[i];
+        if b < 48 {
+            return Number::NotDigits;
+        }
+        if 57 < b {
+            return Number::NotDigits;
+        }
+        v = v * 10 + wide(b - 48);
+        i += 1;
+    }
+    Number::Value(v)
+}
+
+// The n bytes from a place on as one number.
+pub fn read_at(s: &[u8], at: usize, n: usize) -> Number
+    requires { ⌜ (at + n ≤ length (now s)) × (n ≤ 19) ⌝ }
+    ensures { λ r. ⌜ r ≡ numberOf (take n (drop at (now (s .entry)))) ⌝ }
+{
+    read(&s[at..at + n])
+}
+
+// Writes the last n digits of a number from a place on; every other byte stays.
+pub fn write(s: &mut [u8], at: usize, n: usize, value: u64)
+    requires { ⌜ at + n ≤ length (now s) ⌝ }
+    ensures { λ _. ⌜ now (s .exit) ≡ put (now (s .entry)) at (digits n value) ⌝ }
+{
+    let mut v = value;
+    let mut p = at + n;
+    while at < p {
+        p -= 1;
+        s[p] = 48 + (v % 10) as u8;
+        v = v / 10;
+    }
+}
