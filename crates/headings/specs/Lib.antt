@@ -1,1 +1,6 @@
 pub mod ItemTypes
+pub mod HeadRules
+pub mod Reading
+pub mod Writing
+pub mod Outcomes
+pub mod Deriving

@@ -1,6 +1,6 @@
 -- Tests on numbers and lists, as the specifications of all crates say them.
-use Prim.Native.Nat.{ℕ}
-use mathlib.Core.Bool.{Bool, true, false, _&&_, _||_}
+use Prim.Native.Nat.{ℕ, _^_}
+use mathlib.Core.Bool.{Bool, true, false, cond, _&&_, _||_}
 use mathlib.Core.List.{List, [], _∷_}
 use lib.Dec.{eqb}
 
@@ -13,3 +13,7 @@ every (b ∷ bs) = b && every bs
 abbrev pub among : ℕ → List ℕ → Bool
 among x [] = false
 among x (y ∷ ys) = eqb x y || among x ys
+
+-- a rule's mark: bit r of a set of marks, where rule r is broken
+abbrev pub mark : ℕ → Bool → ℕ
+mark r broken = cond broken (2 ^ r) 0

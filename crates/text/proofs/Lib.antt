@@ -6,3 +6,5 @@ pub mod Calendar
 pub mod Order
 pub mod Comparing
 pub mod Wrote
+pub mod Layouts
+pub mod Matching

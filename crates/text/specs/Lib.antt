@@ -2,3 +2,4 @@ pub mod Characters
 pub mod Digits
 pub mod Days
 pub mod Strings
+pub mod Forms

@@ -1,0 +1,111 @@
+-- Places in lists: of a byte among the symbols, of an identifier among the groups; and the classes that lists of identifiers give.
+use mathlib.Core.Path.{_≡_, refl, ap, _∙_, sym}
+use mathlib.Core.Bool.{Bool, true, false, _&&_, _||_, cond, true≢false}
+use mathlib.Core.List.{List, [], _∷_}
+use Prim.Native.Nat.{ℕ, zero, suc, _+_, _-_, _≤_, _<_}
+use mathlib.Core.Logic.{⊎-elim}
+use native.Mathlib.Nat.{eq-or-lt-of-le}
+use native.Mathlib.Omega.{arith}
+use lib.ListN.{length}
+use lib.Dec.{leb, ltb, eqb, eqb→eq, leb·suc-suc}
+use borrow.Author.Tests.{ne-eqb, le-leb, lt-ltb, leb-true, ltb-true, eqb-true, eqb-false}
+use Rattle.laws.specs.Tests.{among}
+use Rattle.laws.proofs.Finite.{at}
+use Rattle.laws.proofs.OneOf.{one-of}
+use Rattle.fields.proofs.Tests.{and-parts}
+use Rattle.fields.specs.declared.classes.Class.{Class}
+use Rattle.fields.specs.declared.classes.Class.the-variants.{Money, Number, Range, Group, Account, Text, Free}
+use Rattle.fields.specs.Kinds.{symbols, place, named}
+use Rattle.fields.specs.Classes.{moneyFields, numberFields, rangeFields, groupFields, accountFields, textFields, classBy, classOf, groupOf}
+
+-- a number stands in a list just where its place is in it
+pub place-in : (x : ℕ) (ys : List ℕ) → ltb (place x ys) (length ys) ≡ among x ys
+unfolding place
+place-in x [] = refl
+place-in x (y ∷ ys) = go (eqb x y) (place-in x ys)
+  where
+    go : (t : Bool) → ltb (place x ys) (length ys) ≡ among x ys → ltb (cond t 0 (suc (place x ys))) (suc (length ys)) ≡ (t || among x ys)
+    go true e = lt-ltb 0 (suc (length ys)) (omega arith)
+    go false e = simp leb·suc-suc e
+
+-- the place of a byte, as the code finds it
+abbrev pub found : ℕ → ℕ
+found b = cond (leb 48 b && leb b 57) (b - 48) (cond (leb 65 b && leb b 90) (b - 55) 36)
+
+pub symbol-at : (b : ℕ) → b < 256 → found b ≡ place b symbols
+unfolding place
+symbol-at b h = eqb→eq _ _ (at (λ c. eqb (found c) (place c symbols)) 256 tt b h)
+
+-- n numbers from a on
+abbrev row : ℕ → ℕ → List ℕ
+row a zero = []
+row a (suc n) = a ∷ row (suc a) n
+
+row-in : (i a n : ℕ) → a ≤ i → i < a + n → place i (row a n) ≡ i - a
+unfolding place
+row-in i a zero h k = absurd (omega arith)
+row-in i a (suc n) h k = go (eqb i a) refl (row-in i (suc a) n)
+  where
+    go : (t : Bool) → eqb i a ≡ t → (suc a ≤ i → i < suc a + n → place i (row (suc a) n) ≡ i - suc a) → cond t 0 (suc (place i (row (suc a) n))) ≡ i - a
+    go true e r = omega (arith, eqb-true i a e)
+    go false e r =
+        let l : suc a ≤ i = ⊎-elim (λ q. absurd (eqb-false i a e (sym q))) (λ q. q) (eq-or-lt-of-le h) in
+        omega (arith, r l (omega arith))
+
+row-out : (i a n : ℕ) → (a ≤ i → i < a + n → ⊥) → place i (row a n) ≡ n
+unfolding place
+row-out i a zero h = refl
+row-out i a (suc n) h = rw (ne-eqb i a (λ e. h (omega arith) (omega arith)), row-out i (suc a) n (λ p q. h (omega arith) (omega arith)))
+
+-- the groups stand in a row
+groups : groupFields ≡ row 1008 9
+unfolding place
+groups = refl
+
+same-class : {a a′ b b′ c c′ d d′ f f′ g g′ : Bool} → a ≡ a′ → b ≡ b′ → c ≡ c′ → d ≡ d′ → f ≡ f′ → g ≡ g′ → classBy a b c d f g ≡ classBy a′ b′ c′ d′ f′ g′
+same-class p q r s t u = rw (p, q, r, s, t, u)
+
+not-group : (a b c f g : Bool) → classBy a b c false f g ≡ Group → ⊥
+not-group a b c f g e = true≢false (sym (ap isGroup e) ∙ none a b c f g)
+  where
+    isGroup : Class → Bool
+    isGroup Group = true
+    isGroup Money = false
+    isGroup Number = false
+    isGroup Range = false
+    isGroup Account = false
+    isGroup Text = false
+    isGroup Free = false
+
+    none : (a b c f g : Bool) → isGroup (classBy a b c false f g) ≡ false
+    none true b c f g = refl
+    none false true c f g = refl
+    none false false true f g = refl
+    none false false false true g = refl
+    none false false false false true = refl
+    none false false false false false = refl
+
+module _ (i : ℕ) where
+  pub group-in : (leb 1008 i && ltb i 1017) ≡ true → i - 1008 ≡ groupOf i
+  unfolding groupOf
+  group-in e =
+      let p = and-parts (leb 1008 i) (ltb i 1017) e in
+      sym (rw groups (row-in i 1008 9 (leb-true 1008 i (p .0)) (ltb-true i 1017 (p .1))))
+
+  pub group-out : (leb 1008 i && ltb i 1017) ≡ false → 9 ≡ groupOf i
+  unfolding groupOf
+  group-out e = sym (rw groups (row-out i 1008 9 (λ p q. true≢false (rw (le-leb 1008 i p, lt-ltb i 1017 q) at e))))
+
+  pub class-is : classBy (eqb i (named "KC")) ((eqb i (named "EC") || eqb i (named "AK")) || eqb i (named "ZK")) (eqb i (named "IN")) (ltb (groupOf i) 9)
+      (eqb i (named "UD") || eqb i (named "UK")) (((eqb i (named "DI") || eqb i (named "KI")) || eqb i (named "ZP")) || eqb i (named "AV")) ≡ classOf i
+  unfolding classOf groupOf
+  class-is = same-class (one-of i moneyFields) (one-of i numberFields) (one-of i rangeFields) (place-in i groupFields) (one-of i accountFields) (one-of i textFields)
+
+  -- a field of the class of groups has a group's digit
+  pub group-lt : classOf i ≡ Group → groupOf i < 9
+  unfolding classOf groupOf
+  group-lt e = go (among i moneyFields) (among i numberFields) (among i rangeFields) (among i groupFields) (among i accountFields) (among i textFields) refl e
+    where
+      go : (a b c d f g : Bool) → among i groupFields ≡ d → classBy a b c d f g ≡ Group → place i groupFields < 9
+      go a b c true f g q p = ltb-true (place i groupFields) 9 (place-in i groupFields ∙ q)
+      go a b c false f g q p = absurd (not-group a b c f g p)

@@ -1,0 +1,60 @@
+use borrow.Author.Needs.{needs}
+use Rattle.fields.proofs.readings.read_group.Statement.{statement}
+use Rattle.fields.proofs.readings.read_group.Tie as tie
+use native.Mathlib.Omega.{arith}
+use mathlib.Core.Path.{refl, sym, _∙_}
+use mathlib.Core.List.{List}
+use Prim.Native.Nat.{ℕ}
+use Rattle.fields.specs.declared.classes.Class.the-variants.{Group}
+use Rattle.fields.specs.declared.readings.Reading.the-variants.{Stated}
+use Rattle.fields.specs.Layouts.{noMore}
+use Rattle.fields.proofs.Told.{first-lt}
+use Rattle.fields.proofs.Says.{not-two, made-by}
+
+abbrev T : tie.After-read-two → List ℕ
+T r = r .before .before .args .t .now
+
+read-two-requires : tie.Need-read-two-requires
+read-two-requires c κs = search needs
+
+enum-known-first : tie.Need-enum-known-first
+enum-known-first c = search needs
+
+ends-requires : tie.Need-ends-requires
+ends-requires c κs = search needs
+
+cast-t8 : tie.Need-cast-t8
+cast-t8 c =
+    let r = c .before .before .before .before in
+    omega (arith, first-lt _ _ _ _ (T r) _ _ _ _ (sym (r .read-two .ensures) ∙ c .before .before .first .given .1))
+
+if-fits-requires : tie.Need-if-fits-requires
+if-fits-requires c κs = search needs
+
+enum-told : tie.Need-enum-told
+enum-told c = search needs
+
+returns : tie.Need-returns
+returns c =
+    let k = c .before .before in
+    let r = k .before .before .before in
+    c .if-fits .ensures
+    ∙ made-by Group 1 7 1 17 noMore (T r) refl _ _ _ _ (sym (r .read-two .ensures) ∙ k .before .first .given .1) (λ v w. Stated v (record { 0 = w })) _ (c .before .ends .ensures) refl
+
+returns-2 : tie.Need-returns-2
+returns-2 c =
+    let r = c .before .before in
+    not-two Group 1 7 1 17 noMore (T r) refl (sym (r .read-two .ensures) ∙ c .enum-told .given .1)
+
+pub read-group-spec : {M : Type 1} → statement M
+read-group-spec =
+    tie.close
+    (tie.spec
+    read-two-requires
+    enum-known-first
+    ends-requires
+    cast-t8
+    if-fits-requires
+    enum-told
+    returns
+    returns-2)

@@ -1,0 +1,172 @@
+// What a field's own text says, class by class.
+use crate::classes::Class;
+use crate::numbers;
+use crate::numbers::Two;
+use crate::parts;
+use headings::Amount;
+use headings::ItemNo;
+ghost use mathlib.Core.Path.{_≡_};
+ghost use lib.ListN.{drop};
+ghost use Rattle.fields.specs.Layouts.{fits, noMore, maybeRest, maybeName};
+ghost use Rattle.fields.specs.Readings.{textOf, readingOf, ifFits};
+
+// `Broken` where the text has not its layout. An amount and its day; the first and the last number; a group's count and sum;
+// whether an account holds.
+pub enum Reading {
+    Broken,
+    Plain,
+    Paid(Amount, u32),
+    Span(ItemNo, ItemNo),
+    Stated(u32, Amount),
+    Party(bool),
+}
+
+pub fn if_fits(fits: bool, said: Reading) -> Reading
+    ensures { λ r. ⌜ r ≡ ifFits fits said ⌝ }
+{
+    if fits {
+        return said;
+    }
+    Reading::Broken
+}
+
+// Whether nothing stands from a place on.
+fn ends(t: &[u8], at: usize) -> bool
+    ensures { λ r. ⌜ r ≡ fits noMore (drop at (now (t .entry))) ⌝ }
+{
+    t.len() <= at
+}
+
+// Whether nothing stands from a place on, or a space and any rest.
+fn ends_or_rest(t: &[u8], at: usize) -> bool
+    ensures { λ r. ⌜ r ≡ fits maybeRest (drop at (now (t .entry))) ⌝ }
+{
+    if t.len() <= at {
+        return true;
+    }
+    t[at] == 32
+}
+
+// Whether nothing stands from a place on, or a space and a name.
+fn ends_or_name(t: &[u8], at: usize) -> bool
+    ensures { λ r. ⌜ r ≡ fits maybeName (drop at (now (t .entry))) ⌝ }
+{
+    if t.len() <= at {
+        return true;
+    }
+    if t[at] != 32 {
+        return false;
+    }
+    t.len() - (at + 1) <= 20
+}
+
+fn read_money(t: &[u8]) -> Reading
+    ensures { λ r. ⌜ r ≡ readingOf Class.Money (now (t .entry)) ⌝ }
+{
+    match numbers::read_two(t, 1, 15, 8, 8) {
+        Two::Found {
+            first,
+            mid: _,
+            second,
+            end,
+        } => {
+            if_fits(
+                ends_or_rest(t, end),
+                Reading::Paid(Amount(first), second as u32),
+            )
+        }
+        Two::NotTwo => Reading::Broken,
+    }
+}
+
+fn read_range(t: &[u8]) -> Reading
+    ensures { λ r. ⌜ r ≡ readingOf Class.Range (now (t .entry)) ⌝ }
+{
+    match numbers::read_two(t, 1, 7, 1, 7) {
+        Two::Found {
+            first,
+            mid: _,
+            second,
+            end,
+        } => {
+            if_fits(
+                ends(t, end),
+                Reading::Span(ItemNo(first as u32), ItemNo(second as u32)),
+            )
+        }
+        Two::NotTwo => Reading::Broken,
+    }
+}
+
+fn read_group(t: &[u8]) -> Reading
+    ensures { λ r. ⌜ r ≡ readingOf Class.Group (now (t .entry)) ⌝ }
+{
+    match numbers::read_two(t, 1, 7, 1, 17) {
+        Two::Found {
+            first,
+            mid: _,
+            second,
+            end,
+        } => { if_fits(ends(t, end), Reading::Stated(first as u32, Amount(second))) }
+        Two::NotTwo => Reading::Broken,
+    }
+}
+
+// The two parts are checked where they stand.
+fn read_account(t: &[u8]) -> Reading
+    ensures { λ r. ⌜ r ≡ readingOf Class.Account (now (t .entry)) ⌝ }
+{
+    match numbers::read_two(t, 0, 6, 1, 10) {
+        Two::Found {
+            first: _,
+            mid,
+            second,
+            end,
+        } => {
+            if_fits(
+                ends_or_name(t, end),
+                Reading::Party(parts::parts_hold(&t[..mid], &t[mid + 1..end], second)),
+            )
+        }
+        Two::NotTwo => Reading::Broken,
+    }
+}
+
+fn read_number(t: &[u8]) -> Reading
+    ensures { λ r. ⌜ r ≡ readingOf Class.Number (now (t .entry)) ⌝ }
+{
+    let n = numbers::number_at(t, 0, 10);
+    let end = n.end;
+    if_fits((1 <= end) & ends(t, end), Reading::Plain)
+}
+
+fn read_text(t: &[u8]) -> Reading
+    ensures { λ r. ⌜ r ≡ readingOf Class.Text (now (t .entry)) ⌝ }
+{
+    if_fits((1 <= t.len()) & (t.len() <= 35), Reading::Plain)
+}
+
+// What the text of a field of a class says.
+fn read_as(class: Class, t: &[u8]) -> Reading
+    ensures { λ r. ⌜ r ≡ readingOf class (now (t .entry)) ⌝ }
+{
+    match class {
+        Class::Money => read_money(t),
+        Class::Number => read_number(t),
+        Class::Range => read_range(t),
+        Class::Group => read_group(t),
+        Class::Account => read_account(t),
+        Class::Text => read_text(t),
+        Class::Free => Reading::Plain,
+    }
+}
+
+// What a field line of a class says; its text stands after the colon.
+pub fn read_field(class: Class, line: &[u8]) -> Reading
+    ensures { λ r. ⌜ r ≡ readingOf class (textOf (now (line .entry))) ⌝ }
+{
+    if line.len() < 3 {
+        return read_as(class, b"");
+    }
+    read_as(class, &line[3..])
+}

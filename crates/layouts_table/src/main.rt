@@ -1,0 +1,128 @@
+// Runs every boundary of the layouts: of each line of data/lines the kind, of a field its class and what its own text says, and at
+// a continuation what the field above says with its tail so far. What it must write was reasoned by hand from document 01.
+use fields::classes::Class;
+use fields::kinds::Kind;
+use fields::readings::Reading;
+use fields::tails::Tail;
+
+// The last field: its class, what its own text says, and its tail so far.
+struct Owner {
+    class: Class,
+    said: Reading,
+    tail: Tail,
+}
+
+fn word(w: &[u8]) {
+    io::write_all(1, b" ");
+    io::write_all(1, w);
+}
+
+fn number(n: u64) {
+    io::write_all(1, b" ");
+    io::print_decimal(1, n);
+}
+
+fn show_class(class: Class, ident: usize) {
+    match class {
+        Class::Money => word(b"money"),
+        Class::Number => word(b"number"),
+        Class::Range => word(b"range"),
+        Class::Group => {
+            word(b"group");
+            number(fields::classes::group_of(ident) as u64);
+        }
+        Class::Account => word(b"account"),
+        Class::Text => word(b"text"),
+        Class::Free => word(b"free"),
+    }
+}
+
+fn show_reading(said: Reading) {
+    match said {
+        Reading::Broken => word(b"broken"),
+        Reading::Plain => word(b"plain"),
+        Reading::Paid(amount, day) => {
+            word(b"paid");
+            number(amount.0);
+            number(day as u64);
+        }
+        Reading::Span(first, last) => {
+            word(b"span");
+            number(first.0 as u64);
+            number(last.0 as u64);
+        }
+        Reading::Stated(count, sum) => {
+            word(b"stated");
+            number(count as u64);
+            number(sum.0);
+        }
+        Reading::Party(holds) => {
+            if holds {
+                word(b"holds");
+            } else {
+                word(b"fails");
+            }
+        }
+    }
+}
+
+fn show_field(ident: usize, line: &[u8]) -> Owner {
+    let class = fields::classes::class_of(ident);
+    let said = fields::readings::read_field(class, line);
+    word(b"field");
+    show_class(class, ident);
+    show_reading(said);
+    Owner {
+        class,
+        said,
+        tail: fields::tails::no_tail(),
+    }
+}
+
+fn show_continuation(owner: Owner, line: &[u8]) -> Owner {
+    let class = owner.class;
+    let said = owner.said;
+    let tail = fields::tails::more_tail(owner.tail, line.len());
+    word(b"continuation");
+    show_reading(fields::tails::with_tail(class, said, tail));
+    Owner { class, said, tail }
+}
+
+fn show_line(owner: Owner, line: &[u8]) -> Owner {
+    match fields::kinds::kind_of(line) {
+        Kind::Heading => {
+            word(b"heading");
+            owner
+        }
+        Kind::Continuation => show_continuation(owner, line),
+        Kind::Field(ident) => show_field(ident, line),
+        Kind::Other => {
+            word(b"none");
+            owner
+        }
+    }
+}
+
+fn show_all(s: &[u8]) {
+    let mut owner = Owner {
+        class: Class::Free,
+        said: Reading::Plain,
+        tail: fields::tails::no_tail(),
+    };
+    let mut at = 0;
+    let mut n: u64 = 0;
+    while at < s.len() {
+        let end = data_file::find(s, at, 10);
+        n += 1;
+        io::print_decimal(1, n);
+        owner = show_line(owner, &s[at..end]);
+        io::write_all(1, b"\n");
+        at = end + 1;
+    }
+}
+
+fn main() {
+    let mut input = [0u8; 16384];
+    let n = data_file::load(b"lines", &mut input);
+    show_all(&input[..n]);
+}

@@ -1,0 +1,88 @@
+-- The book of all faults so far, in order: what the slices and the ledger hold of it.
+use mathlib.Core.Path.{_≡_, refl, sym, ap, _∙_}
+use mathlib.Core.List.{List, [], _∷_, _++_, map}
+use Prim.Native.Nat.{ℕ, zero, suc, min}
+use native.Mathlib.Nat.{min-zero, suc-min-suc}
+use native.Mathlib.Omega.{arith}
+use lib.ListN.{length, take, drop, take-append-drop}
+use lib.Seq.{drop-nil}
+use Rattle.ledger.specs.declared.Ledger.{Ledger}
+use Rattle.ledger.specs.Faults.{Fault, insertAll}
+use Rattle.ledger.specs.Slices.{pairs, held, Ready, Put, Entered, written, Listed}
+use Rattle.ledger.proofs.Insertion.{length-insertAll, insertAll-append}
+use Rattle.ledger.proofs.Pairs.{lines-of, rules-of}
+use Rattle.ledger.proofs.Entering.{entered-none, entered-both}
+
+abbrev blank : Ledger
+blank = record { kept = 0; total = 0 }
+
+-- the slices came as ls₀ and rs₀, and all that was entered since, in whichever order, is `all`
+pub record Book (all : List Fault) (ls₀ rs₀ : List ℕ) (g : Ledger) (ls rs : List ℕ) : Type 0 where
+  pub same : length ls₀ ≡ length rs₀
+  pub since : List Fault
+  pub entered : Entered since blank ls₀ rs₀ g ls rs
+  pub are : insertAll since [] ≡ all
+
+start-ready : (ls rs : List ℕ) → length ls ≡ length rs → Ready 0 ls rs
+start-ready ls rs e = record { room = omega arith; same = e; order = tt }
+
+-- the empty ledger
+pub book-start : {g : Ledger} {ls rs : List ℕ} → length ls ≡ length rs → g ≡ record { kept = 0; total = 0 } → Book [] ls rs g ls rs
+unfolding insertAll
+book-start {g} {ls} {rs} e z = rw z (record { same = e; since = []; entered = entered-none (start-ready ls rs e); are = refl })
+
+-- what `enter` asks
+pub book-ready : {all : List Fault} {ls₀ rs₀ : List ℕ} {g : Ledger} {ls rs : List ℕ} → Book all ls₀ rs₀ g ls rs → Ready (g .kept) ls rs
+book-ready B = B .entered .put .ready
+
+-- some faults more
+pub book-more : {all xs : List Fault} {ls₀ rs₀ : List ℕ} {g : Ledger} {ls rs : List ℕ} {g′ : Ledger} {ls′ rs′ : List ℕ}
+    → Book all ls₀ rs₀ g ls rs → Entered xs g ls rs g′ ls′ rs′ → Book (insertAll xs all) ls₀ rs₀ g′ ls′ rs′
+book-more {all} {xs} {ls₀} {rs₀} B E = record {
+  same = B .same;
+  since = B .since ++ xs;
+  entered = entered-both (start-ready ls₀ rs₀ (B .same)) (B .entered) E;
+  are = insertAll-append (B .since) xs [] ∙ ap (insertAll xs) (B .are);
+}
+
+map-take : (f : Fault → ℕ) (n : ℕ) (l : List Fault) → map f (take n l) ≡ take n (map f l)
+map-take f zero l = refl
+map-take f (suc n) [] = refl
+map-take f (suc n) (x ∷ l) = ap (λ (t : List ℕ). f x ∷ t) (map-take f n l)
+
+drop-min : (n : ℕ) (s : List ℕ) → drop (min (length s) n) s ≡ drop n s
+drop-min zero s = rw (min-zero (length s))
+drop-min (suc n) [] = drop-nil (min 0 (suc n))
+drop-min (suc n) (x ∷ s) = rw (suc-min-suc (length s) n) (drop-min n s)
+
+-- one column: f of the first pairs, then what the slice held
+column : (f : Fault → ℕ) (all : List Fault) (kept : ℕ) (held : List Fault) (s₀ s : List ℕ) → map f held ≡ s → take kept held ≡ take (length s₀) all
+    → kept ≡ min (length s₀) (length all) → drop kept s ≡ drop kept s₀ → s ≡ written f all s₀
+column f all kept held s₀ s em eh ek ed =
+    let first : take kept s ≡ map f (take (length s₀) all) = sym (ap (take kept) em) ∙ sym (map-take f kept held) ∙ ap (map f) eh in
+    let rest : drop kept s ≡ drop (length all) s₀ = ed ∙ ap (λ (k : ℕ). drop k s₀) ek ∙ drop-min (length all) s₀ in
+    sym (take-append-drop kept s) ∙ (λ i. first i ++ rest i)
+
+-- the first pairs that fit are written, and the total counts them all
+pub book-listed : {all : List Fault} {ls₀ rs₀ : List ℕ} {g : Ledger} {ls rs : List ℕ} → Book all ls₀ rs₀ g ls rs → Listed all ls₀ rs₀ g ls rs
+book-listed {all} {ls₀} {rs₀} {g} {ls} {rs} B =
+    let P : Put (B .since) 0 ls₀ rs₀ (g .kept) ls rs = B .entered .put in
+    let same : length ls ≡ length rs = P .ready .same in
+    let same₀ : length ls₀ ≡ length rs₀ = B .same in
+    let count : length all ≡ length (B .since) = ap length (sym (B .are)) ∙ omega (arith, length-insertAll (B .since) []) in
+    let kept : g .kept ≡ min (length ls₀) (length all) = omega (arith, P .count) in
+    let first : held (g .kept) ls rs ≡ take (length ls₀) all = P .holds ∙ ap (take (length ls₀)) (B .are) in
+    record {
+      lines = column (λ (f : Fault). f .line) all (g .kept) (pairs ls rs) ls₀ ls (lines-of ls rs same) first kept (P .lines-after);
+      rules = column (λ (f : Fault). f .rule) all (g .kept) (pairs ls rs) rs₀ rs (rules-of ls rs same) (first ∙ ap (λ (k : ℕ). take k all) same₀) (omega arith) (P .rules-after);
+      kept = kept;
+      total = omega (arith, B .entered .sum);
+    }
+
+-- the list determines the result
+pub listed-unique : {all : List Fault} {ls₀ rs₀ : List ℕ} {g g′ : Ledger} {ls rs ls′ rs′ : List ℕ} → Listed all ls₀ rs₀ g ls rs → Listed all ls₀ rs₀ g′ ls′ rs′
+    → (ls ≡ ls′) × (rs ≡ rs′) × (g ≡ g′)
+listed-unique {g = g} {g′ = g′} L M =
+    let k : g .kept ≡ g′ .kept = L .kept ∙ sym (M .kept) in
+    let t : g .total ≡ g′ .total = L .total ∙ sym (M .total) in
+    (L .lines ∙ sym (M .lines), L .rules ∙ sym (M .rules), λ i. record { kept = k i; total = t i })

@@ -1,0 +1,11 @@
+pub mod Rising
+pub mod Marks
+pub mod Insertion
+pub mod Faults
+pub mod Entries
+pub mod Pairs
+pub mod Opening
+pub mod Placing
+pub mod Putting
+pub mod Entering
+pub mod Book

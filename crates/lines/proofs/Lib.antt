@@ -1,0 +1,4 @@
+pub mod Body
+pub mod Blocks
+pub mod Lines
+pub mod Reading

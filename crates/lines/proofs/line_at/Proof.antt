@@ -1,0 +1,57 @@
+use mathlib.Core.Path.{_≡_, refl, sym, _∙_}
+use mathlib.Core.Bool.{true}
+use Prim.Native.Nat.{_-_}
+use native.Mathlib.Omega.{arith}
+use lib.ListN.{length}
+use Rattle.lines.specs.Reading.{lineAt}
+use Rattle.lines.specs.Blocks.{clear}
+use Rattle.lines.proofs.Blocks.{clear-fits, clear-none}
+use Rattle.lines.proofs.Reading.{line-block}
+use borrow.Author.Needs.{needs}
+use Rattle.lines.proofs.line_at.Statement.{statement}
+use Rattle.lines.proofs.line_at.Tie as tie
+
+abbrev Inv-loop : tie.InvT-loop
+Inv-loop s at i₀ i = lineAt s at ≡ lineAt s i
+
+abbrev μ-loop : tie.MeasureT-loop
+μ-loop s at i₀ i = length s - i
+
+-- the block at i is clear
+at-clear : (c : tie.Then1 Inv-loop μ-loop) → clear (c .before .before .before .before .args .s .now) (c .before .before .loop .i) 8 0x0d ≡ true
+at-clear c = cc
+
+loop-holds : tie.Need-loop-holds Inv-loop μ-loop
+loop-holds c = refl
+
+clear-of-requires : tie.Need-clear-of-requires Inv-loop μ-loop
+clear-of-requires c κs = search needs
+
+add-i : tie.Need-add-i Inv-loop μ-loop
+add-i c = omega (arith, clear-fits _ _ _ _ (at-clear c))
+
+loop-less : tie.Need-loop-less Inv-loop μ-loop
+loop-less c = omega (arith, clear-fits _ _ _ _ (at-clear c))
+
+loop-again : tie.Need-loop-again Inv-loop μ-loop
+loop-again c = c .before .before .loop .inv ∙ line-block _ _ _ (clear-fits _ _ _ _ (at-clear c)) (clear-none _ _ _ _ (at-clear c))
+
+line-by-bytes-requires : tie.Need-line-by-bytes-requires Inv-loop μ-loop
+line-by-bytes-requires c κs = search needs
+
+returns : tie.Need-returns Inv-loop μ-loop
+returns c = c .line-by-bytes .ensures ∙ sym (c .before .before .before .loop .inv)
+
+pub line-at-spec : {M : Type 1} → statement M
+line-at-spec =
+    tie.close
+    (tie.spec
+    Inv-loop
+    μ-loop
+    loop-holds
+    clear-of-requires
+    add-i
+    loop-less
+    loop-again
+    line-by-bytes-requires
+    returns)

@@ -1,0 +1,47 @@
+-- The lines of a file, as document 01 says them ('Lines, fields, items, blocks'): 'Only bytes before the first 1A are read. They
+-- are cut at each CR LF; a non-empty rest is a last line. Lines count from 1.' A CR or LF alone is a byte of its line.
+use Prim.Native.Nat.{ℕ}
+use mathlib.Core.Bool.{Bool, true, false, cond, _&&_}
+use mathlib.Core.List.{List, [], _∷_}
+use lib.Dec.{eqb}
+use Rattle.laws.specs.Lists.{anyOf}
+
+-- x is the byte b
+abbrev pub isByte : ℕ → ℕ → Bool
+isByte b x = eqb x b
+
+-- there is a byte 1A in the file (if not: refusal 5)
+abbrev pub hasMark : List ℕ → Bool
+hasMark file = anyOf (isByte 0x1a) file
+
+-- the first byte is 1A (refusal 6)
+abbrev pub startsWithMark : List ℕ → Bool
+startsWithMark [] = false
+startsWithMark (b ∷ s) = isByte 0x1a b
+
+-- the bytes before the first 1A, or all where there is none
+unfoldable pub body : List ℕ → List ℕ
+body [] = []
+body (b ∷ s) = cond (isByte 0x1a b) [] (b ∷ body s)
+
+-- a line: its bytes, and whether CR LF stands after it (if not: rule 4)
+pub record Line : Type 0 where
+  pub bytes : List ℕ
+  pub ended : Bool
+
+-- CR LF stands first
+unfoldable pub crlf : List ℕ → Bool
+crlf [] = false
+crlf (b ∷ []) = false
+crlf (b ∷ c ∷ s) = isByte 0x0d b && isByte 0x0a c
+
+-- one byte more at the front of the first line; where there is none, a rest of one byte
+unfoldable pub onto : ℕ → List Line → List Line
+onto b [] = record { bytes = b ∷ []; ended = false } ∷ []
+onto b (l ∷ ls) = record { bytes = b ∷ l .bytes; ended = l .ended } ∷ ls
+
+-- the lines of what was read, in their order: line 1 is the first
+unfoldable pub lines : List ℕ → List Line
+lines [] = []
+lines (b ∷ []) = onto b []
+lines (b ∷ c ∷ s) = cond (crlf (b ∷ c ∷ s)) (record { bytes = []; ended = true } ∷ lines s) (onto b (lines (c ∷ s)))
