@@ -1,0 +1,7 @@
+mod Same
+mod Nine
+pub mod Accounting
+pub mod Tuesday
+pub mod Bits
+pub mod Laws
+mod Values

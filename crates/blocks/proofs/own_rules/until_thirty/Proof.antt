@@ -1,0 +1,10 @@
+use Rattle.laws.proofs.OneOf.{one-of}
+use Rattle.blocks.specs.OwnRules.{untilThirty}
+use Rattle.blocks.proofs.own_rules.until_thirty.Statement.{statement}
+use Rattle.blocks.proofs.own_rules.until_thirty.Tie as tie
+
+returns : tie.Need-returns
+returns c = one-of (c .args .kind) untilThirty
+
+pub until-thirty-spec : {M : Type 1} → statement M
+until-thirty-spec = tie.close (tie.spec returns)

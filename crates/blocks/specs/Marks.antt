@@ -1,0 +1,39 @@
+-- 'The rules broken at one line form one set of marks': bit r for rule r. Here the marks of a heading, of which 16 is not one:
+-- it needs the items below.
+use Prim.Native.Nat.{ℕ, _+_, _-_, _^_}
+use mathlib.Core.Bool.{Bool, cond, _&&_}
+use mathlib.Core.List.{List}
+use Rattle.laws.specs.Tests.{mark}
+use lib.Dec.{eqb, leb}
+use Rattle.headings.specs.declared.Heading.{Heading}
+use Rattle.headings.specs.declared.Read.{Read}
+use Rattle.headings.specs.declared.Read.the-variants.{Reads, Unreadable}
+use Rattle.headings.specs.HeadRules.{rule10, rule13, rule14}
+use Rattle.blocks.specs.declared.Item.{Item}
+use Rattle.blocks.specs.OwnRules.{rule11, rule12, rule15}
+use Rattle.blocks.specs.BlockRules.{rule17, rule18, rule19, rule20, rule21, rule22, rule30}
+
+-- at a readable heading h of the item, for the submitter's code and the accounting day
+unfoldable pub readableMarks : ℕ → ℕ → List Item → Item → Heading → ℕ
+readableMarks code today above it h =
+    mark 10 (rule10 h) + mark 11 (rule11 today h) + mark 12 (rule12 code h) + mark 13 (rule13 h) + mark 14 (rule14 h)
+    + mark 15 (rule15 h (it .kc)) + mark 17 (rule17 above h) + mark 18 (rule18 above h) + mark 19 (rule19 above h)
+    + mark 20 (rule20 above h) + mark 21 (rule21 above h (it .span)) + mark 22 (rule22 h (it .s9))
+    + mark 30 (rule30 0 above h (it .sums)) + mark 31 (rule30 1 above h (it .sums)) + mark 32 (rule30 2 above h (it .sums))
+    + mark 33 (rule30 3 above h (it .sums)) + mark 34 (rule30 4 above h (it .sums)) + mark 35 (rule30 5 above h (it .sums))
+    + mark 36 (rule30 6 above h (it .sums)) + mark 37 (rule30 7 above h (it .sums)) + mark 38 (rule30 8 above h (it .sums))
+
+unfoldable pub marksAt : ℕ → ℕ → List Item → Item → Read → ℕ
+marksAt code today above it (Reads h) = readableMarks code today above it h
+marksAt code today above it Unreadable = 0
+
+abbrev pub headMarks : ℕ → ℕ → List Item → Item → ℕ
+headMarks code today above it = marksAt code today above it (it .head)
+
+-- the rules by number, at a readable heading h: rule r is broken
+abbrev pub broken : ℕ → ℕ → List Item → Item → Heading → ℕ → Bool
+broken code today above it h r =
+    cond (eqb r 10) (rule10 h) (cond (eqb r 11) (rule11 today h) (cond (eqb r 12) (rule12 code h) (cond (eqb r 13) (rule13 h)
+    (cond (eqb r 14) (rule14 h) (cond (eqb r 15) (rule15 h (it .kc)) (cond (eqb r 17) (rule17 above h) (cond (eqb r 18) (rule18 above h)
+    (cond (eqb r 19) (rule19 above h) (cond (eqb r 20) (rule20 above h) (cond (eqb r 21) (rule21 above h (it .span))
+    (cond (eqb r 22) (rule22 h (it .s9)) (leb 30 r && (leb r 38 && rule30 (r - 30) above h (it .sums))))))))))))))

@@ -1,0 +1,66 @@
+// The nine groups: what a 51 states of each against what the account has.
+use crate::Stated;
+use crate::Sum;
+use crate::marks::flag;
+ghost use mathlib.Core.Path.{_≡_};
+ghost use mathlib.Core.Bool.{cond};
+ghost use Prim.Native.Nat.{_+_, _-_, _<_, _≤_, _^_, min};
+ghost use Rattle.blocks.specs.BlockRules.{tells, misstated};
+ghost use Rattle.blocks.specs.Model.{groupBreaks, groupMarks};
+
+fn tells_true(count: u64, sum: u64, c: u64, s: u64) -> bool
+    ensures { λ r. ⌜ r ≡ tells count sum c s ⌝ }
+{
+    (count < 10000000) & ((sum < 100000000000000000) & ((c == count) & (s == sum)))
+}
+
+fn misstates(count: u64, sum: u64, stated: Stated) -> bool
+    ensures { λ r. ⌜ r ≡ misstated count sum stated ⌝ }
+{
+    match stated {
+        Stated::NoSum => !tells_true(count, sum, 0, 0),
+        Stated::BrokenSum => false,
+        Stated::Says(c, s) => !tells_true(count, sum, c as u64, s.0),
+    }
+}
+
+fn group_breaks(counts: [u64; 9], sums: [u64; 9], groups: [Sum; 9], d: usize) -> bool
+    requires { ⌜ d < 9 ⌝ }
+    ensures { λ r. ⌜ r ≡ groupBreaks counts sums groups d ⌝ }
+{
+    let group = groups[d];
+    let stated = group.stated;
+    misstates(counts[d], sums[d], stated)
+}
+
+fn group_mark(counts: [u64; 9], sums: [u64; 9], groups: [Sum; 9], d: usize, bit: u64) -> u64
+    requires { ⌜ d < 9 ⌝ }
+    ensures { λ r. ⌜ (r ≡ cond (groupBreaks counts sums groups d) bit 0) × (r ≤ bit) ⌝ }
+{
+    flag(group_breaks(counts, sums, groups, d), bit)
+}
+
+// The marks of 30 to 38.
+pub fn group_marks(counts: [u64; 9], sums: [u64; 9], groups: [Sum; 9]) -> u64
+    ensures { λ r. ⌜ (r ≡ groupMarks counts sums groups) × (r ≤ 2 ^ 39 - 2 ^ 30) ⌝ }
+{
+    group_mark(counts, sums, groups, 0, 1073741824)
+        + group_mark(counts, sums, groups, 1, 2147483648)
+        + group_mark(counts, sums, groups, 2, 4294967296)
+        + group_mark(counts, sums, groups, 3, 8589934592)
+        + group_mark(counts, sums, groups, 4, 17179869184)
+        + group_mark(counts, sums, groups, 5, 34359738368)
+        + group_mark(counts, sums, groups, 6, 68719476736)
+        + group_mark(counts, sums, groups, 7, 137438953472)
+        + group_mark(counts, sums, groups, 8, 274877906944)
+}
+
+// The sum, up to the cap.
+pub fn capped(cap: u64, x: u64, a: u64) -> u64
+    ensures { λ r. ⌜ r ≡ min cap (x + a) ⌝ }
+{
+    if cap <= x {
+        return cap;
+    }
+    if a < cap - x { x + a } else { cap }
+}

@@ -1,0 +1,132 @@
+// The rules that look at one item alone.
+use crate::Job;
+use crate::Kc;
+use crate::marks::flag;
+use headings::Amount;
+use headings::Code;
+use headings::Heading;
+use headings::head_rules::breaks_fourteen;
+use headings::head_rules::breaks_ten;
+use headings::head_rules::breaks_thirteen;
+use headings::item_types::is_payment;
+use text::days::day_number;
+use text::days::is_real;
+ghost use mathlib.Core.Path.{_≡_};
+ghost use mathlib.Core.Bool.{not};
+ghost use Prim.Native.Nat.{_+_, _<_, _^_};
+ghost use lib.Dec.{ltb};
+ghost use Rattle.laws.specs.Tests.{among};
+ghost use Rattle.blocks.specs.OwnRules.{untilToday, untilThirty, rule9, noKc};
+ghost use Rattle.blocks.specs.Model.{jobOf, breaks8, breaks11, breaks12, breaks15, ownMarks};
+
+// The accounting day is reckoned once.
+pub fn job_of(code: Code, day: u32) -> Job
+    ensures { λ r. ⌜ r ≡ jobOf code day ⌝ }
+{
+    let number = day_number(day);
+    let real = is_real(day);
+    Job {
+        code: code,
+        day: day,
+        number: number,
+        real: real,
+    }
+}
+
+// A day's number is more than so many days after another.
+fn past(number: u32, than: u32, days: u32) -> bool
+    ensures { λ r. ⌜ r ≡ ltb (than + days) number ⌝ }
+{
+    (than as u64) + (days as u64) < (number as u64)
+}
+
+fn until_today(kind: u32) -> bool
+    ensures { λ r. ⌜ r ≡ among kind untilToday ⌝ }
+{
+    (kind == 1)
+        | (kind == 11)
+        | (kind == 12)
+        | (kind == 13)
+        | (kind == 14)
+        | (kind == 21)
+        | (kind == 35)
+        | (kind == 37)
+        | (kind == 45)
+}
+
+fn until_thirty(kind: u32) -> bool
+    ensures { λ r. ⌜ r ≡ among kind untilThirty ⌝ }
+{
+    (kind == 32) | (kind == 33)
+}
+
+// Rule 8. The accounting day itself, which is the day of nearly every item, is not reckoned again.
+pub fn breaks_eight(job: Job, kind: u32, day: u32) -> bool
+    ensures { λ r. ⌜ r ≡ breaks8 job kind day ⌝ }
+{
+    let paying = is_payment(kind);
+    if day == job.day {
+        return paying & !job.real;
+    }
+    let real = is_real(day);
+    let n = day_number(day);
+    let by_today = until_today(kind);
+    let by_thirty = until_thirty(kind);
+    let after = past(n, job.number, 0);
+    let far = past(n, job.number, 30);
+    paying & (!real | ((by_today & after) | (by_thirty & far)))
+}
+
+pub fn breaks_nine(kind: u32, amount: Amount) -> bool
+    ensures { λ r. ⌜ r ≡ rule9 kind (amount .0) ⌝ }
+{
+    (kind == 32) & (100000000000 < amount.0)
+}
+
+fn breaks_eleven(job: Job, day: u32) -> bool
+    ensures { λ r. ⌜ r ≡ breaks11 job day ⌝ }
+{
+    if day == job.day {
+        return !job.real;
+    }
+    let real = is_real(day);
+    let n = day_number(day);
+    let after = past(n, job.number, 0);
+    let before = past(job.number, n, 10);
+    !real | (after | before)
+}
+
+fn breaks_twelve(job: Job, first: Code) -> bool
+    ensures { λ r. ⌜ r ≡ breaks12 job first ⌝ }
+{
+    first.0 != job.code.0
+}
+
+pub fn has_no_kc(kc: Kc) -> bool
+    ensures { λ r. ⌜ r ≡ noKc kc ⌝ }
+{
+    match kc {
+        Kc::NoKc => true,
+        Kc::BrokenKc => false,
+        Kc::Paid(_, _) => false,
+    }
+}
+
+fn breaks_fifteen(kind: u32, kc: Kc) -> bool
+    ensures { λ r. ⌜ r ≡ breaks15 kind kc ⌝ }
+{
+    let none = has_no_kc(kc);
+    is_payment(kind) & none
+}
+
+// The marks of rules 10 to 15.
+pub fn own_marks(job: Job, h: Heading, kc: Kc) -> u64
+    ensures { λ r. ⌜ (r ≡ ownMarks job h kc) × (r < 2 ^ 16) ⌝ }
+{
+    flag(breaks_ten(h), 1024)
+        + flag(breaks_eleven(job, h.day), 2048)
+        + flag(breaks_twelve(job, h.first), 4096)
+        + flag(breaks_thirteen(h), 8192)
+        + flag(breaks_fourteen(h), 16384)
+        + flag(breaks_fifteen(h.kind, kc), 32768)
+}

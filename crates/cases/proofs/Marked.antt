@@ -1,0 +1,36 @@
+-- Every marked case holds.
+use mathlib.Core.Path.{_≡_, refl}
+use mathlib.Core.Bool.{true}
+use mathlib.Core.List.{map}
+use Rattle.laws.specs.Tests.{every}
+use Rattle.laws.specs.Lists.{anyOf}
+use Rattle.text.specs.Characters.{isAdmissible}
+use Rattle.text.specs.Digits.{valueAfter, digits}
+use Rattle.text.specs.Days.{isLeap, row, monthLength, isReal, dayNumber}
+use Rattle.text.specs.Strings.{begins}
+use Rattle.text.specs.Forms.{template, hasForm, numbers, textOf as formText}
+use Rattle.headings.specs.ItemTypes.{isInput, isTrilateral, isPriority, isPayment}
+use Rattle.headings.specs.HeadRules.{rule10, rule13, rule14}
+use Rattle.headings.specs.Reading.{headingOf}
+use Rattle.headings.specs.Writing.{headingText}
+use Rattle.headings.specs.Outcomes.{outgoing, codes, inClass}
+use Rattle.headings.specs.Deriving.{barred, turned, deriveRefusals, derivedTarget}
+use Rattle.fields.specs.Layouts.{run, isEmpty, headIs, fits, part}
+use Rattle.fields.specs.Kinds.{place, kindOf}
+use Rattle.fields.specs.Classes.{classOf, groupOf}
+use Rattle.fields.specs.Accounts.{weights, weighed, passes, accountHolds, accountOf}
+use Rattle.fields.specs.Readings.{textOf, readingOf}
+use Rattle.fields.specs.Tails.{takes, reads, saysOf}
+use Rattle.blocks.specs.Marks.{readableMarks, marksAt}
+use Rattle.lines.specs.Lines.{body, crlf, onto, lines}
+use Rattle.ledger.specs.Marks.{rulesFrom}
+use Rattle.ledger.specs.Faults.{faultsOf}
+use Rattle.items.specs.Rows.{sorted, rowsFrom}
+use Rattle.items.specs.Fields.{rule1, lineMarks, continuations, says, stands, fieldMarks}
+use Rattle.items.specs.Headings.{continued, headOf, firstSaid, digest, headMarks}
+use Rattle.items.specs.Faults.{fieldEntry, faultsIn, faults}
+use Rattle.cases.specs.Cases.{holds, marked}
+
+pub every-marked : every (map holds marked) ≡ true
+unfolding anyOf isAdmissible valueAfter digits isLeap row monthLength isReal dayNumber begins template hasForm numbers formText isInput isTrilateral isPriority isPayment rule10 rule13 rule14 headingOf headingText outgoing codes inClass barred turned deriveRefusals derivedTarget run isEmpty headIs fits part place kindOf classOf groupOf weights weighed passes accountHolds accountOf textOf readingOf takes reads saysOf readableMarks marksAt body crlf onto lines rulesFrom faultsOf sorted rowsFrom rule1 lineMarks continuations says stands fieldMarks continued headOf firstSaid digest headMarks fieldEntry faultsIn faults
+every-marked = refl

@@ -1,0 +1,108 @@
+-- Document 01's cases marked P ('Both sides of the mark') and the file of 'The listing program', in one table. What a rule says of a
+-- heading or a KC is said by all the faults of a whole file: a case that stands has none.
+use Prim.Native.Nat.{ℕ}
+use Prim.Native.String.{String, _++_ as _++ˢ_}
+use mathlib.Core.Bool.{Bool, true, false, not, _&&_}
+use mathlib.Core.List.{List, [], _∷_, _++_, map}
+use lib.ListN.{length, replicate}
+use lib.Dec.{eqb}
+use Rattle.laws.specs.Ascii.{ascii}
+use Rattle.laws.specs.Refusals.{first}
+use Rattle.text.specs.Characters.{isAdmissible}
+use Rattle.text.specs.Days.{isReal}
+use Rattle.text.specs.Strings.{begins}
+use Rattle.headings.specs.Deriving.{deriveRefusals, derivedTarget}
+use Rattle.fields.specs.Accounts.{weighed, accountOf, accountValue}
+use Rattle.ledger.specs.Faults.{Fault, fault}
+use Rattle.items.specs.Faults.{faults}
+
+pub data Case : Type 0 where
+  -- a byte may stand in a text, or may not
+  admissible inadmissible : ℕ → Case
+  -- a part of an account, and the sum of its digits times their weights
+  weighs : String → ℕ → Case
+  -- the two parts of an account: the open check says that both hold, or that they don't
+  passes fails : String → String → Case
+  -- a day that is not real
+  unreal : ℕ → Case
+  -- the submitter's code, the accounting day, a file: these are its faults, and there is no other
+  faulty : ℕ → ℕ → List String → List Fault → Case
+  -- a heading text, an outcome, an output number: the heading that goes out, or the refusal
+  derives : String → ℕ → ℕ → String → Case
+  refuses : String → ℕ → ℕ → ℕ → Case
+
+abbrev pub same : List ℕ → List ℕ → Bool
+same xs ys = begins xs ys && eqb (length xs) (length ys)
+
+abbrev pub lineOf : Fault → ℕ
+lineOf f = f .line
+
+abbrev pub ruleOf : Fault → ℕ
+ruleOf f = f .rule
+
+abbrev pub sameFaults : List Fault → List Fault → Bool
+sameFaults xs ys = same (map lineOf xs) (map lineOf ys) && same (map ruleOf xs) (map ruleOf ys)
+
+-- the bytes of a file: CR LF after each line, then 1A
+abbrev pub bytesOf : List String → List ℕ
+bytesOf [] = 0x1A ∷ []
+bytesOf (l ∷ ls) = ascii l ++ (ascii "\r\n" ++ bytesOf ls)
+
+-- a target of 54 bytes
+abbrev pub blank : List ℕ
+blank = replicate 54 0
+
+-- the open check's value is asked for over the other one, so that a refusal is neither
+abbrev pub holds : Case → Bool
+holds (admissible b) = isAdmissible b
+holds (inadmissible b) = not (isAdmissible b)
+holds (weighs part sum) = eqb (weighed (ascii part)) sum
+holds (passes prefix number) = accountValue (accountOf (ascii prefix) (ascii number)) false
+holds (fails prefix number) = not (accountValue (accountOf (ascii prefix) (ascii number)) true)
+holds (unreal day) = not (isReal day)
+holds (faulty code today file fs) = sameFaults (faults code today (bytesOf file)) fs
+holds (derives text outcome number out) = same (derivedTarget (ascii text) outcome number blank) (ascii out)
+holds (refuses text outcome number k) = eqb (first (deriveRefusals (ascii text) outcome number (length blank))) k
+
+-- a heading day, an amount and its day: a 32 and the 51 that closes its block
+abbrev pub block : String → String → String → List String
+block day amount due =
+    ("HD:32 " ++ˢ day ++ˢ " 0000300 0000001 0000710 0000000 0000000") ∷
+    ("KC:" ++ˢ amount ++ˢ " " ++ˢ due) ∷
+    ("HD:51 " ++ˢ day ++ˢ " 0000300 0000000 0000999 0000000 0000000") ∷
+    "IN:1 1" ∷
+    ("S3:1 " ++ˢ amount) ∷ []
+
+abbrev pub example : List String
+example =
+    "HD:11 20240304 0000301 0000001 0000710 0000000 0000000" ∷
+    "KC:12500 20240304" ∷
+    "UD: 2000145398" ∷
+    "HD:51 20240304 0000300 0000000 0000999 0000000 0000000" ∷
+    "IN:1 1" ∷
+    "S1:1 12600" ∷ []
+
+abbrev pub marked : List Case
+marked =
+    -- 'DE admissible, DF not'
+    admissible 0xDE ∷
+    inadmissible 0xDF ∷
+    -- '2000145399 passes (sum 121), 2000145398 fails (120); number 0 fails'
+    passes "" "2000145399" ∷ weighs "2000145399" 121 ∷
+    fails "" "2000145398" ∷ weighs "2000145398" 120 ∷
+    fails "" "0" ∷
+    -- 'accounting day 20240304: heading day 20240223 stands, 20240222 breaks 11. 20230229 isn't real'
+    faulty 300 20240304 (block "20240223" "12500" "20240304") [] ∷
+    faulty 300 20240304 (block "20240222" "12500" "20240304") (fault 1 11 ∷ fault 3 11 ∷ []) ∷
+    unreal 20230229 ∷
+    -- '32 with day 20240403 stands, 20240404 breaks 8; amount 100000000000 stands, one more breaks 9'
+    faulty 300 20240304 (block "20240304" "12500" "20240403") [] ∷
+    faulty 300 20240304 (block "20240304" "12500" "20240404") (fault 2 8 ∷ []) ∷
+    faulty 300 20240304 (block "20240304" "100000000000" "20240304") [] ∷
+    faulty 300 20240304 (block "20240304" "100000000001" "20240304") (fault 2 9 ∷ []) ∷
+    -- the two headings, and outcome 5 for the second
+    derives "HD:12 20240304 0000300 0000017 0000710 0000000 0000000" 6 42 "HD:62 20240304 0000300 0000017 0000300 0000042 0000710" ∷
+    derives "HD:35 20240304 0000990 0000001 0000300 0000000 0000710" 1 7 "HD:16 20240304 0000990 0000001 0000710 0000007 0000300" ∷
+    refuses "HD:35 20240304 0000990 0000001 0000300 0000000 0000710" 5 7 14 ∷
+    -- the file of 'The listing program'
+    faulty 300 20240304 example (fault 1 12 ∷ fault 3 7 ∷ fault 4 31 ∷ []) ∷ []

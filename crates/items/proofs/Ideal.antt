@@ -1,0 +1,112 @@
+-- One forward pass whose state is the open pieces of the tree themselves, nearest first, and what is then left of the declared list.
+-- No mark function is opened here.
+use Prim.Native.Nat.{ℕ}
+use mathlib.Core.Bool.{Bool, true, false}
+use mathlib.Core.Option.{none, some}
+use mathlib.Core.List.{List, [], _∷_, _++_, reverseAux}
+use Rattle.ledger.specs.Faults.{Entry}
+use Rattle.items.specs.Rows.{Row, FieldRow, LowRow, Sorted, heading, field, low}
+use Rattle.items.specs.Tree.{Group, Item, File}
+use Rattle.items.specs.Fields.{nowhere, prelude, inside}
+use Rattle.items.specs.Headings.{ends, fresh, noneEnds}
+use Rattle.items.specs.Faults.{lowEntry, lows, fieldEntry, fields, headEntry, items, declare}
+
+-- what is open: in each, first the items above that are complete
+pub data Open : Type 0 where
+  start : Open
+  early : List (Group FieldRow) → FieldRow → List LowRow → Open
+  atHead : List Item → Row → List LowRow → Open
+  atField : List Item → Row → List LowRow → List (Group FieldRow) → FieldRow → List LowRow → Open
+
+abbrev pub closed : {A : Type 0} → A → List LowRow → Group A
+closed a ls = record { owner = a; below = reverseAux ls [] }
+
+abbrev pub item : Group Row → List (Group FieldRow) → Item
+item g ups = record { head = g; fields = reverseAux ups [] }
+
+abbrev pub push : Open → Sorted → Open
+push start (low l) = start
+push start (field y) = early [] y []
+push start (heading k) = atHead [] k []
+push (early ups x ls) (low l) = early ups x (l ∷ ls)
+push (early ups x ls) (field y) = early (closed x ls ∷ ups) y []
+push (early ups x ls) (heading k) = atHead [] k []
+push (atHead b h ls) (low l) = atHead b h (l ∷ ls)
+push (atHead b h ls) (field y) = atField b h ls [] y []
+push (atHead b h ls) (heading k) = atHead (item (closed h ls) [] ∷ b) k []
+push (atField b h hl ups x ls) (low l) = atField b h hl ups x (l ∷ ls)
+push (atField b h hl ups x ls) (field y) = atField b h hl (closed x ls ∷ ups) y []
+push (atField b h hl ups x ls) (heading k) = atHead (item (closed h hl) (closed x ls ∷ ups) ∷ b) k []
+
+-- the heading that waits for 16 after an item, by whether the item ends its block and is the first of it
+abbrev pub waitsAt : (ends first : Bool) → List Entry → Entry → List Entry
+waitsAt true b r e = []
+waitsAt false true r e = e ∷ []
+waitsAt false false r e = r
+
+-- what is complete when an item closes
+abbrev pub outAt : (ends first : Bool) → List Entry → Entry → List Entry
+outAt true b r e = r ++ (e ∷ [])
+outAt false true r e = []
+outAt false false r e = e ∷ []
+
+abbrev pub under : {A : Type 0} → A → List LowRow → File → Group A
+under a ls f = record { owner = a; below = reverseAux ls (f .top) }
+
+module _ (code today : ℕ) where
+  -- the first heading of the open block, with its 16 decided
+  abbrev pub waits : List Item → Bool → List Entry
+  waits [] z = []
+  waits (i ∷ ups) z = waitsAt (ends i) (fresh ups) (waits ups z) (headEntry code today z ups i)
+
+  abbrev pub headsOut : List Item → Item → List Entry
+  headsOut ups i = outAt (ends i) (fresh ups) (waits ups false) (headEntry code today false ups i)
+
+  -- what a line completes
+  abbrev pub out : Open → Sorted → List Entry
+  out start (low l) = lowEntry nowhere l ∷ []
+  out start (field y) = []
+  out start (heading k) = []
+  out (early ups x ls) (low l) = lowEntry prelude l ∷ []
+  out (early ups x ls) (field y) = fieldEntry code today none ups (closed x ls) ∷ []
+  out (early ups x ls) (heading k) = fieldEntry code today none ups (closed x ls) ∷ []
+  out (atHead b h ls) (low l) = lowEntry inside l ∷ []
+  out (atHead b h ls) (field y) = []
+  out (atHead b h ls) (heading k) = headsOut b (item (closed h ls) [])
+  out (atField b h hl ups x ls) (low l) = lowEntry inside l ∷ []
+  out (atField b h hl ups x ls) (field y) = fieldEntry code today (some (closed h hl)) ups (closed x ls) ∷ []
+  out (atField b h hl ups x ls) (heading k) =
+      fieldEntry code today (some (closed h hl)) ups (closed x ls) ∷ headsOut b (item (closed h hl) (closed x ls ∷ ups))
+
+  -- the file ends: the item closes, and who waits has 16
+  abbrev pub lastOut : List Item → Item → List Entry
+  lastOut b i = headsOut b i ++ waits (i ∷ b) true
+
+  abbrev pub final : Open → List Entry
+  final start = []
+  final (early ups x ls) = fieldEntry code today none ups (closed x ls) ∷ []
+  final (atHead b h ls) = lastOut b (item (closed h ls) [])
+  final (atField b h hl ups x ls) =
+      fieldEntry code today (some (closed h hl)) ups (closed x ls) ∷ lastOut b (item (closed h hl) (closed x ls ∷ ups))
+
+  -- what is declared and not yet out: of complete items with items below them, of an open item too, of all that is open
+  abbrev pub pending : List Item → List Item → List Entry
+  pending b is = waits b (noneEnds is) ++ items code today b is
+
+  abbrev pub heads : List Item → Item → List Item → List Entry
+  heads b i is = headsOut b i ++ pending (i ∷ b) is
+
+  abbrev pub left : Open → File → List Entry
+  left start f = declare code today f
+  left (early ups x ls) f =
+      let g = under x ls f in
+      fieldEntry code today none ups g ∷ (lows prelude (f .top) ++ (fields code today none (g ∷ ups) (f .loose) ++ items code today [] (f .items)))
+  left (atHead b h ls) f =
+      let g = under h ls f in
+      lows inside (f .top) ++ (fields code today (some g) [] (f .loose) ++ heads b (record { head = g; fields = f .loose }) (f .items))
+  left (atField b h hl ups x ls) f =
+      let g = under x ls f in
+      fieldEntry code today (some (closed h hl)) ups g
+      ∷ (lows inside (f .top)
+      ++ (fields code today (some (closed h hl)) (g ∷ ups) (f .loose)
+      ++ heads b (record { head = closed h hl; fields = reverseAux (g ∷ ups) (f .loose) }) (f .items)))

@@ -1,0 +1,10 @@
+pub mod Ideal
+pub mod Order
+pub mod Numbers
+pub mod Turned
+pub mod Opened
+pub mod Shutting
+pub mod Meant
+pub mod Told
+pub mod Cases
+pub mod Demand

@@ -1,0 +1,98 @@
+-- The declared list has each line once, in line order.
+use Prim.Native.Nat.{ℕ, suc, _≤_}
+use native.Mathlib.Nat.{le-refl}
+use mathlib.Core.Path.{_≡_, refl, ap, _∙_, subst, sym}
+use mathlib.Core.Option.{Option, none, some}
+use mathlib.Core.List.{List, [], _∷_, _++_, map, append-assoc}
+use Rattle.lines.specs.Lines.{Line}
+use Rattle.fields.specs.declared.kinds.Kind.{Kind}
+use Rattle.fields.specs.declared.kinds.Kind.the-variants.{Heading, Continuation, Field, Other}
+use Rattle.fields.specs.Kinds.{kindOf}
+use Rattle.ledger.specs.Faults.{Entry, Rising}
+use Rattle.items.specs.Rows.{Row, FieldRow, LowRow, Sorted, heading, field, low, sortedAs, sorted, rowsFrom}
+use Rattle.items.specs.Tree.{Group, Item, File, _▹_, itemOf, tree}
+use Rattle.items.specs.Fields.{Place, nowhere, prelude, inside}
+use Rattle.items.specs.Faults.{lowEntry, lows, fieldEntry, fields, inner, items, declare, placeIn}
+
+abbrev pub number : Sorted → ℕ
+number (heading h) = h .no
+number (field x) = x .row .no
+number (low l) = l .row .no
+
+abbrev pub numbers : List Entry → List ℕ
+numbers es = map (λ (e : Entry). e .line) es
+
+numbers-append : (xs ys : List Entry) → numbers (xs ++ ys) ≡ numbers xs ++ numbers ys
+numbers-append [] ys = refl
+numbers-append (x ∷ xs) ys = rw (numbers-append xs ys)
+
+module _ (code today : ℕ) where
+  -- whatever stands above
+  lows-numbers : (p q : Place) (ls : List LowRow) → numbers (lows p ls) ≡ numbers (lows q ls)
+  unfolding lowEntry
+  lows-numbers p q [] = refl
+  lows-numbers p q (l ∷ ls) = rw (lows-numbers p q ls)
+
+  field-line : (h : Option (Group Row)) (ups : List (Group FieldRow)) (g : Group FieldRow) → (fieldEntry code today h ups g) .line ≡ g .owner .row .no
+  unfolding fieldEntry
+  field-line h ups g = refl
+
+  fields-numbers : (h k : Option (Group Row)) (ups vps gs : List (Group FieldRow)) → numbers (fields code today h ups gs) ≡ numbers (fields code today k vps gs)
+  fields-numbers h k ups vps [] = refl
+  fields-numbers h k ups vps (g ∷ gs) =
+      rw (field-line, field-line, numbers-append, numbers-append, lows-numbers (placeIn code today h) (placeIn code today k) (g .below), fields-numbers h k (g ∷ ups) (g ∷ vps) gs)
+
+  -- the numbers of items one after the other
+  abbrev itemNumbers : List Item → List ℕ
+  itemNumbers [] = []
+  itemNumbers (i ∷ is) = i .head .owner .no ∷ (numbers (inner code today i) ++ itemNumbers is)
+
+  items-numbers : (b is : List Item) → numbers (items code today b is) ≡ itemNumbers is
+  items-numbers b [] = refl
+  items-numbers b (i ∷ is) = rw (numbers-append, items-numbers (i ∷ b) is)
+
+  declare-numbers : (f : File) → numbers (declare code today f) ≡ numbers (lows prelude (f .top)) ++ (numbers (fields code today none [] (f .loose)) ++ itemNumbers (f .items))
+  declare-numbers f = rw (numbers-append (lows nowhere (f .top)), lows-numbers nowhere prelude (f .top), numbers-append (fields code today none [] (f .loose)), items-numbers)
+
+  inner-numbers : (i : Item) → numbers (inner code today i) ≡ numbers (lows prelude (i .head .below)) ++ numbers (fields code today none [] (i .fields))
+  inner-numbers i =
+      numbers-append (lows inside (i .head .below)) (fields code today (some (i .head)) [] (i .fields))
+      ∙ rw (lows-numbers inside prelude (i .head .below), fields-numbers (some (i .head)) none [] [] (i .fields))
+
+  fields-cons : (g : Group FieldRow) (gs : List (Group FieldRow))
+      → numbers (fields code today none [] (g ∷ gs)) ≡ g .owner .row .no ∷ (numbers (lows prelude (g .below)) ++ numbers (fields code today none [] gs))
+  unfolding fieldEntry
+  fields-cons g gs =
+      ap {B = List ℕ} (λ r. g .owner .row .no ∷ r)
+      (numbers-append (lows prelude (g .below)) (fields code today none (g ∷ []) gs) ∙ rw (fields-numbers none none (g ∷ []) [] gs))
+
+  top-number : (x : Sorted) (f : File) → numbers (declare code today (x ▹ f)) ≡ number x ∷ numbers (declare code today f)
+  unfolding lowEntry fieldEntry
+  top-number (low l) f = refl
+  top-number (field x) f =
+      rw (declare-numbers f)
+      (declare-numbers (field x ▹ f) ∙ ap (λ (r : List ℕ). r ++ itemNumbers (f .items)) (fields-cons (record { owner = x; below = f .top }) (f .loose)) ∙ rw append-assoc)
+  top-number (heading h) f = rw (declare-numbers f) (declare-numbers (heading h ▹ f) ∙ rw (inner-numbers (itemOf h f), append-assoc))
+
+  tree-numbers : (xs : List Sorted) → numbers (declare code today (tree xs)) ≡ map number xs
+  tree-numbers [] = refl
+  tree-numbers (x ∷ xs) = top-number x (tree xs) ∙ rw (tree-numbers xs)
+
+  -- each line has its own number
+  sorted-number : (r : Row) → number (sorted r) ≡ r .no
+  unfolding sorted
+  sorted-number r = go (kindOf (r .bytes))
+    where
+      go : (k : Kind) → number (sortedAs k r) ≡ r .no
+      go Heading = refl
+      go Continuation = refl
+      go (Field i) = refl
+      go Other = refl
+
+  rows-rise : (n : ℕ) (ls : List Line) → Rising n (map number (rowsFrom n ls))
+  unfolding rowsFrom
+  rows-rise n [] = tt
+  rows-rise n (l ∷ ls) = rw (sorted-number (record { no = n; bytes = l .bytes; ended = l .ended })) (le-refl n, rows-rise (suc n) ls)
+
+  pub lines-rise : (n : ℕ) (ls : List Line) → Rising n (numbers (declare code today (tree (rowsFrom n ls))))
+  lines-rise n ls = rw (tree-numbers (rowsFrom n ls)) (rows-rise n ls)

@@ -1,0 +1,171 @@
+-- An item closes: the account, the heading that waits for 16, and what is entered, against the tree.
+use mathlib.Core.Path.{_≡_, refl, sym, ap, _∙_}
+use mathlib.Core.Bool.{Bool, true, false, cond, not, _&&_, _||_}
+use mathlib.Core.List.{List, [], _∷_, _++_, map, reverseAux}
+use Prim.Native.Nat.{ℕ, _+_, _^_}
+use native.Mathlib.Nat.{add-zero}
+use Rattle.laws.specs.Tests.{mark}
+use Rattle.ledger.specs.Faults.{Fault, Entry, insertAll, marked}
+use Rattle.ledger.proofs.Marks.{no-rules}
+use Rattle.ledger.proofs.Entries.{putAll, put}
+use Rattle.headings.specs.declared.Code.{Code}
+use Rattle.headings.specs.declared.Read.{Read}
+use Rattle.headings.specs.declared.Read.the-variants.{Reads, Unreadable}
+use Rattle.headings.specs.Reading.{headingOf}
+use Rattle.fields.specs.Kinds.{named}
+use Rattle.blocks.specs.declared.Kc.{Kc}
+use Rattle.blocks.specs.declared.Block.{Block}
+use Rattle.blocks.specs.declared.Item.{Item as Digest}
+use Rattle.blocks.specs.Items.{empty, closesAt, blockAbove}
+use Rattle.blocks.specs.Marks.{headMarks as blockMarks}
+use Rattle.blocks.specs.Model.{jobOf}
+use Rattle.blocks.specs.Model.{closeModel as blockModel}
+use Rattle.blocks.specs.Summary.{summary}
+use Rattle.blocks.proofs.Accounting.{account}
+use Rattle.items.specs.declared.Live.{Live}
+use Rattle.items.specs.declared.Claims.{Claims}
+use Rattle.items.specs.declared.Wait.{Wait}
+use Rattle.items.specs.declared.closing.Shut.{Shut}
+use Rattle.items.specs.Rows.{Row, FieldRow, LowRow}
+use Rattle.items.specs.Tree.{Group, Item}
+use Rattle.items.specs.Fields.{lineMarks, stands}
+use Rattle.items.specs.Headings.{continued, headOf, isUnreadable, firstSaid, is, isGroup, kcOf, spanOf, statedOf, nine, digest, ends, fresh, headMarks}
+use Rattle.items.specs.Faults.{entry, headEntry}
+use Rattle.items.specs.Kept.{headKept}
+use Rattle.items.specs.State.{ownMarks, noWait, headMarksOf, shut, shutAs, lastMarks}
+use Rattle.items.proofs.Ideal.{closed, item, waitsAt, outAt, waits, headsOut}
+use Rattle.items.proofs.Turned.{continued-closed, stands-closed, firstUp, first-closed}
+use Rattle.items.proofs.Opened.{claimsOf}
+
+-- no marks, nothing entered
+pub put-none : (n : ℕ) (l : List Fault) → put (entry n 0) l ≡ l
+unfolding insertAll
+put-none n l = rw no-rules
+
+-- the account of the items above
+abbrev pub accountOf : List Item → Block
+accountOf b = summary (map digest b)
+
+pub any-is : (b : List Item) → accountOf b .any ≡ not (fresh b)
+unfolding summary
+any-is b = refl
+
+abbrev pub itemAs : Row → List LowRow → Kc → Claims → Digest
+itemAs h hl kc c =
+    record { line = headKept h .no; head = cond (continued hl) Unreadable (headKept h .read); kc = kc; span = c .span; sums = c .sums; s9 = c .s9 }
+
+abbrev pub waitNext : (ends first : Bool) → Wait → Wait → Wait
+waitNext true e w x = noWait
+waitNext false true w x = x
+waitNext false false w x = w
+
+module _ (code today : ℕ) where
+  -- the heading that waits
+  abbrev pub wait : List Item → Wait
+  wait [] = noWait
+  wait (i ∷ b) = waitNext (ends i) (fresh b) (wait b) (record { line = i .head .owner .no; marks = headMarks code today b i })
+
+  -- as entries
+  abbrev told : Bool → Wait → Bool → List Entry
+  told true w z = []
+  told false w z = entry (w .line) (w .marks + mark 16 z) ∷ []
+
+  waits-is : (b : List Item) (z : Bool) → waits code today b z ≡ told (fresh b) (wait b) z
+  waits-is [] z = refl
+  waits-is (i ∷ b) z = go (ends i) (fresh b) (waits-is b z)
+    where
+      go : (t e : Bool) → waits code today b z ≡ told e (wait b) z
+          → waitsAt t e (waits code today b z) (headEntry code today z b i)
+          ≡ told (empty (cond t [] (digest i ∷ blockAbove (map digest b)))) (waitNext t e (wait b) (record { line = i .head .owner .no; marks = headMarks code today b i })) z
+      go true e ih = refl
+      go false true ih = refl
+      go false false ih = ih
+
+  pub last-out : (b : List Item) (l : List Fault) → putAll put (waits code today b true) l ≡ put (entry (wait b .line) (lastMarks (accountOf b) (wait b))) l
+  unfolding lastMarks summary
+  last-out b l = ap (λ (es : List Entry). putAll put es l) (waits-is b true) ∙ go (fresh b) (wait b)
+    where
+      go : (e : Bool) (w : Wait) → putAll put (told e w true) l ≡ put (entry (w .line) (cond (not e) (w .marks + 2 ^ 16) 0)) l
+      go true w = sym (put-none (w .line) l)
+      go false w = refl
+
+  -- an item closes, whose heading is h with the lines hl below it, and whose fields are gs, nearest first
+  module _ (b : List Item) (h : Row) (hl : List LowRow) (gs : List (Group FieldRow)) where
+    abbrev pub it : Item
+    it = item (closed h hl) gs
+
+    pub read-is : cond (continued hl) Unreadable (headKept h .read) ≡ headOf (closed h hl)
+    unfolding headOf headKept
+    read-is = rw (continued-closed hl)
+
+    digest-is : itemAs h hl (kcOf (firstUp (is (named "KC")) gs)) (claimsOf gs) ≡ digest it
+    unfolding digest headKept
+    digest-is = λ j. record {
+      line = h .no;
+      head = read-is j;
+      kc = kcOf (sym (first-closed (is (named "KC")) gs) j);
+      span = spanOf (sym (first-closed (is (named "IN")) gs) j);
+      sums = record { groups = nine (λ d. record { stated = statedOf (sym (first-closed (isGroup d) gs) j) }) };
+      s9 = sym (stands-closed (named "S9") gs) j;
+    }
+
+    abbrev pub marksAs : Read → ℕ → ℕ
+    marksAs r m = ownMarks (headKept h .bad) (headKept h .ended) + mark 6 (isUnreadable r) + m
+
+    marks-is : marksAs (digest it .head) (blockMarks code today (map digest b) (digest it)) ≡ headMarks code today b it
+    unfolding headMarks headKept lineMarks digest
+    marks-is = refl
+
+    -- what closing gives, by whether the item ends its block and is the first of it
+    abbrev pub closesAs : (t e : Bool) → Shut
+    closesAs true e = shut (accountOf (it ∷ b)) (wait (it ∷ b)) (cond (not e) (wait b .marks) 0) (headMarks code today b it)
+    closesAs false true = shut (accountOf (it ∷ b)) (wait (it ∷ b)) 0 0
+    closesAs false false = shut (accountOf (it ∷ b)) (wait (it ∷ b)) 0 (headMarks code today b it)
+
+    wait-at : (t e : Bool) → ends it ≡ t → fresh b ≡ e → wait (it ∷ b) ≡ waitNext t e (wait b) (record { line = h .no; marks = headMarks code today b it })
+    wait-at t e p q = λ i. waitNext (p i) (q i) (wait b) (record { line = h .no; marks = headMarks code today b it })
+
+    closes : (t e : Bool) → ends it ≡ t → fresh b ≡ e
+        → shutAs true t (not e) (accountOf b) (accountOf (it ∷ b)) (wait b) (h .no) (headMarks code today b it) ≡ closesAs t e
+    closes true e p q = ap (λ (w : Wait). shut (accountOf (it ∷ b)) w (cond (not e) (wait b .marks) 0) (headMarks code today b it)) (sym (wait-at true e p q))
+    closes false true p q = ap (λ (w : Wait). shut (accountOf (it ∷ b)) w 0 0) (sym (wait-at false true p q))
+    closes false false p q = ap (λ (w : Wait). shut (accountOf (it ∷ b)) w 0 (headMarks code today b it)) (sym (wait-at false false p q))
+
+    abbrev pub job-code : Code
+    job-code = record { 0 = code }
+
+    -- the code's closing of a state that means this item
+    pub shut-is : let d = itemAs h hl (kcOf (firstUp (is (named "KC")) gs)) (claimsOf gs) in
+        let c = blockModel (jobOf job-code today) (accountOf b) d in
+        shutAs true (closesAt (d .head)) (accountOf b .any) (accountOf b) (c .block) (wait b) (headKept h .no) (marksAs (d .head) (c .marks))
+        ≡ closesAs (ends it) (fresh b)
+    unfolding headKept
+    shut-is =
+        (λ j. let d = digest-is j in
+        let c = blockModel (jobOf job-code today) (accountOf b) d in
+        shutAs true (closesAt (d .head)) (any-is b j) (accountOf b) (c .block) (wait b) (h .no) (marksAs (d .head) (c .marks)))
+        ∙ (λ j. let c = account job-code today (map digest b) (digest it) j in
+        shutAs true (ends it) (not (fresh b)) (accountOf b) (c .block) (wait b) (h .no) (marksAs (digest it .head) (c .marks)))
+        ∙ ap (shutAs true (ends it) (not (fresh b)) (accountOf b) (accountOf (it ∷ b)) (wait b) (h .no)) marks-is
+        ∙ closes (ends it) (fresh b) refl refl
+
+    pub account-of : (t e : Bool) → closesAs t e .block ≡ accountOf (it ∷ b)
+    account-of true e = refl
+    account-of false true = refl
+    account-of false false = refl
+
+    pub wait-of : (t e : Bool) → closesAs t e .wait ≡ wait (it ∷ b)
+    wait-of true e = refl
+    wait-of false true = refl
+    wait-of false false = refl
+
+    pub item-out : (l : List Fault) → let c = closesAs (ends it) (fresh b) in
+        putAll put (headsOut code today b it) l ≡ put (entry (h .no) (c .marks)) (put (entry (wait b .line) (c .told)) l)
+    item-out l = ap (λ (w : List Entry). putAll put (outAt (ends it) (fresh b) w (headEntry code today false b it)) l) (waits-is b false) ∙ go (ends it) (fresh b)
+      where
+        go : (t e : Bool) → putAll put (outAt t e (told e (wait b) false) (headEntry code today false b it)) l
+            ≡ put (entry (h .no) (closesAs t e .marks)) (put (entry (wait b .line) (closesAs t e .told)) l)
+        go true true = rw (put-none (wait b .line) l, add-zero (headMarks code today b it))
+        go true false = rw (add-zero (headMarks code today b it), add-zero (wait b .marks))
+        go false true = rw (put-none (wait b .line) l, put-none (h .no) l)
+        go false false = rw (put-none (wait b .line) l, add-zero (headMarks code today b it))

@@ -1,0 +1,98 @@
+-- A line that is told by its first 64 bytes, its length and two flags is told whole.
+use mathlib.Core.Path.{_≡_, refl, sym, ap, _∙_}
+use mathlib.Core.Bool.{Bool, true, false, cond}
+use mathlib.Core.List.{List, [], _∷_}
+use Prim.Native.Nat.{ℕ, _≤_, _<_}
+use native.Mathlib.Omega.{arith}
+use lib.Dec.{leb}
+use lib.ListN.{length, take}
+use lib.Seq.{take-all, length-take-le}
+use borrow.Author.Tests.{leb-true, leb-false}
+use Rattle.text.specs.Forms.{template, hasForm}
+use Rattle.text.proofs.Matching.{unequal}
+use Rattle.headings.specs.declared.Read.{Read}
+use Rattle.headings.specs.declared.Read.the-variants.{Reads, Unreadable}
+use Rattle.headings.specs.Reading.{layout, headingFrom, headingOf}
+use Rattle.fields.specs.declared.kinds.Kind.{Kind}
+use Rattle.fields.specs.declared.kinds.Kind.the-variants.{Heading, Continuation, Field, Other}
+use Rattle.fields.specs.declared.readings.Reading.{Reading}
+use Rattle.fields.specs.Kinds.{kindOf}
+use Rattle.fields.specs.Classes.{classOf}
+use Rattle.fields.proofs.Reach.{first-64}
+use Rattle.fields.proofs.LineKinds.{field-is}
+use Rattle.items.specs.declared.Line.{Line}
+use Rattle.items.specs.declared.Line.the-variants.{OfHead, OfField, OfLow}
+use Rattle.items.specs.declared.Head.{Head}
+use Rattle.items.specs.declared.Field.{Field as FieldKept}
+use Rattle.items.specs.declared.Low.{Low}
+use Rattle.items.specs.Rows.{Row, FieldRow, LowRow, Sorted, heading, field, low, sortedAs, sorted}
+use Rattle.items.specs.Fields.{rule1}
+use Rattle.items.specs.Kept.{headTold, fieldTold, toldAs, lineTold, headKept, fieldKept, lowKept, lineKept}
+
+-- a text of another length than 54 is no heading
+other-length : (s : List ℕ) → (length s ≡ 54 → ⊥) → headingOf s ≡ Unreadable
+unfolding headingOf template
+other-length s n = rw (← unequal (template layout) s (λ e. n (sym e)))
+
+heading-take : (s : List ℕ) → headingOf (take 64 s) ≡ headingOf s
+heading-take s = go (leb (length s) 64) refl
+  where
+    go : (t : Bool) → leb (length s) 64 ≡ t → headingOf (take 64 s) ≡ headingOf s
+    go true e = ap headingOf (take-all 64 s (leb-true (length s) 64 e))
+    go false e =
+        let l : 64 < length s = leb-false (length s) 64 e in
+        let n : length (take 64 s) ≡ 64 = length-take-le 64 s (omega arith) in
+        other-length (take 64 s) (λ z. omega arith) ∙ sym (other-length s (λ z. omega arith))
+
+pub told-is : (r : Row) → lineTold (r .no) (rule1 r) (r .ended) (take 64 (r .bytes)) (length (r .bytes)) ≡ lineKept (sorted r)
+unfolding lineTold sorted headKept fieldKept lowKept
+told-is r =
+    ap (λ (k : Kind). toldAs k (r .no) (rule1 r) (r .ended) (take 64 (r .bytes)) (length (r .bytes))) (first-64 (r .bytes) .0) ∙ go (kindOf (r .bytes))
+  where
+    go : (k : Kind) → toldAs k (r .no) (rule1 r) (r .ended) (take 64 (r .bytes)) (length (r .bytes)) ≡ lineKept (sortedAs k r)
+    go Heading = ap (λ (x : Read). OfHead (record { no = r .no; bad = rule1 r; ended = r .ended; read = x })) (heading-take (r .bytes))
+    go Continuation = refl
+    go (Field i) =
+        ap (λ (x : Reading). OfField (record { no = r .no; bad = rule1 r; ended = r .ended; ident = i; class = classOf i; said = x })) (first-64 (r .bytes) .1 (classOf i))
+    go Other = refl
+
+-- a short line is told by all its bytes
+pub told-short : (r : Row) → length (r .bytes) ≤ 64 → lineTold (r .no) (rule1 r) (r .ended) (r .bytes) (length (r .bytes)) ≡ lineKept (sorted r)
+told-short r h = ap (λ (b : List ℕ). lineTold (r .no) (rule1 r) (r .ended) b (length (r .bytes))) (sym (take-all 64 (r .bytes) h)) ∙ told-is r
+
+-- ---- what a line's kind says of it
+pub head-of : (r : Row) (k : Row) → sorted r ≡ heading k → k .no ≡ r .no
+unfolding sorted
+head-of r k e = go (kindOf (r .bytes)) e
+  where
+    go : (q : Kind) → sortedAs q r ≡ heading k → k .no ≡ r .no
+    go Heading p = cc
+    go Continuation p = let z : _≡_ {A = ℕ} 0 1 = cc in absurd (omega arith)
+    go (Field i) p = let z : _≡_ {A = ℕ} 0 1 = cc in absurd (omega arith)
+    go Other p = let z : _≡_ {A = ℕ} 0 1 = cc in absurd (omega arith)
+
+pub field-of : (r : Row) (y : FieldRow) → sorted r ≡ field y → (y .row .no ≡ r .no) × (y .ident < 1296)
+unfolding sorted
+field-of r y e = go (kindOf (r .bytes)) refl e
+  where
+    go : (q : Kind) → kindOf (r .bytes) ≡ q → sortedAs q r ≡ field y → (y .row .no ≡ r .no) × (y .ident < 1296)
+    go Heading k p = let z : _≡_ {A = ℕ} 0 1 = cc in absurd (omega arith)
+    go Continuation k p = let z : _≡_ {A = ℕ} 0 1 = cc in absurd (omega arith)
+    go (Field i) k p = let same : y .ident ≡ i = cc in (cc, omega (arith, field-is (r .bytes) i k .2))
+    go Other k p = let z : _≡_ {A = ℕ} 0 1 = cc in absurd (omega arith)
+
+-- ---- which line it is, from what is kept
+pub kept-low : (z : Sorted) (l : Low) → lineKept z ≡ OfLow l → (x : LowRow) × (z ≡ low x) × (lowKept x ≡ l)
+kept-low (heading h) l e = let z : _≡_ {A = ℕ} 0 1 = cc in absurd (omega arith)
+kept-low (field y) l e = let z : _≡_ {A = ℕ} 0 1 = cc in absurd (omega arith)
+kept-low (low x) l e = (x, refl, cc)
+
+pub kept-field : (z : Sorted) (y : FieldKept) → lineKept z ≡ OfField y → (x : FieldRow) × (z ≡ field x) × (fieldKept x ≡ y)
+kept-field (heading h) y e = let z : _≡_ {A = ℕ} 0 1 = cc in absurd (omega arith)
+kept-field (field x) y e = (x, refl, cc)
+kept-field (low x) y e = let z : _≡_ {A = ℕ} 0 1 = cc in absurd (omega arith)
+
+pub kept-head : (z : Sorted) (k : Head) → lineKept z ≡ OfHead k → (x : Row) × (z ≡ heading x) × (headKept x ≡ k)
+kept-head (heading h) k e = (h, refl, cc)
+kept-head (field y) k e = let z : _≡_ {A = ℕ} 0 1 = cc in absurd (omega arith)
+kept-head (low x) k e = let z : _≡_ {A = ℕ} 0 1 = cc in absurd (omega arith)

@@ -1,0 +1,78 @@
+use native.Mathlib.Omega.{arith}
+use Rattle.items.specs.State.{insideMarks}
+use borrow.Author.Needs.{needs}
+use Rattle.items.proofs.marking.inside_marks.Statement.{statement}
+use Rattle.items.proofs.marking.inside_marks.Tie as tie
+
+read-of-requires : tie.Need-read-of-requires
+read-of-requires c κs = search needs
+
+is-first-kc-requires : tie.Need-is-first-kc-requires
+is-first-kc-requires c κs = search needs
+
+flag-requires : tie.Need-flag-requires
+flag-requires c κs = search needs
+
+is-broken-requires : tie.Need-is-broken-requires
+is-broken-requires c κs = search needs
+
+flag-requires-2 : tie.Need-flag-requires-2
+flag-requires-2 c κs = search needs
+
+add-result : tie.Need-add-result
+add-result c = search needs
+
+fails-check-requires : tie.Need-fails-check-requires
+fails-check-requires c κs = search needs
+
+flag-requires-3 : tie.Need-flag-requires-3
+flag-requires-3 c κs = search needs
+
+add-result-2 : tie.Need-add-result-2
+add-result-2 c = search needs
+
+is-late-requires : tie.Need-is-late-requires
+is-late-requires c κs = search needs
+
+flag-requires-4 : tie.Need-flag-requires-4
+flag-requires-4 c κs = search needs
+
+add-result-3 : tie.Need-add-result-3
+add-result-3 c = search needs
+
+is-large-requires : tie.Need-is-large-requires
+is-large-requires c κs = search needs
+
+flag-requires-5 : tie.Need-flag-requires-5
+flag-requires-5 c κs = search needs
+
+add-result-4 : tie.Need-add-result-4
+add-result-4 c = search needs
+
+returns : tie.Need-returns
+unfolding insideMarks
+returns c = (
+  simp (c .flag5 .ensures .0, c .before .is-large .ensures, c .before .before .flag4 .ensures .0, c .before .before .before .is-late .ensures, c .before .before .before .before .flag3 .ensures .0, c .before .before .before .before .before .fails-check .ensures, c .before .before .before .before .before .before .flag2 .ensures .0, c .before .before .before .before .before .before .before .is-broken .ensures, c .before .before .before .before .before .before .before .before .flag .ensures .0, c .before .before .before .before .before .before .before .before .before .is-first-kc .ensures, c .before .before .before .before .before .before .before .before .before .before .read-of .ensures),
+  omega (arith, c .flag5 .ensures .1, c .before .before .flag4 .ensures .1, c .before .before .before .before .flag3 .ensures .1, c .before .before .before .before .before .before .flag2 .ensures .1, c .before .before .before .before .before .before .before .before .flag .ensures .1),
+)
+
+pub inside-marks-spec : {M : Type 1} → statement M
+inside-marks-spec =
+    tie.close
+    (tie.spec
+    read-of-requires
+    is-first-kc-requires
+    flag-requires
+    is-broken-requires
+    flag-requires-2
+    add-result
+    fails-check-requires
+    flag-requires-3
+    add-result-2
+    is-late-requires
+    flag-requires-4
+    add-result-3
+    is-large-requires
+    flag-requires-5
+    add-result-4
+    returns)

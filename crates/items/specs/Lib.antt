@@ -1,0 +1,7 @@
+pub mod Rows
+pub mod Tree
+pub mod Fields
+pub mod Headings
+pub mod Faults
+pub mod Kept
+pub mod State

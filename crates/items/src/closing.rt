@@ -1,0 +1,117 @@
+// An item closes: its account, its heading's marks, and the heading that waits for rule 16.
+use crate::Claims;
+use crate::Live;
+use crate::Wait;
+use blocks::Block;
+use blocks::Item;
+use blocks::Job;
+use blocks::Kc;
+use blocks::marks::flag;
+use headings::Read;
+ghost use mathlib.Core.Path.{_≡_};
+ghost use Prim.Native.Nat.{_≤_, _<_, _+_, _^_};
+ghost use Rattle.items.specs.Headings.{isUnreadable};
+ghost use Rattle.items.specs.State.{noWait, itemModel, headMarksOf, closeModel, lastMarks};
+
+// The account after an item, and who waits then; the marks of the one who waited, where the block ends; the heading's own marks,
+// where they are complete.
+pub struct Shut {
+    pub block: Block,
+    pub wait: Wait,
+    pub told: u64,
+    pub marks: u64,
+}
+
+pub fn no_wait() -> Wait
+    ensures { λ r. ⌜ r ≡ noWait ⌝ }
+{
+    Wait { line: 0, marks: 0 }
+}
+
+fn is_unreadable(read: Read) -> bool
+    ensures { λ r. ⌜ r ≡ isUnreadable read ⌝ }
+{
+    match read {
+        Read::Reads(_) => false,
+        Read::Unreadable => true,
+    }
+}
+
+fn item_of(s: Live, kc: Kc, claims: Claims) -> Item
+    ensures { λ r. ⌜ r ≡ itemModel s kc claims ⌝ }
+{
+    let head = crate::open::read_of(s);
+    let span = claims.span;
+    let sums = claims.sums;
+    Item {
+        line: s.head.no,
+        head,
+        kc,
+        span,
+        sums,
+        s9: claims.s9,
+    }
+}
+
+// All marks of the open heading but 16, from those that the account gives.
+fn head_marks(s: Live, marks: u64) -> u64
+    requires { ⌜ marks < 2 ^ 39 ⌝ }
+    ensures { λ r. ⌜ (r ≡ headMarksOf s marks) × (r < 2 ^ 40) ⌝ }
+{
+    let read = crate::open::read_of(s);
+    crate::marking::own_marks(s.head.bad, s.head.ended) + flag(is_unreadable(read), 64) + marks
+}
+
+pub fn close_item(job: Job, b: Block, w: Wait, s: Live, kc: Kc, claims: Claims) -> Shut
+    requires { ⌜ w .marks < 2 ^ 40 ⌝ }
+    ensures { λ r. ⌜ (r ≡ closeModel job b w s kc claims) × (r .wait .marks < 2 ^ 40) × (r .told < 2 ^ 40) × (r .marks < 2 ^ 40) ⌝ }
+{
+    if !s.headed {
+        return Shut {
+            block: b,
+            wait: w,
+            told: 0,
+            marks: 0,
+        };
+    }
+    let any = b.any;
+    let item = item_of(s, kc, claims);
+    let head = item.head;
+    let c = blocks::account::advance(b, item, job);
+    let block = c.block;
+    let m = head_marks(s, c.marks);
+    if blocks::account::closes_block(head) {
+        let wait = no_wait();
+        return Shut {
+            block,
+            wait,
+            told: flag(any, w.marks),
+            marks: m,
+        };
+    }
+    if any {
+        return Shut {
+            block,
+            wait: w,
+            told: 0,
+            marks: m,
+        };
+    }
+    Shut {
+        block,
+        wait: Wait {
+            line: s.head.no,
+            marks: m,
+        },
+        told: 0,
+        marks: 0,
+    }
+}
+
+// At the file's end the one who waits has 16.
+pub fn last_marks(b: Block, w: Wait) -> u64
+    requires { ⌜ w .marks < 2 ^ 40 ⌝ }
+    ensures { λ r. ⌜ (r ≡ lastMarks b w) × (r < 2 ^ 41) ⌝ }
+{
+    flag(b.any, w.marks + 65536)
+}

@@ -1,0 +1,120 @@
+// The marks of lines: of a continuation or a line of no kind at once, of a field when it closes.
+use crate::Live;
+use crate::Low;
+use blocks::Job;
+use blocks::marks::flag;
+use fields::classes;
+use fields::readings::Reading;
+use headings::Read;
+ghost use mathlib.Core.Path.{_≡_};
+ghost use Prim.Native.Nat.{_<_, _≤_, _^_};
+ghost use Rattle.fields.specs.Tails.{isBroken};
+ghost use Rattle.items.specs.Fields.{failsCheck};
+ghost use Rattle.items.specs.State.{ownMarks, lowMarksOf, firstKc, lateBy, insideMarks, fieldMarksOf};
+ghost use Rattle.items.specs.Fields.{large};
+
+// 1 and 4.
+pub fn own_marks(bad: bool, ended: bool) -> u64
+    ensures { λ r. ⌜ (r ≡ ownMarks bad ended) × (r ≤ 18) ⌝ }
+{
+    flag(bad, 2) + flag(!ended, 16)
+}
+
+pub fn low_marks(s: Live, l: Low) -> u64
+    ensures { λ r. ⌜ r ≡ lowMarksOf s l ⌝ }
+{
+    own_marks(l.bad, l.ended) + flag(!(s.headed | s.fielded) | !l.continues, 4) + flag(!s.headed, 8)
+}
+
+fn is_broken(said: Reading) -> bool
+    ensures { λ r. ⌜ r ≡ isBroken said ⌝ }
+{
+    match said {
+        Reading::Broken => true,
+        Reading::Plain => false,
+        Reading::Paid(_, _) => false,
+        Reading::Span(_, _) => false,
+        Reading::Stated(_, _) => false,
+        Reading::Party(_) => false,
+    }
+}
+
+fn fails_check(said: Reading) -> bool
+    ensures { λ r. ⌜ r ≡ failsCheck said ⌝ }
+{
+    match said {
+        Reading::Party(holds) => !holds,
+        Reading::Broken => false,
+        Reading::Plain => false,
+        Reading::Paid(_, _) => false,
+        Reading::Span(_, _) => false,
+        Reading::Stated(_, _) => false,
+    }
+}
+
+fn is_late(job: Job, read: Read, said: Reading) -> bool
+    ensures { λ r. ⌜ r ≡ lateBy job read said ⌝ }
+{
+    match read {
+        Read::Unreadable => false,
+        Read::Reads(h) => match said {
+            Reading::Paid(_, day) => blocks::own_rules::breaks_eight(job, h.kind, day),
+            Reading::Broken => false,
+            Reading::Plain => false,
+            Reading::Span(_, _) => false,
+            Reading::Stated(_, _) => false,
+            Reading::Party(_) => false,
+        },
+    }
+}
+
+fn is_large(read: Read, said: Reading) -> bool
+    ensures { λ r. ⌜ r ≡ large read said ⌝ }
+{
+    match read {
+        Read::Unreadable => false,
+        Read::Reads(h) => match said {
+            Reading::Paid(amount, _) => blocks::own_rules::breaks_nine(h.kind, amount),
+            Reading::Broken => false,
+            Reading::Plain => false,
+            Reading::Span(_, _) => false,
+            Reading::Stated(_, _) => false,
+            Reading::Party(_) => false,
+        },
+    }
+}
+
+// Whether the open field is the item's first KC.
+fn is_first_kc(s: Live) -> bool
+    ensures { λ r. ⌜ r ≡ firstKc s ⌝ }
+{
+    let kc = s.kc;
+    (s.owner.ident == classes::KC) & blocks::own_rules::has_no_kc(kc)
+}
+
+// 5 to 9, for the open field of an item.
+fn inside_marks(job: Job, s: Live, said: Reading, again: bool) -> u64
+    ensures { λ r. ⌜ (r ≡ insideMarks job s said again) × (r < 1024) ⌝ }
+{
+    let read = crate::open::read_of(s);
+    let first = is_first_kc(s);
+    flag(again, 32)
+        + flag(is_broken(said), 64)
+        + flag(fails_check(said), 128)
+        + flag(first & is_late(job, read, said), 256)
+        + flag(first & is_large(read, said), 512)
+}
+
+// The marks of the open field, which closes; `again` says whether its identifier stood already in the item.
+pub fn field_marks(job: Job, s: Live, said: Reading, again: bool) -> u64
+    ensures { λ r. ⌜ r ≡ fieldMarksOf job s said again ⌝ }
+{
+    if !s.fielded {
+        return 0;
+    }
+    let own = own_marks(s.owner.bad, s.owner.ended);
+    if s.headed {
+        return own + inside_marks(job, s, said, again);
+    }
+    own + 8
+}

@@ -1,0 +1,80 @@
+-- What checking answers, by the tests in their order; and that two answers that meet its statement are equal.
+use Prim.Native.Nat.{ℕ, zero, suc, _≤_, _<_}
+use native.Mathlib.Nat.{not-suc-le-zero}
+use native.Mathlib.Omega.{arith}
+use mathlib.Core.Path.{_≡_, refl, sym, ap, _∙_}
+use mathlib.Core.Bool.{Bool, true, false, cond, not, _&&_}
+use mathlib.Core.List.{List, [], _∷_}
+use lib.Dec.{leb, ltb, eqb}
+use lib.ListN.{length, take}
+use borrow.Author.Tests.{not-true, not-false, lt-ltb, le-ltb, eq-eqb, ne-eqb}
+use Rattle.laws.specs.Refusals.{_if_, first}
+use Rattle.lines.specs.Lines.{body, hasMark, startsWithMark}
+use Rattle.lines.proofs.Body.{body-take, body-shorter, body-empty}
+use Rattle.ledger.specs.Faults.{Fault}
+use Rattle.ledger.specs.Slices.{Listed}
+use Rattle.ledger.specs.declared.Ledger.{Ledger}
+use Rattle.items.specs.Faults.{faults, faultsIn}
+use Rattle.listing.specs.declared.checking.Checked.{Checked}
+use Rattle.listing.specs.declared.checking.Checked.the-variants.{Total, BadCode, BadDay, TooLong, UnequalRooms, NoMark, StartsWithMark}
+use Rattle.listing.specs.Checking.{isCode, isAccountingDay, checkRefusals, checkedNumber, checkedOr, slicesAfter, Checks}
+
+module _ (file : List ℕ) (code day : ℕ) (ls rs : List ℕ) where
+  abbrev refusal : ℕ
+  refusal = first (checkRefusals file code day (length ls) (length rs))
+
+  -- a refusal leaves all as it was
+  refused : (r : Checked) → checkedNumber r ≡ refusal → eqb refusal 0 ≡ false → ((old : ℕ) → checkedOr r old ≡ old) → Checks file code day ls rs r ls rs
+  refused r e z t = record { number = e; total = λ old. rw z (t old); lines = rw z; rules = rw z }
+
+  pub bad-code : not (isCode code) ≡ true → Checks file code day ls rs BadCode ls rs
+  bad-code a = refused BadCode (rw a) (rw a) (λ old. refl)
+
+  module _ (a : not (isCode code) ≡ false) where
+    pub bad-day : not (isAccountingDay day) ≡ true → Checks file code day ls rs BadDay ls rs
+    bad-day b = refused BadDay (rw (a, b)) (rw (a, b)) (λ old. refl)
+
+    module _ (b : not (isAccountingDay day) ≡ false) where
+      pub too-long : 10000000 < length file → Checks file code day ls rs TooLong ls rs
+      too-long h = let c = lt-ltb 10000000 (length file) h in refused TooLong (rw (a, b, c)) (rw (a, b, c)) (λ old. refl)
+
+      module _ (h : length file ≤ 10000000) where
+        c : ltb 10000000 (length file) ≡ false
+        c = le-ltb 10000000 (length file) h
+
+        pub unequal-rooms : (length ls ≡ length rs → ⊥) → Checks file code day ls rs UnequalRooms ls rs
+        unequal-rooms n = let d = ne-eqb (length ls) (length rs) n in refused UnequalRooms (rw (a, b, c, d)) (rw (a, b, c, d)) (λ old. refl)
+
+        module _ (e : length ls ≡ length rs) where
+          d : eqb (length ls) (length rs) ≡ true
+          d = eq-eqb (length ls) (length rs) e
+
+          pub no-mark : (n : ℕ) → n ≡ length (body file) → length file ≤ n → Checks file code day ls rs NoMark ls rs
+          no-mark n q k =
+              let m : hasMark file ≡ false = sym (body-shorter file) ∙ le-ltb (length (body file)) (length file) (omega arith) in
+              refused NoMark (rw (a, b, c, d, m)) (rw (a, b, c, d, m)) (λ old. refl)
+
+          module _ (n : ℕ) (q : n ≡ length (body file)) (k : n < length file) where
+            m : hasMark file ≡ true
+            m = sym (body-shorter file) ∙ lt-ltb (length (body file)) (length file) (omega arith)
+
+            pub starts-with-mark : n ≡ 0 → Checks file code day ls rs StartsWithMark ls rs
+            starts-with-mark z =
+                let s : startsWithMark file ≡ true = body-empty file ∙ rw (eq-eqb (length (body file)) 0 (omega arith), m) in
+                refused StartsWithMark (rw (a, b, c, d, m, s)) (rw (a, b, c, d, m, s)) (λ old. refl)
+
+            pub body-is : take n file ≡ body file
+            body-is = rw q (body-take file)
+
+            pub checked : (n ≡ 0 → ⊥) → {g : Ledger} {ls′ rs′ : List ℕ} → Listed (faultsIn code day (take n file)) ls rs g ls′ rs′ → Checks file code day ls rs (Total (g .total)) ls′ rs′
+            unfolding faults
+            checked z {g} {ls′} {rs′} L =
+                let s : startsWithMark file ≡ false = body-empty file ∙ rw (ne-eqb (length (body file)) 0 (λ e. z (omega arith))) in
+                let o : refusal ≡ 0 = rw (a, b, c, d, m, s) in
+                let f : faultsIn code day (take n file) ≡ faultsIn code day (body file) = ap (faultsIn code day) body-is in
+                record {
+                  number = sym o;
+                  total = λ old. L .total ∙ ap length f ∙ (rw o refl);
+                  lines = L .lines ∙ rw (f, o);
+                  rules = L .rules ∙ rw (f, o);
+                }

@@ -1,0 +1,214 @@
+-- The pass over a body: what is run from here on gives what is declared of the whole.
+use mathlib.Core.Path.{_≡_, refl, sym, ap, _∙_, subst}
+use mathlib.Core.Bool.{Bool, false}
+use mathlib.Core.List.{List, [], _∷_, _++_}
+use Prim.Native.Nat.{ℕ, zero, suc, _+_, _*_, _≤_, _<_, _^_}
+use native.Mathlib.Numerals.{add-one}
+use native.Mathlib.Omega.{arith}
+use lib.Dec.{ltb}
+use lib.ListN.{length, drop, getD, set, replicate, length-append, length-replicate}
+use Rattle.lines.specs.Lines.{lines}
+use Rattle.lines.specs.Reading.{span, IsNext}
+use Rattle.lines.specs.declared.Found.{Found}
+use Rattle.lines.proofs.Lines.{lines-past}
+use Rattle.ledger.specs.Faults.{Fault, Entry, insertAll, marked}
+use Rattle.ledger.specs.Slices.{Ready, Entered, Listed}
+use Rattle.ledger.specs.declared.Ledger.{Ledger}
+use Rattle.ledger.proofs.Marks.{marked-few}
+use Rattle.ledger.proofs.Entries.{putAll, put, put-comm, in-line-order}
+use Rattle.ledger.proofs.Book.{Book, book-start, book-ready, book-more, book-listed}
+use Rattle.fields.specs.declared.readings.Reading.{Reading}
+use Rattle.blocks.specs.declared.Job.{Job}
+use Rattle.blocks.specs.declared.Kc.{Kc}
+use Rattle.blocks.specs.declared.Block.{Block}
+use Rattle.blocks.specs.Model.{jobOf}
+use Rattle.blocks.specs.Summary.{summary}
+use Rattle.items.specs.declared.Head.{Head}
+use Rattle.items.specs.declared.Field.{Field}
+use Rattle.items.specs.declared.Low.{Low}
+use Rattle.items.specs.declared.Line.{Line}
+use Rattle.items.specs.declared.Line.the-variants.{OfHead, OfField, OfLow}
+use Rattle.items.specs.declared.Live.{Live}
+use Rattle.items.specs.declared.Claims.{Claims}
+use Rattle.items.specs.declared.Wait.{Wait}
+use Rattle.items.specs.Rows.{Row, FieldRow, LowRow, Sorted, heading, field, low, sorted, rowsFrom}
+use Rattle.items.specs.Tree.{tree}
+use Rattle.items.specs.Faults.{declare, faultsIn}
+use Rattle.items.specs.Kept.{lineKept, headKept, fieldKept, lowKept}
+use Rattle.items.specs.State.{isClaim, quiet, saidOf, lowLive, kcAfter, fieldLive, headLive, noClaims, claimsAfter, lowMarksOf, fieldMarksOf, noWait, closeModel, lastMarks, fieldFaults, itemFaults}
+use Rattle.items.proofs.Ideal.{Open, start, push, out, final}
+use Rattle.items.proofs.Order.{run, emitted}
+use Rattle.items.proofs.Numbers.{lines-rise}
+use Rattle.items.proofs.Opened.{no-claims-is}
+use Rattle.items.proofs.Meant.{Meant, job, low-out, field-out, head-out, final-out, meant-low, meant-field, meant-head, ident-small}
+use Rattle.items.proofs.Told.{head-of, field-of, kept-low, kept-field, kept-head}
+
+-- what was entered, said in another way
+pub entered-list : {xs ys : List Fault} {g : Ledger} {ls rs : List ℕ} {g′ : Ledger} {ls′ rs′ : List ℕ} → xs ≡ ys → Entered xs g ls rs g′ ls′ rs′ → Entered ys g ls rs g′ ls′ rs′
+entered-list {g} {ls} {rs} {g′} {ls′} {rs′} e E = subst (λ (zs : List Fault). Entered zs g ls rs g′ ls′ rs′) e E
+
+-- what is entered when all that is open closes
+abbrev pub allFaults : Job → Live → Claims → Block → Wait → List ℕ → List Fault
+allFaults j s cl b w stood = fieldFaults j s (saidOf s) stood ++ itemFaults j b w s (kcAfter s (saidOf s)) (claimsAfter cl s (saidOf s))
+
+module _ (code today : ℕ) (s ls₀ rs₀ : List ℕ) where
+  -- at a place of the body, after n lines
+  pub record Walking (j : Job) (ls rs stood : List ℕ) (g : Ledger) (v : Live) (cl : Claims) (b : Block) (w : Wait) (at n : ℕ) : Type 0 where
+    pub pieces : Open
+    pub all : List Fault
+    pub job-is : j ≡ job code today
+    pub to : at ≤ length s
+    pub few : n ≤ at
+    pub meant : Meant code today pieces n v cl b w stood
+    pub book : Book all ls₀ rs₀ g ls rs
+    pub small : g .total ≤ 256 * n
+    pub calm : w .marks < 2 ^ 40
+    pub rest : run code today put pieces all (rowsFrom (suc n) (lines (drop at s))) ≡ faultsIn code today s
+
+-- the code counts n + 1 where the rows count suc n
+pub kept-at : {x : Line} (n : ℕ) (bytes : List ℕ) (e : Bool) → x ≡ lineKept (sorted (record { no = n + 1; bytes = bytes; ended = e })) → x ≡ lineKept (sorted (record { no = suc n; bytes = bytes; ended = e }))
+kept-at n bytes e q = q ∙ ap (λ (m : ℕ). lineKept (sorted (record { no = m; bytes = bytes; ended = e }))) (add-one n)
+
+-- a field that claims nothing leaves the claims as they are
+pub no-claim : (cl : Claims) (v : Live) (r : Reading) → isClaim v ≡ false → cl ≡ claimsAfter cl v r
+no-claim cl v r e = rw e
+
+meant-as : {code today : ℕ} {c : Open} {n : ℕ} {v v′ : Live} {cl cl′ : Claims} {b b′ : Block} {w w′ : Wait} {stood stood′ : List ℕ} → v′ ≡ v → cl′ ≡ cl → b′ ≡ b → w′ ≡ w → stood′ ≡ stood
+    → Meant code today c n v cl b w stood → Meant code today c n v′ cl′ b′ w′ stood′
+meant-as ev ec eb ew es M = rw (ev, ec, eb, ew, es) M
+
+zeros : (n k : ℕ) → _≡_ {A = ℕ} (getD (replicate n 0) k 0) 0
+zeros zero k = refl
+zeros (suc n) zero = refl
+zeros (suc n) (suc k) = zeros n k
+
+module _ (code today : ℕ) (s : List ℕ) where
+  pub walk-start : {ls rs stood : List ℕ} {j : Job} {g : Ledger} {v : Live} {cl : Claims} {b : Block} {w : Wait} → length ls ≡ length rs → j ≡ job code today
+      → v ≡ quiet → cl ≡ noClaims → b ≡ summary [] → w ≡ noWait → stood ≡ replicate 1296 0 → g ≡ record { kept = 0; total = 0 }
+      → Walking code today s ls rs j ls rs stood g v cl b w 0 0
+  unfolding faultsIn
+  walk-start {ls} {rs} {stood} {j} {g} {v} {cl} {b} {w} e ej ev ec eb ew es eg = record {
+    pieces = start;
+    all = [];
+    job-is = ej;
+    to = omega arith;
+    few = omega arith;
+    meant = record {
+      live-is = ev;
+      claims-are = ec ∙ no-claims-is;
+      account-is = eb;
+      wait-is = ew;
+      numbered = tt;
+      long = ap length es ∙ length-replicate {A = ℕ} 1296 0;
+      past = λ k. let z : getD stood k 0 ≡ 0 = ap (λ (l : List ℕ). getD l k 0) es ∙ zeros 1296 k in omega arith;
+      inside = tt;
+    };
+    book = book-start e eg;
+    small = rw eg (omega arith);
+    calm = rw ew (omega arith);
+    rest = emitted code today put put-comm [] (rowsFrom 1 (lines s)) ∙ in-line-order 1 (declare code today (tree (rowsFrom 1 (lines s)))) (lines-rise code today 1 (lines s));
+  }
+
+module _ {code today : ℕ} {s ls₀ rs₀ : List ℕ} {j : Job} {ls rs stood : List ℕ} {g : Ledger} {v : Live} {cl : Claims} {b : Block} {w : Wait} {at n : ℕ} (W : Walking code today s ls₀ rs₀ j ls rs stood g v cl b w at n) where
+  pub walk-ready : Ready (g .kept) ls rs
+  walk-ready = book-ready (W .book)
+
+  pub walk-ident : v .owner .ident < 1296
+  walk-ident = ident-small code today (W .pieces) n v cl b w stood (W .meant)
+
+  few-field : (x : Reading) → length (fieldFaults j v x stood) ≤ 64
+  few-field x = marked-few (v .owner .no) (fieldMarksOf j v x (ltb (v .head .no) (getD stood (v .owner .ident) 0)))
+
+  pub few-all : length (allFaults j v cl b w stood) ≤ 192
+  few-all =
+      let kc : Kc = kcAfter v (saidOf v) in
+      let ca : Claims = claimsAfter cl v (saidOf v) in
+      omega (
+        arith,
+        length-append (fieldFaults j v (saidOf v) stood) (itemFaults j b w v kc ca),
+        length-append (marked (w .line) (closeModel j b w v kc ca .told)) (marked (v .head .no) (closeModel j b w v kc ca .marks)),
+        few-field (saidOf v),
+        marked-few (w .line) (closeModel j b w v kc ca .told),
+        marked-few (v .head .no) (closeModel j b w v kc ca .marks),
+      )
+
+  -- one line, whatever it is
+  module _ {f : Found} (N : IsNext s at f) where
+    abbrev row : Row
+    row = record { no = suc n; bytes = span at (f .end) s; ended = f .ended }
+
+    walk-on : (z : Sorted) → sorted row ≡ z → (xs : List Fault) → putAll put (out code today (W .pieces) z) (W .all) ≡ insertAll xs (W .all)
+        → {v′ : Live} {cl′ : Claims} {b′ : Block} {w′ : Wait} {stood′ : List ℕ} → Meant code today (push (W .pieces) z) (suc n) v′ cl′ b′ w′ stood′
+        → {g′ : Ledger} {ls′ rs′ : List ℕ} → Entered xs g ls rs g′ ls′ rs′ → length xs ≤ 192 → w′ .marks < 2 ^ 40
+        → Walking code today s ls₀ rs₀ j ls′ rs′ stood′ g′ v′ cl′ b′ w′ (f .next) (n + 1)
+    unfolding rowsFrom
+    walk-on z ez xs eo {v′} {cl′} {b′} {w′} {stood′} M {g′} {ls′} {rs′} E few calm =
+        let er : rowsFrom (suc n) (lines (drop at s)) ≡ z ∷ rowsFrom (suc (suc n)) (lines (drop (f .next) s)) =
+        ap (rowsFrom (suc n)) (N .cut) ∙ ap (λ (y : Sorted). y ∷ rowsFrom (suc (suc n)) (lines (drop (f .next) s))) ez in
+        subst (λ (m : ℕ). Walking code today s ls₀ rs₀ j ls′ rs′ stood′ g′ v′ cl′ b′ w′ (f .next) m) (sym (add-one n)) (record {
+          pieces = push (W .pieces) z;
+          all = insertAll xs (W .all);
+          job-is = W .job-is;
+          to = N .within;
+          few = omega (arith, W .few, N .moves);
+          meant = M;
+          book = book-more (W .book) E;
+          small = omega (arith, W .small, E .sum);
+          calm = calm;
+          rest = ap (λ (l : List Fault). run code today put (push (W .pieces) z) l (rowsFrom (suc (suc n)) (lines (drop (f .next) s)))) (sym eo)
+              ∙ ap (run code today put (W .pieces) (W .all)) (sym er) ∙ W .rest;
+        })
+
+    module _ {x : Line} (ex : x ≡ lineKept (sorted row)) where
+      pub walk-low : (l : Low) → x ≡ OfLow l → {v′ : Live} → v′ ≡ lowLive v l → {m : ℕ} → m ≡ lowMarksOf v l → {g′ : Ledger} {ls′ rs′ : List ℕ} → Entered (marked (l .no) m) g ls rs g′ ls′ rs′
+          → Walking code today s ls₀ rs₀ j ls′ rs′ stood g′ v′ cl b w (f .next) (n + 1)
+      walk-low l e {v′} ev {m} em {g′} {ls′} {rs′} E =
+          let k = kept-low (sorted row) l (sym ex ∙ e) in
+          walk-on (low (k .0)) (k .1) (marked (l .no) m)
+          (low-out code today (W .pieces) n v cl b w stood (W .meant) (k .0) (W .all) ∙ (λ i. insertAll (marked (k .2 i .no) (lowMarksOf v (k .2 i))) (W .all)) ∙ ap (λ (t : ℕ). insertAll (marked (l .no) t) (W .all)) (sym em))
+          (meant-as (ev ∙ ap (lowLive v) (sym (k .2))) refl refl refl refl (meant-low code today (W .pieces) n v cl b w stood (W .meant) (k .0))) E (omega (arith, marked-few (l .no) m)) (W .calm)
+
+      pub walk-field : (y : Field) → x ≡ OfField y → {said : Reading} → said ≡ saidOf v → {kc : Kc} → kc ≡ kcAfter v said → {v′ : Live} → v′ ≡ fieldLive v kc y
+          → {cl′ : Claims} → cl′ ≡ claimsAfter cl v said → {stood′ : List ℕ} → stood′ ≡ set stood (v .owner .ident) (v .owner .no)
+          → {g′ : Ledger} {ls′ rs′ : List ℕ} → Entered (fieldFaults j v said stood) g ls rs g′ ls′ rs′
+          → Walking code today s ls₀ rs₀ j ls′ rs′ stood′ g′ v′ cl′ b w (f .next) (n + 1)
+      walk-field y e {said} es {kc} ek {v′} ev {cl′} ec {stood′} et E =
+          let k = kept-field (sorted row) y (sym ex ∙ e) in
+          let q = field-of row (k .0) (k .1) in
+          walk-on (field (k .0)) (k .1) (fieldFaults j v said stood)
+          (field-out code today (W .pieces) n v cl b w stood (W .meant) (k .0) (W .all) ∙ sym (λ i. insertAll (fieldFaults (W .job-is i) v (es i) stood) (W .all)))
+          (meant-as (ev ∙ (λ i. fieldLive v ((ek ∙ ap (kcAfter v) es) i) (sym (k .2) i))) (ec ∙ ap (claimsAfter cl v) es) refl refl et
+          (meant-field code today (W .pieces) n v cl b w stood (W .meant) (k .0) (q .0) (q .1))) E (omega (arith, few-field said)) (W .calm)
+
+      pub walk-head : (k : Head) → x ≡ OfHead k → {v′ : Live} → v′ ≡ headLive k → {cl′ : Claims} → cl′ ≡ noClaims
+          → {stood′ : List ℕ} → stood′ ≡ set stood (v .owner .ident) (v .owner .no)
+          → {b′ : Block} → b′ ≡ closeModel j b w v (kcAfter v (saidOf v)) (claimsAfter cl v (saidOf v)) .block
+          → {w′ : Wait} → w′ ≡ closeModel j b w v (kcAfter v (saidOf v)) (claimsAfter cl v (saidOf v)) .wait → w′ .marks < 2 ^ 40
+          → {g′ : Ledger} {ls′ rs′ : List ℕ} → Entered (allFaults j v cl b w stood) g ls rs g′ ls′ rs′
+          → Walking code today s ls₀ rs₀ j ls′ rs′ stood′ g′ v′ cl′ b′ w′ (f .next) (n + 1)
+      walk-head k e {v′} ev {cl′} ec {stood′} et {b′} eb {w′} ew calm E =
+          let h = kept-head (sorted row) k (sym ex ∙ e) in
+          walk-on (heading (h .0)) (h .1) (allFaults j v cl b w stood)
+          (head-out code today (W .pieces) n v cl b w stood (W .meant) (h .0) (W .all) ∙ sym (λ i. insertAll (allFaults (W .job-is i) v cl b w stood) (W .all)))
+          (meant-as (ev ∙ ap headLive (sym (h .2))) ec
+          (eb ∙ (λ i. closeModel (W .job-is i) b w v (kcAfter v (saidOf v)) (claimsAfter cl v (saidOf v)) .block))
+          (ew ∙ (λ i. closeModel (W .job-is i) b w v (kcAfter v (saidOf v)) (claimsAfter cl v (saidOf v)) .wait)) et
+          (meant-head code today (W .pieces) n v cl b w stood (W .meant) (h .0) (head-of row (h .0) (h .1)))) E few-all calm
+
+  -- the end
+  pub walk-end : length s ≤ at → {b′ : Block} → b′ ≡ closeModel j b w v (kcAfter v (saidOf v)) (claimsAfter cl v (saidOf v)) .block
+      → {w′ : Wait} → w′ ≡ closeModel j b w v (kcAfter v (saidOf v)) (claimsAfter cl v (saidOf v)) .wait
+      → {g₁ : Ledger} {ls₁ rs₁ : List ℕ} → Entered (allFaults j v cl b w stood) g ls rs g₁ ls₁ rs₁
+      → {m : ℕ} → m ≡ lastMarks b′ w′ → {g₂ : Ledger} {ls₂ rs₂ : List ℕ} → Entered (marked (w′ .line) m) g₁ ls₁ rs₁ g₂ ls₂ rs₂ → Listed (faultsIn code today s) ls₀ rs₀ g₂ ls₂ rs₂
+  unfolding rowsFrom
+  walk-end h {b′} eb {w′} ew {g₁} {ls₁} {rs₁} E {m} em {g₂} {ls₂} {rs₂} F =
+      let xs : List Fault = allFaults j v cl b w stood in
+      let done : putAll put (final code today (W .pieces)) (W .all) ≡ faultsIn code today s =
+      ap (λ (z : List Sorted). run code today put (W .pieces) (W .all) z) (sym (ap (rowsFrom (suc n)) (lines-past s at h))) ∙ W .rest in
+      let ends : putAll put (final code today (W .pieces)) (W .all) ≡ insertAll (marked (w′ .line) m) (insertAll xs (W .all)) =
+      final-out code today (W .pieces) n v cl b w stood (W .meant) (W .all)
+      ∙ sym (λ i. let d = closeModel (W .job-is i) b w v (kcAfter v (saidOf v)) (claimsAfter cl v (saidOf v)) in
+      insertAll (marked (d .wait .line) (lastMarks (d .block) (d .wait))) (insertAll (allFaults (W .job-is i) v cl b w stood) (W .all)))
+      ∙ sym (λ i. insertAll (marked (ew i .line) (lastMarks (eb i) (ew i))) (insertAll xs (W .all)))
+      ∙ sym (λ i. insertAll (marked (w′ .line) (em i)) (insertAll xs (W .all))) in
+      book-listed (subst (λ (l : List Fault). Book l ls₀ rs₀ g₂ ls₂ rs₂) (sym ends ∙ done) (book-more (book-more (W .book) E) F))

@@ -1,0 +1,47 @@
+use mathlib.Core.Path.{_≡_, ap, sym, _∙_}
+use native.Mathlib.Omega.{arith}
+use Prim.Native.Nat.{ℕ}
+use mathlib.Core.Bool.{Bool}
+use Rattle.ledger.specs.Faults.{marked}
+use Rattle.ledger.proofs.Marks.{marked-few}
+use Rattle.ledger.proofs.Entering.{entered-both}
+use Rattle.listing.proofs.Walk.{entered-list}
+use Rattle.items.specs.declared.closing.Shut.{Shut}
+use borrow.Author.Needs.{needs}
+use Rattle.listing.proofs.pass.shut_item.Statement.{statement}
+use Rattle.listing.proofs.pass.shut_item.Tie as tie
+
+close-item-requires : tie.Need-close-item-requires
+close-item-requires c κs = search needs
+
+enter-requires : tie.Need-enter-requires
+enter-requires c κs = search needs
+
+enter-requires-2 : tie.Need-enter-requires-2
+enter-requires-2 c κs = search needs
+
+same-length : tie.Need-same-length
+same-length c = search needs
+
+same-length-2 : tie.Need-same-length-2
+same-length-2 c = search needs
+
+returns : tie.Need-returns
+returns c =
+    let a = c .before .before .before .before .before .before .before .before .before .before .before .before .before .before .before .before .before .before .before .args in
+    let e = c .before .before .before .before .before .before .before .before .before .before .before .before .before .before .before .before .close-item .ensures .0 in (
+      entered-both (c .before .before .before .before .before .before .before .before .before .before .before .before .before .before .before .before .before .before .before .pre .0) (entered-list (ap (λ (x : Shut). marked (a .w .line) (x .told)) e) (c .before .before .before .before .before .before .before .before .before .before .before .enter .ensures .0))
+          (entered-list (ap (λ (x : Shut). marked (a .s .head .no) (x .marks)) e) (c .before .before .before .before .enter2 .ensures .0)),
+      (ap (λ (x : Shut). x .block) e, ap (λ (x : Shut). x .wait) e, c .before .before .before .before .before .before .before .before .before .before .before .before .before .before .before .before .close-item .ensures .1),
+    )
+
+pub shut-item-spec : {M : Type 1} → statement M
+shut-item-spec =
+    tie.close
+    (tie.spec
+    close-item-requires
+    enter-requires
+    enter-requires-2
+    same-length
+    same-length-2
+    returns)

@@ -1,0 +1,63 @@
+-- Checking (document 01, 'The jobs at the counter'): its refusals in their order, and what it answers and leaves in the lent slices.
+use Prim.Native.Nat.{ℕ}
+use mathlib.Core.Path.{_≡_}
+use mathlib.Core.Bool.{Bool, cond, not, _&&_}
+use mathlib.Core.List.{List, [], _∷_}
+use lib.Dec.{leb, ltb, eqb}
+use lib.ListN.{length}
+use Rattle.laws.specs.Refusals.{Refusal, _if_, first}
+use Rattle.text.specs.Days.{isReal}
+use Rattle.lines.specs.Lines.{hasMark, startsWithMark}
+use Rattle.ledger.specs.Faults.{Fault}
+use Rattle.ledger.specs.Slices.{written}
+use Rattle.items.specs.Faults.{faults}
+use Rattle.listing.specs.declared.checking.Checked.{Checked}
+use Rattle.listing.specs.declared.checking.Checked.the-variants.{Total, BadCode, BadDay, TooLong, UnequalRooms, NoMark, StartsWithMark}
+
+abbrev pub isCode : ℕ → Bool
+isCode code = leb 1 code && leb code 9999
+
+-- 'a real day from 20000101 to 20991231'
+abbrev pub isAccountingDay : ℕ → Bool
+isAccountingDay day = isReal day && (leb 20000101 day && leb day 20991231)
+
+-- of a file, the code, the day, and the lengths of the two slices
+abbrev pub checkRefusals : List ℕ → ℕ → ℕ → ℕ → ℕ → List Refusal
+checkRefusals file code day m n =
+    (1 if not (isCode code)) ∷
+    (2 if not (isAccountingDay day)) ∷
+    (3 if ltb 10000000 (length file)) ∷
+    (4 if not (eqb m n)) ∷
+    (5 if not (hasMark file)) ∷
+    (6 if startsWithMark file) ∷ []
+
+-- document 01's number for each answer
+abbrev pub checkedNumber : Checked → ℕ
+checkedNumber (Total t) = 0
+checkedNumber BadCode = 1
+checkedNumber BadDay = 2
+checkedNumber TooLong = 3
+checkedNumber UnequalRooms = 4
+checkedNumber NoMark = 5
+checkedNumber StartsWithMark = 6
+
+-- its total, or another number where it is a refusal: 'a refusal returns its number, no total'
+abbrev pub checkedOr : Checked → ℕ → ℕ
+checkedOr (Total t) old = t
+checkedOr BadCode old = old
+checkedOr BadDay old = old
+checkedOr TooLong old = old
+checkedOr UnequalRooms old = old
+checkedOr NoMark old = old
+checkedOr StartsWithMark old = old
+
+-- what a lent slice holds after: the first numbers that fit, then what it held; on a refusal what it held
+abbrev pub slicesAfter : ℕ → (Fault → ℕ) → List Fault → List ℕ → List ℕ
+slicesAfter refusal part all before = cond (eqb refusal 0) (written part all before) before
+
+-- what checking answers, and the two slices after
+pub record Checks (file : List ℕ) (code day : ℕ) (ls₀ rs₀ : List ℕ) (r : Checked) (ls rs : List ℕ) : Type 0 where
+  pub number : checkedNumber r ≡ first (checkRefusals file code day (length ls₀) (length rs₀))
+  pub total : (old : ℕ) → checkedOr r old ≡ cond (eqb (first (checkRefusals file code day (length ls₀) (length rs₀))) 0) (length (faults code day file)) old
+  pub lines : ls ≡ slicesAfter (first (checkRefusals file code day (length ls₀) (length rs₀))) (λ (f : Fault). f .line) (faults code day file) ls₀
+  pub rules : rs ≡ slicesAfter (first (checkRefusals file code day (length ls₀) (length rs₀))) (λ (f : Fault). f .rule) (faults code day file) rs₀

@@ -1,0 +1,172 @@
+// One forward pass over the lines of a body: nothing is looked at twice, and nothing ahead. A field is entered when the next heading or
+// field comes, a heading when the next heading comes, and the first heading of a block when the block ends or the file does.
+use blocks::Block;
+use blocks::Job;
+use blocks::Kc;
+use fields::readings::Reading;
+use headings::Code;
+use items::Claims;
+use items::Line;
+use items::Live;
+use items::Wait;
+use items::claiming;
+use items::closing;
+use items::marking;
+use items::open;
+use ledger::Ledger;
+ghost use mathlib.Core.Path.{_≡_};
+ghost use mathlib.Core.List.{_++_};
+ghost use Prim.Native.Nat.{_≤_, _<_, _^_};
+ghost use lib.Dec.{ltb};
+ghost use lib.ListN.{length, getD, set, replicate};
+ghost use Rattle.ledger.specs.Slices.{Ready, Entered, Listed};
+ghost use Rattle.items.specs.State.{saidOf, kcAfter, claimsAfter, fieldFaults, itemFaults, closeModel};
+ghost use Rattle.items.specs.Faults.{faultsIn};
+
+// No identifier stood.
+fn unseen() -> [u32; 1296]
+    ensures { λ r. ⌜ r ≡ replicate 1296 0 ⌝ }
+{
+    [0; 1296]
+}
+
+// Whether an identifier stood since a line; from now on it last stood at `no`. So nothing is cleared when an item ends.
+fn again(stood: &mut [u32; 1296], ident: usize, no: u32, since: u32) -> bool
+    requires { ⌜ ident < 1296 ⌝ }
+    ensures { λ r. ⌜ r ≡ ltb since (getD (now (stood .entry)) ident 0) ⌝ }
+    ensures { λ _. ⌜ now (stood .exit) ≡ set (now (stood .entry)) ident no ⌝ }
+{
+    let last = stood[ident];
+    stood[ident] = no;
+    since < last
+}
+
+// The open field closes.
+fn shut_field(
+    lines: &mut [u32],
+    rules: &mut [u32],
+    stood: &mut [u32; 1296],
+    g: Ledger,
+    job: Job,
+    s: Live,
+    said: Reading,
+) -> Ledger
+    requires { ⌜ Ready (g .kept) (now lines) (now rules) ⌝ }
+    requires { ⌜ (g .total < 2 ^ 62) × (s .owner .ident < 1296) ⌝ }
+    ensures { λ r. ⌜ Entered (fieldFaults job s said (now (stood .entry))) g (now (lines .entry)) (now (rules .entry)) r (now (lines .exit)) (now (rules .exit)) ⌝ }
+    ensures { λ _. ⌜ now (stood .exit) ≡ set (now (stood .entry)) (s .owner .ident) (s .owner .no) ⌝ }
+{
+    let stands = again(stood, s.owner.ident, s.owner.no, s.head.no);
+    let marks = marking::field_marks(job, s, said, stands);
+    ledger::enter(lines, rules, g, s.owner.no, marks)
+}
+
+pub struct Closed {
+    pub ledger: Ledger,
+    pub block: Block,
+    pub wait: Wait,
+}
+
+// The open item closes.
+fn shut_item(
+    lines: &mut [u32],
+    rules: &mut [u32],
+    g: Ledger,
+    job: Job,
+    s: Live,
+    kc: Kc,
+    claims: Claims,
+    b: Block,
+    w: Wait,
+) -> Closed
+    requires { ⌜ Ready (g .kept) (now lines) (now rules) ⌝ }
+    requires { ⌜ (g .total < 2 ^ 62) × (w .marks < 2 ^ 40) ⌝ }
+    ensures { λ r. ⌜ Entered (itemFaults job b w s kc claims) g (now (lines .entry)) (now (rules .entry)) (r .ledger) (now (lines .exit)) (now (rules .exit)) ⌝ }
+    ensures { λ r. ⌜ (r .block ≡ closeModel job b w s kc claims .block) × (r .wait ≡ closeModel job b w s kc claims .wait) × (r .wait .marks < 2 ^ 40) ⌝ }
+{
+    let c = closing::close_item(job, b, w, s, kc, claims);
+    let block = c.block;
+    let wait = c.wait;
+    let first = ledger::enter(lines, rules, g, w.line, c.told);
+    let ledger = ledger::enter(lines, rules, first, s.head.no, c.marks);
+    Closed {
+        ledger,
+        block,
+        wait,
+    }
+}
+
+// All that is open closes.
+fn shut_all(
+    lines: &mut [u32],
+    rules: &mut [u32],
+    stood: &mut [u32; 1296],
+    g: Ledger,
+    job: Job,
+    s: Live,
+    claims: Claims,
+    b: Block,
+    w: Wait,
+) -> Closed
+    requires { ⌜ Ready (g .kept) (now lines) (now rules) ⌝ }
+    requires { ⌜ (g .total < 2 ^ 61) × (s .owner .ident < 1296) × (w .marks < 2 ^ 40) ⌝ }
+    ensures { λ r. ⌜ Entered (fieldFaults job s (saidOf s) (now (stood .entry)) ++ itemFaults job b w s (kcAfter s (saidOf s)) (claimsAfter claims s (saidOf s))) g (now (lines .entry)) (now (rules .entry)) (r .ledger) (now (lines .exit)) (now (rules .exit)) ⌝ }
+    ensures { λ _. ⌜ now (stood .exit) ≡ set (now (stood .entry)) (s .owner .ident) (s .owner .no) ⌝ }
+    ensures { λ r. ⌜ (r .block ≡ closeModel job b w s (kcAfter s (saidOf s)) (claimsAfter claims s (saidOf s)) .block) × (r .wait ≡ closeModel job b w s (kcAfter s (saidOf s)) (claimsAfter claims s (saidOf s)) .wait) × (r .wait .marks < 2 ^ 40) ⌝ }
+{
+    let said = open::said_of(s);
+    let g1 = shut_field(lines, rules, stood, g, job, s, said);
+    let kc = open::kc_after(s, said);
+    let all = claiming::claims_after(claims, s, said);
+    shut_item(lines, rules, g1, job, s, kc, all, b, w)
+}
+
+// Enters the faults of a body, for the submitter's code and the accounting day.
+pub fn enter_faults(s: &[u8], code: u32, day: u32, lines: &mut [u32], rules: &mut [u32]) -> Ledger
+    requires { ⌜ length (now s) ≤ 10000000 ⌝ }
+    requires { ⌜ length (now lines) ≡ length (now rules) ⌝ }
+    ensures { λ r. ⌜ Listed (faultsIn code day (now (s .entry))) (now (lines .entry)) (now (rules .entry)) r (now (lines .exit)) (now (rules .exit)) ⌝ }
+{
+    let job = blocks::own_rules::job_of(Code(code), day);
+    let table = text::characters::table();
+    let mut stood = unseen();
+    let mut g = ledger::empty();
+    let mut live = open::start();
+    let mut claims = claiming::no_claims();
+    let mut block = blocks::account::start();
+    let mut wait = closing::no_wait();
+    let mut at = 0;
+    let mut n: u32 = 0;
+    while at < s.len() {
+        let f = lines::line_from(s, at);
+        let end = f.end;
+        n += 1;
+        let x = items::rows::line_kept(&table, &s[at..end], n, f.ended);
+        at = f.next;
+        match x {
+            Line::OfLow(l) => {
+                g = ledger::enter(lines, rules, g, l.no, marking::low_marks(live, l));
+                live = open::with_low(live, l);
+            }
+            Line::OfField(y) => {
+                let said = open::said_of(live);
+                g = shut_field(lines, rules, &mut stood, g, job, live, said);
+                if claiming::is_claim(live) {
+                    claims = claiming::claims_after(claims, live, said);
+                }
+                live = open::with_field(live, open::kc_after(live, said), y);
+            }
+            Line::OfHead(k) => {
+                let t = shut_all(lines, rules, &mut stood, g, job, live, claims, block, wait);
+                g = t.ledger;
+                block = t.block;
+                wait = t.wait;
+                claims = claiming::no_claims();
+                live = open::with_head(k);
+            }
+        }
+    }
+    let t = shut_all(lines, rules, &mut stood, g, job, live, claims, block, wait);
+    let last = closing::last_marks(t.block, t.wait);
+    ledger::enter(lines, rules, t.ledger, t.wait.line, last)
+}

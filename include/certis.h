@@ -1,0 +1,107 @@
+/* certis.h: the proved CERTIS library for hosts in C.
+ *
+ * The rules, the refusals and their numbers are those of document 01. Every
+ * function returns 0, or the number of the refusal. A refusal leaves everything
+ * behind the pointers as it stood. No function keeps a pointer, allocates,
+ * fails in any other way or runs for ever; calls from several threads do not
+ * disturb each other.
+ *
+ * What a caller owes, for every function:
+ *   - each pointer is not null and properly aligned;
+ *   - behind a pointer with a length stand that many elements (a length of 0 is
+ *     fine: nothing is then read or written there);
+ *   - behind a pointer without a length stands one element;
+ *   - no region that is written overlaps any other region given.
+ * Nothing is asked of the values: every byte, number and length has an answer.
+ */
+
+#ifndef CERTIS_H
+#define CERTIS_H
+
+#include <stdbool.h>
+#include <stddef.h>
+#include <stdint.h>
+
+#ifdef __cplusplus
+extern "C" {
+#endif
+
+/* Checking, for the total alone.
+ *
+ * Checks an input file for the submitter's code and the accounting day (a
+ * number of eight digits, YYYYMMDD). Returns 0 and sets *total to the number of
+ * pairs of a line and a rule broken there; it is 0 exactly when no rule is
+ * broken anywhere in the file. Only bytes before the first 1A are judged.
+ *
+ * Refusals, the first that applies:
+ *   1  the code is not 1 to 9999
+ *   2  the day is not a real day from 20000101 to 20991231
+ *   3  the file has more than 10,000,000 bytes, those after the 1A included
+ *   5  there is no byte 1A in the file
+ *   6  the first byte of the file is 1A
+ */
+uint32_t certis_total(const uint8_t *file, size_t file_len,
+                      uint32_t code, uint32_t day,
+                      uint64_t *total);
+
+/* Checking, with the list.
+ *
+ * As certis_total, and writes the faults: lines[i] is the number of a line,
+ * counted from 1, and rules[i] a rule broken there; each pair stands once, by
+ * line and then by rule. Where there are more faults than room, the first ones
+ * that fit are written; *total is the true total all the same. Places after the
+ * last pair keep what they held.
+ *
+ * Refusals, the first that applies:
+ *   1  the code is not 1 to 9999
+ *   2  the day is not a real day from 20000101 to 20991231
+ *   3  the file has more than 10,000,000 bytes, those after the 1A included
+ *   4  lines_len and rules_len differ
+ *   5  there is no byte 1A in the file
+ *   6  the first byte of the file is 1A
+ */
+uint32_t certis_check(const uint8_t *file, size_t file_len,
+                      uint32_t code, uint32_t day,
+                      uint32_t *lines, size_t lines_len,
+                      uint32_t *rules, size_t rules_len,
+                      uint64_t *total);
+
+/* Deriving an outgoing heading.
+ *
+ * Takes the text of an input heading, its outcome and an output number, and
+ * writes the outgoing heading into the first 54 bytes of target; a longer
+ * target keeps its other bytes. Outcomes: 1 beneficiary, payment made;
+ * 2 beneficiary, no funds; 3 payer, payment made; 4 payer, no funds; 5 sender,
+ * payment made; 6 sender, no funds; 7 formal error.
+ *
+ * Refusals, the first that applies:
+ *   11  the text is not 54 bytes in the layout of a heading
+ *   12  it is a 51, or breaks rule 10, 13 or 14
+ *   13  the outcome is not 1 to 7
+ *   14  the table of outgoing types has no entry for the type and the outcome
+ *   15  the output number is not in the class of the input type: 1 to 5,000,000;
+ *       for 01, 21 and 45 5,000,001 to 9,000,000; for 44 9,000,001 to 9,999,999
+ *   16  the target has fewer than 54 bytes
+ */
+uint32_t certis_derive(const uint8_t *heading, size_t heading_len,
+                       uint32_t outcome, uint32_t number,
+                       uint8_t *target, size_t target_len);
+
+/* The account check.
+ *
+ * Takes both parts of an account number as digits and sets *good to whether
+ * both hold: each part is secured by modulo 11, and the second is not zero. An
+ * empty first part holds.
+ *
+ * Refusal:
+ *   10  the first part is not 0 to 6 digits, or the second not 1 to 10
+ */
+uint32_t certis_account(const uint8_t *prefix, size_t prefix_len,
+                        const uint8_t *number, size_t number_len,
+                        bool *good);
+
+#ifdef __cplusplus
+}
+#endif
+
+#endif

@@ -1,0 +1,212 @@
+//! How fast the proved library is, in one run beside the second program, a
+//! plain copy and a search for one byte: best of interleaved rounds.
+//!
+//! The lent memory is made once and not cleared between calls. Goals stand
+//! beside the numbers; missing one is told but is not an error.
+
+#![deny(unsafe_code)]
+
+mod clock;
+#[path = "../../face.rs"]
+#[allow(unsafe_code)]
+mod face;
+
+use std::env;
+use std::hint::black_box;
+
+use clock::{Contestant, race, ratio};
+use second::account;
+use second::check;
+use second::derive;
+use second::samples::dice::Dice;
+use second::samples::{Job, Sample, large};
+
+const ROOM: usize = 256;
+const CALLS: u32 = 100_000;
+
+fn main() {
+    let rounds = env::args().nth(1).and_then(|word| word.parse().ok()).unwrap_or(11);
+    println!("{}, best of {rounds} interleaved rounds", clock::name());
+    println!("lent memory is not cleared between calls");
+    let clean = large::clean_of(&mut Dice::new(1), large::MOST);
+    let mut missed = clean_file(clean.job(), rounds);
+    small_calls(rounds);
+    missed += growth(clean.job(), rounds);
+    missed += worst_files(clean.job(), rounds);
+    println!("\ngoals missed: {missed}");
+}
+
+/// Prints a ratio beside its goal; 1 if the goal is missed.
+fn judge(name: &str, time: &str, ratio: f64, goal: Option<f64>) -> u32 {
+    let is_missed = goal.is_some_and(|goal| ratio > goal);
+    let goal = match goal {
+        None => String::new(),
+        Some(goal) => format!("at most {goal:5.2}  {}", if is_missed { "MISSED" } else { "met" }),
+    };
+    println!("  {name:44} {time:>16} {ratio:9.3}  {goal}");
+    u32::from(is_missed)
+}
+
+fn header(title: &str, time: &str, ratio: &str) {
+    println!("\n{title}");
+    println!("  {:44} {time:>16} {ratio:>9}  goal", "");
+}
+
+fn library_check(Job { code, day, file }: Job, lines: &mut [u32], rules: &mut [u32]) {
+    let mut total = 0;
+    let answer = face::check(black_box(file), code, day, lines, rules, &mut total);
+    assert_eq!(answer, 0);
+    black_box(total);
+}
+
+fn library_total(Job { code, day, file }: Job) {
+    let mut total = 0;
+    black_box(face::total(black_box(file), code, day, &mut total));
+    black_box(total);
+}
+
+fn second_check(Job { code, day, file }: Job, lines: &mut [u32], rules: &mut [u32]) {
+    let answer = check::check(black_box(file), code, day, lines, rules);
+    black_box(answer.expect("not refused"));
+}
+
+fn per_byte(contestant: &Contestant, file: &[u8]) -> String {
+    format!("{:.3} ns/byte", contestant.best.as_nanos() as f64 / file.len() as f64)
+}
+
+/// The proved check on a clean file against everything else.
+fn clean_file(job: Job, rounds: u32) -> u32 {
+    let (mut lines, mut rules) = ([0; ROOM], [0; ROOM]);
+    let (mut lines2, mut rules2) = ([0; ROOM], [0; ROOM]);
+    let mut target = vec![1; job.file.len()];
+    let mut all = [
+        Contestant::new("proved check", || library_check(job, &mut lines, &mut rules)),
+        Contestant::new("second program's check", || second_check(job, &mut lines2, &mut rules2)),
+        Contestant::new("plain copy", || {
+            black_box(&mut target).copy_from_slice(black_box(job.file))
+        }),
+        Contestant::new("search for one byte (the mark, at the end)", || {
+            black_box(black_box(job.file).contains(&0x1a));
+        }),
+        Contestant::new("proved total alone", || library_total(job)),
+    ];
+    race(&mut all, rounds);
+    header(&format!("a clean file of {} bytes, room {ROOM}", job.file.len()), "time", "proved/it");
+    let proved = all[0].best;
+    let goals = [None, Some(0.6), Some(12.0), None, None];
+    let rows = all.iter().zip(goals);
+    rows.map(|(it, goal)| judge(&it.name, &per_byte(it, job.file), ratio(proved, it.best), goal))
+        .sum()
+}
+
+/// Deriving and the account check, a hundred thousand calls at a time.
+fn small_calls(rounds: u32) {
+    let headings = [
+        &b"HD:12 20240304 0000300 0000017 0000710 0000000 0000000"[..],
+        b"HD:35 20240304 0000990 0000001 0000300 0000000 0000710",
+        b"HD:11 20240304 0000301 0000001 0000710 0000000 0000000",
+    ];
+    let accounts = [(&b""[..], &b"2000145399"[..]), (b"19", b"2000145398"), (b"000019", b"19")];
+    let of = |call: u32| call as usize % 3;
+    let (mut target, mut target2) = ([0; 54], [0; 54]);
+    let mut all = [
+        Contestant::new("deriving, proved", || {
+            for call in 0..CALLS {
+                black_box(face::derive(
+                    black_box(headings[of(call)]),
+                    7,
+                    42,
+                    black_box(&mut target),
+                ));
+            }
+        }),
+        Contestant::new("deriving, second program", || {
+            for call in 0..CALLS {
+                let answer =
+                    derive::derive(black_box(headings[of(call)]), 7, 42, black_box(&mut target2));
+                black_box(answer.is_ok());
+            }
+        }),
+        Contestant::new("account check, proved", || {
+            for call in 0..CALLS {
+                let (prefix, number) = black_box(accounts[of(call)]);
+                black_box(face::account(prefix, number, black_box(&mut false)));
+            }
+        }),
+        Contestant::new("account check, second program", || {
+            for call in 0..CALLS {
+                let (prefix, number) = black_box(accounts[of(call)]);
+                black_box(account::check(prefix, number).is_ok());
+            }
+        }),
+    ];
+    race(&mut all, rounds);
+    header("single calls", "time", "proved/it");
+    for (place, it) in all.iter().enumerate() {
+        let time = format!("{:.1} ns", it.best.as_nanos() as f64 / f64::from(CALLS));
+        judge(&it.name, &time, ratio(all[place / 2 * 2].best, it.best), None);
+    }
+}
+
+/// Ten times the bytes: how many times the time.
+fn growth(clean: Job, rounds: u32) -> u32 {
+    let small = large::clean_of(&mut Dice::new(1), large::MOST / 10);
+    let jobs = [small.job(), clean];
+    let mut rooms = jobs.map(|_| ([0; ROOM], [0; ROOM]));
+    let mut all: Vec<Contestant> = jobs
+        .iter()
+        .zip(&mut rooms)
+        .map(|(job, (lines, rules))| {
+            let name = format!("clean file of {} bytes", job.file.len());
+            Contestant::new(&name, || library_check(*job, lines, rules))
+        })
+        .collect();
+    race(&mut all, rounds * 3);
+    header("growth", "time", "it/first");
+    let times = ratio(all[1].best, all[0].best);
+    let bytes = clean.file.len() as f64 / small.file.len() as f64;
+    judge(&all[0].name, &per_byte(&all[0], &small.file), 1.0, None);
+    // The files are not exactly ten to one.
+    judge(&all[1].name, &per_byte(&all[1], clean.file), times * 10.0 / bytes, Some(11.0))
+}
+
+/// The files that could be worst, per byte beside the clean one.
+fn worst_files(clean: Job, rounds: u32) -> u32 {
+    let worst: [(&str, Sample, usize); 10] = [
+        ("every line broken", large::every_line_broken(large::MOST), ROOM),
+        ("every line broken, room 1,000,000", large::every_line_broken(large::MOST), 1_000_000),
+        ("one giant line", large::giant_line(b"x", b"ab c:", large::MOST), ROOM),
+        (
+            "one giant line of bad bytes and lone CR",
+            large::giant_line(b"HD:", b"\xff\r \x80", large::MOST),
+            ROOM,
+        ),
+        (
+            "one giant field of digits",
+            large::giant_line(b"HD:\r\nKC:", b"12345", large::MOST),
+            ROOM,
+        ),
+        ("nothing but CR LF", large::nothing_but_ends(large::MOST), ROOM),
+        ("one item of two million fields", large::many_fields(large::MOST), ROOM),
+        ("a late heading, full room 1,000,000", large::late_heading(large::MOST), 1_000_000),
+        ("headings only", large::headings_only(large::MOST), ROOM),
+        ("51s only", large::controls_only(large::MOST), ROOM),
+    ];
+    let mut rooms: Vec<_> =
+        worst.iter().map(|(_, _, room)| (vec![0; *room], vec![0; *room])).collect();
+    let (mut lines, mut rules) = ([0; ROOM], [0; ROOM]);
+    let mut all = vec![Contestant::new("clean", || library_check(clean, &mut lines, &mut rules))];
+    all.extend(worst.iter().zip(&mut rooms).map(|((name, sample, _), (lines, rules))| {
+        Contestant::new(name, || library_check(sample.job(), lines, rules))
+    }));
+    race(&mut all, rounds);
+    header("worst files", "time", "it/clean");
+    judge(&all[0].name, &per_byte(&all[0], clean.file), 1.0, None);
+    let rows = all[1..].iter().zip(&worst);
+    rows.map(|(it, (_, sample, _))| {
+        let bytes = sample.file.len() as f64 / clean.file.len() as f64;
+        let ratio = ratio(it.best, all[0].best) / bytes;
+        judge(&it.name, &per_byte(it, &sample.file), ratio, Some(8.0))
+    })
+    .sum()
+}

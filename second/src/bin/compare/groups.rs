@@ -1,0 +1,150 @@
+//! The groups of comparisons, by name.
+
+use second::samples::Sample;
+use second::samples::clean;
+use second::samples::dice::Dice;
+use second::samples::edges;
+use second::samples::large;
+use second::samples::mutations::ALL as MUTATIONS;
+use second::samples::soup;
+
+use crate::calls;
+use crate::judge::Judge;
+use crate::options::Options;
+use crate::refusals;
+
+type Run = Box<dyn Fn(&mut Judge, &mut Dice, u64) + Sync>;
+
+pub struct Group {
+    pub name: &'static str,
+    pub cases: u64,
+    /// Another seed gives other cases: worth running again.
+    pub is_random: bool,
+    pub run: Run,
+}
+
+impl Group {
+    pub fn listed(
+        name: &'static str,
+        cases: u64,
+        run: impl Fn(&mut Judge, &mut Dice, u64) + Sync + 'static,
+    ) -> Self {
+        Group { name, cases, is_random: false, run: Box::new(run) }
+    }
+
+    pub fn random(
+        name: &'static str,
+        cases: u64,
+        run: impl Fn(&mut Judge, &mut Dice, u64) + Sync + 'static,
+    ) -> Self {
+        Group { name, cases, is_random: true, run: Box::new(run) }
+    }
+}
+
+pub fn all(options: &Options) -> Vec<Group> {
+    let edges = edges::all().into_iter().map(|edge| {
+        let (name, count) = (edge.name, edge.count);
+        Group::listed(name, count, move |judge, dice, case| judge.small(&edge.sample(case), dice))
+    });
+    let mut groups = refusals::all();
+    groups.extend(calls::all());
+    groups.extend(edges);
+    groups.extend(random_files(options.files));
+    groups.push(large_files(options.large));
+    groups
+}
+
+/// Each kind in turn, or any kinds if there are fewer files than kinds.
+fn large_files(files: u64) -> Group {
+    Group::random("large files", files, move |judge, dice, case| {
+        let kind = if files < large::KINDS { dice.below(large::KINDS) } else { case };
+        judge.large(large::large(dice, kind).job());
+    })
+}
+
+/// Small random files, shared out among the ways to make them.
+fn random_files(files: u64) -> Vec<Group> {
+    let share = |percent: u64| (files * percent).div_ceil(100);
+    vec![
+        Group::random("clean files", share(10), clean_file),
+        Group::random("clean files, another code or day", share(4), other_job),
+        Group::random("mutations alone", share(14), |judge, dice, case| {
+            mutated(judge, dice, &[case]);
+        }),
+        Group::random("mutations in pairs", share(30), |judge, dice, case| {
+            mutated(judge, dice, &[case, case / MUTATIONS.len() as u64]);
+        }),
+        Group::random("mutations in heaps", share(8), |judge, dice, _| {
+            let heap: Vec<u64> = (0..dice.range(3, 12)).map(|_| dice.throw() >> 8).collect();
+            mutated(judge, dice, &heap);
+        }),
+        Group::random("changed bytes", share(10), changed_bytes),
+        Group::random("line soup", share(12), |judge, dice, _| {
+            let sample = soup::lines(dice);
+            judge.small(&sample, dice);
+        }),
+        Group::random("byte soup", share(6), |judge, dice, _| {
+            let sample = soup::bytes(dice);
+            judge.small(&sample, dice);
+        }),
+        Group::random("soup of pieces", share(5), |judge, dice, _| {
+            let sample = soup::pieces(dice);
+            judge.small(&sample, dice);
+        }),
+        Group::random("noise", share(1), |judge, dice, _| {
+            let sample = soup::noise(dice);
+            judge.small(&sample, dice);
+        }),
+    ]
+}
+
+/// A file that is meant to be clean has to be so for the reference, too.
+fn clean_file(judge: &mut Judge, dice: &mut Dice, _: u64) {
+    let sample = clean::small(dice).sample();
+    if judge.verdict(sample.job()) != Ok(Vec::new()) {
+        judge.fail(|| format!("not clean: {}", sample.file.escape_ascii()));
+    }
+    judge.small(&sample, dice);
+}
+
+/// A clean file checked for a neighbouring code or day.
+fn other_job(judge: &mut Judge, dice: &mut Dice, _: u64) {
+    let mut sample = clean::small(dice).sample();
+    if dice.once_in(2) {
+        sample.code = sample.code + 1 - 2 * dice.below(2) as u32;
+    } else {
+        sample.day = sample.day + 2 - dice.below(5) as u32;
+    }
+    judge.small(&sample, dice);
+}
+
+/// A clean file with the mutations of these numbers, one after another.
+fn mutated(judge: &mut Judge, dice: &mut Dice, numbers: &[u64]) {
+    let mut draft = clean::small(dice);
+    for number in numbers {
+        let mutation = &MUTATIONS[(number % MUTATIONS.len() as u64) as usize];
+        (mutation.apply)(&mut draft, dice);
+    }
+    judge.small(&draft.sample(), dice);
+}
+
+/// A clean file with a few bytes replaced, put in or left out.
+fn changed_bytes(judge: &mut Judge, dice: &mut Dice, _: u64) {
+    let mut sample = clean::small(dice).sample();
+    for _ in 0..dice.range(1, 4) {
+        change_byte(&mut sample, dice);
+    }
+    judge.small(&sample, dice);
+}
+
+fn change_byte(sample: &mut Sample, dice: &mut Dice) {
+    let place = dice.place(sample.file.len());
+    let byte = if dice.once_in(4) { dice.byte() } else { dice.pick(b"\r\n\x1a 0159:HDKCSAx\x7f") };
+    match dice.below(3) {
+        0 => sample.file[place] = byte,
+        1 => sample.file.insert(place, byte),
+        // A file of one byte is left alone: the next change needs a place.
+        _ if sample.file.len() > 1 => drop(sample.file.remove(place)),
+        _ => {}
+    }
+}

@@ -1,0 +1,214 @@
+//! The comparison of single calls: what the reference says against what the
+//! library answers and leaves in the memory lent to it.
+
+use second::account;
+use second::check;
+use second::derive;
+use second::heading;
+use second::rules::Fault;
+use second::samples::dice::Dice;
+use second::samples::{Job, Sample};
+
+use crate::face;
+use crate::lent::Lent;
+use crate::report;
+use crate::tally::Tally;
+
+/// Mismatches told in full by each thread in each group; the rest is counted.
+const TOLD: usize = 2;
+
+/// Patterns for lent memory: one that stands out, and some that could be taken
+/// for pairs that are already entered.
+const PATTERNS: [u32; 4] = [0xC5C5_C5C5, 0, 1, u32::MAX];
+
+/// What may lie before and behind a file in memory.
+const AROUND: [&[u8]; 6] = [b"", b"\x1a", b"\r\n\x1a", b"\n", b"HD:11 \x1a", b"   \r\n"];
+
+/// What the reference says of a file: its faults or a refusal.
+type Verdict = Result<Vec<Fault>, u32>;
+
+pub struct Judge {
+    pub tally: Tally,
+    pub comparisons: u64,
+    pub failed: u64,
+    pub told: Vec<String>,
+}
+
+impl Judge {
+    pub fn new() -> Self {
+        Judge { tally: Tally::new(), comparisons: 0, failed: 0, told: Vec::new() }
+    }
+
+    pub fn add(&mut self, other: Judge) {
+        self.tally.add(&other.tally);
+        self.comparisons += other.comparisons;
+        self.failed += other.failed;
+        self.told.extend(other.told);
+    }
+
+    pub fn fail(&mut self, story: impl FnOnce() -> String) {
+        self.failed += 1;
+        if self.told.len() < TOLD {
+            self.told.push(story());
+        }
+    }
+
+    /// A small file, with bytes around it in memory that must not be seen.
+    pub fn small(&mut self, sample: &Sample, dice: &mut Dice) {
+        let (before, behind) = (dice.pick(&AROUND), dice.pick(&AROUND));
+        let memory = [before, &sample.file, behind].concat();
+        let file = &memory[before.len()..memory.len() - behind.len()];
+        self.lent(Job { file, ..sample.job() }, dice);
+    }
+
+    /// A file where it stands in memory: the total, and lists with no room,
+    /// little, just enough and more than enough.
+    pub fn lent(&mut self, job: Job, dice: &mut Dice) {
+        let verdict = self.verdict(job);
+        let total = verdict.as_ref().map_or(4, Vec::len);
+        let few = dice.range(2, 8) as usize;
+        let many = total + dice.range(1, 24) as usize;
+        let rooms = [many, total, few, 1, 0].map(|room| (room, dice.pick(&PATTERNS)));
+        self.compare(job, &verdict, &rooms);
+        if dice.once_in(16) {
+            self.uneven_rooms(job, (few, dice.pick(&[0, few - 1, few + 1, many + few])));
+        }
+    }
+
+    /// A large file: fewer lists, but the longest ones too.
+    pub fn large(&mut self, job: Job) {
+        let verdict = self.verdict(job);
+        let total = verdict.as_ref().map_or(4, Vec::len);
+        let rooms = [256, 1_000_000, total + 5].map(|room| (room, PATTERNS[0]));
+        self.compare(job, &verdict, &rooms);
+    }
+
+    /// What the reference says, entered in the tally.
+    pub fn verdict(&mut self, job: Job) -> Verdict {
+        let verdict = verdict(job);
+        match &verdict {
+            Ok(faults) => self.tally.faults(faults),
+            Err(number) => self.tally.refusal(*number),
+        }
+        verdict
+    }
+
+    /// The total, and lists with these rooms and patterns. One difference is
+    /// enough for a file.
+    fn compare(&mut self, job: Job, verdict: &Verdict, rooms: &[(usize, u32)]) {
+        self.comparisons += 1 + rooms.len() as u64;
+        if let Some(difference) = first_difference(job, verdict, rooms) {
+            self.fail(|| report::file(job, &difference, &any_difference));
+        }
+    }
+
+    /// Slices of different length: always a refusal, not always number 4. Equal
+    /// ones that are not refused are left to the other comparisons.
+    pub fn uneven_rooms(&mut self, job: Job, rooms: (usize, usize)) {
+        let Some(number) = check::refusal(job.file, job.code, job.day, rooms) else {
+            return;
+        };
+        self.comparisons += 1;
+        self.tally.refusal(number);
+        if let Some(difference) = list_differs(job, &Err(number), rooms, PATTERNS[0]) {
+            self.fail(|| report::file(job, &difference, &|_| None));
+        }
+    }
+
+    pub fn derive(&mut self, text: &[u8], outcome: u32, number: u32, target_length: usize) {
+        self.comparisons += 1;
+        let mut expected = [0; heading::LENGTH];
+        let room = target_length.min(heading::LENGTH);
+        let answer = derive::derive(text, outcome, number, &mut expected[..room]);
+        let written = if answer.is_ok() { &expected[..] } else { &[] };
+        if let Err(refusal) = answer {
+            self.tally.refusal(refusal);
+        }
+        let mut target = Lent::new(target_length, 0xA5);
+        let found = face::derive(text, outcome, number, target.lend());
+        if found != answer.err().unwrap_or(0) || !target.holds(written.iter().copied()) {
+            let target = target.lend();
+            self.fail(|| {
+                report::derived(text, outcome, number, (answer, written), (found, target))
+            });
+        }
+    }
+
+    pub fn account(&mut self, prefix: &[u8], number: &[u8]) {
+        self.comparisons += 1;
+        let answer = account::check(prefix, number);
+        if let Err(refusal) = answer {
+            self.tally.refusal(refusal);
+        }
+        // Both values beforehand: one of them would show a write.
+        for before in [false, true] {
+            let mut good = before;
+            let found = face::account(prefix, number, &mut good);
+            if found != answer.err().unwrap_or(0) || good != answer.unwrap_or(before) {
+                self.fail(|| report::account(prefix, number, answer, (found, before, good)));
+            }
+        }
+    }
+}
+
+fn verdict(Job { code, day, file }: Job) -> Verdict {
+    match check::refusal(file, code, day, (0, 0)) {
+        Some(number) => Err(number),
+        None => Ok(check::faults(file, code, day)),
+    }
+}
+
+/// The expected return value and the total afterwards.
+fn expected(verdict: &Verdict, before: u64) -> (u32, u64) {
+    match verdict {
+        Ok(faults) => (0, faults.len() as u64),
+        Err(number) => (*number, before),
+    }
+}
+
+fn first_difference(job: Job, verdict: &Verdict, rooms: &[(usize, u32)]) -> Option<String> {
+    let mut rooms = rooms.iter();
+    let list = |&(room, pattern)| list_differs(job, verdict, (room, room), pattern);
+    rooms.find_map(list).or_else(|| total_differs(job, verdict))
+}
+
+/// Any difference at all, for making a file smaller that has one. The widest
+/// room comes first: it tells most.
+fn any_difference(job: Job) -> Option<String> {
+    let verdict = verdict(job);
+    let total = verdict.as_ref().map_or(4, Vec::len);
+    let wide = PATTERNS.map(|pattern| (total + 9, pattern));
+    let narrow = [total, 3, 1, 0].map(|room| (room, PATTERNS[0]));
+    first_difference(job, &verdict, &[wide, narrow].concat())
+}
+
+fn total_differs(Job { code, day, file }: Job, verdict: &Verdict) -> Option<String> {
+    const BEFORE: u64 = 0xC5C5_C5C5_C5C5_C5C5;
+    let mut total = BEFORE;
+    let answer = face::total(file, code, day, &mut total);
+    let (found, expected) = ((answer, total), expected(verdict, BEFORE));
+    (found != expected).then(|| format!("certis_total: {}", report::answers(expected, found)))
+}
+
+fn list_differs(
+    Job { code, day, file }: Job,
+    verdict: &Verdict,
+    rooms: (usize, usize),
+    pattern: u32,
+) -> Option<String> {
+    let before = u64::from(pattern);
+    let mut lines = Lent::new(rooms.0, pattern);
+    let mut rules = Lent::new(rooms.1, pattern);
+    let mut total = before;
+    let answer = face::check(file, code, day, lines.lend(), rules.lend(), &mut total);
+    let (found, expected) = ((answer, total), expected(verdict, before));
+    let listed = verdict.as_ref().map_or(&[][..], |faults| &faults[..faults.len().min(rooms.0)]);
+    let is_same = found == expected
+        && lines.holds(listed.iter().map(|fault| fault.0))
+        && rules.holds(listed.iter().map(|fault| fault.1));
+    (!is_same).then(|| {
+        let answers = report::answers(expected, found);
+        let lists = report::lists(listed, lines.lend(), rules.lend());
+        format!("certis_check with room for {rooms:?}: {answers}\n  {lists}")
+    })
+}

@@ -1,0 +1,29 @@
+//! Memory to lend: filled with a pattern, with a margin on both sides, so that
+//! every place the library should not touch can be looked at afterwards.
+
+const MARGIN: usize = 16;
+
+pub struct Lent<T> {
+    places: Vec<T>,
+    pattern: T,
+}
+
+impl<T: Copy + PartialEq> Lent<T> {
+    pub fn new(length: usize, pattern: T) -> Self {
+        Lent { places: vec![pattern; length + 2 * MARGIN], pattern }
+    }
+
+    /// What the library gets to see.
+    pub fn lend(&mut self) -> &mut [T] {
+        let end = self.places.len() - MARGIN;
+        &mut self.places[MARGIN..end]
+    }
+
+    /// The first places hold these values, and all others what they held.
+    pub fn holds(&self, values: impl Iterator<Item = T>) -> bool {
+        let (before, rest) = self.places.split_at(MARGIN);
+        let mut rest = rest.iter();
+        let written = values.into_iter().all(|value| rest.next() == Some(&value));
+        written && before.iter().chain(rest).all(|&place| place == self.pattern)
+    }
+}

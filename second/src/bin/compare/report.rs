@@ -1,0 +1,136 @@
+//! Mismatches in words: what was expected, what was found, and the input, made
+//! smaller where that is possible.
+
+use second::rules::Fault;
+use second::samples::{Job, Sample};
+
+/// Bytes of an input that are shown.
+const SHOWN: usize = 1_200;
+/// Larger inputs are not made smaller: each attempt checks the whole.
+const SHRINKABLE: usize = 200_000;
+const ATTEMPTS: usize = 1_000;
+
+/// Still wrong, and in which way.
+type Differs<'a> = &'a dyn Fn(Job) -> Option<String>;
+
+/// Bytes with escapes, cut in the middle to something readable.
+fn shown(bytes: &[u8]) -> String {
+    if bytes.len() <= SHOWN {
+        return format!("b\"{}\"", bytes.escape_ascii());
+    }
+    let (start, end) = (&bytes[..SHOWN / 2], &bytes[bytes.len() - SHOWN / 2..]);
+    let left_out = bytes.len() - SHOWN;
+    format!(
+        "b\"{}\"\n  ... {left_out} bytes ...\n  b\"{}\"",
+        start.escape_ascii(),
+        end.escape_ascii()
+    )
+}
+
+fn input(Job { code, day, file }: Job) -> String {
+    format!("code {code}, day {day}, file of {} bytes:\n  {}", file.len(), shown(file))
+}
+
+pub fn file(job: Job, difference: &str, differs: Differs) -> String {
+    let story = format!("{difference}\n  {}", input(job));
+    let Some(smaller) = shrink(job, differs) else {
+        return story;
+    };
+    let difference = differs(smaller.job()).unwrap_or_default();
+    format!("{story}\n  made smaller: {difference}\n  {}", input(smaller.job()))
+}
+
+/// Return values and totals.
+pub fn answers(expected: (u32, u64), found: (u32, u64)) -> String {
+    format!(
+        "expected answer {} and total {}, found {} and {}",
+        expected.0, expected.1, found.0, found.1
+    )
+}
+
+/// Both lists from shortly before the place where they part. The places found
+/// after the last pair should hold the pattern.
+pub fn lists(expected: &[Fault], lines: &[u32], rules: &[u32]) -> String {
+    let found: Vec<Fault> = lines.iter().copied().zip(rules.iter().copied()).collect();
+    let same = expected.iter().zip(&found).take_while(|(one, other)| one == other).count();
+    let from = same.saturating_sub(3);
+    let few =
+        |list: &[Fault]| format!("{:?}", &list[from.min(list.len())..list.len().min(from + 12)]);
+    format!("pairs from place {from}: expected {}\n  found {}", few(expected), few(&found))
+}
+
+pub fn derived(
+    text: &[u8],
+    outcome: u32,
+    number: u32,
+    expected: (Result<(), u32>, &[u8]),
+    found: (u32, &[u8]),
+) -> String {
+    format!(
+        "certis_derive, outcome {outcome}, number {number}, target of {} bytes, heading {}\n  \
+         expected {:?} {}\n  found {} {}",
+        found.1.len(),
+        shown(text),
+        expected.0,
+        shown(expected.1),
+        found.0,
+        shown(found.1),
+    )
+}
+
+pub fn account(
+    prefix: &[u8],
+    number: &[u8],
+    expected: Result<bool, u32>,
+    (found, before, after): (u32, bool, bool),
+) -> String {
+    let (prefix, number) = (shown(prefix), shown(number));
+    format!(
+        "certis_account {prefix} {number}: expected {expected:?}, found {found}, good was {before} and is {after}"
+    )
+}
+
+/// A smaller file that still makes a difference: lines are left out, then
+/// bytes, in ever smaller pieces.
+fn shrink(job: Job, differs: Differs) -> Option<Sample> {
+    let Job { code, day, file } = job;
+    let mut small = Sample { code, day, file: file.to_vec() };
+    if file.len() > SHRINKABLE || differs(small.job()).is_none() {
+        return None;
+    }
+    let mut attempts = ATTEMPTS;
+    for cut in [cut_lines, cut_bytes] {
+        let mut pieces = cut(&small.file);
+        let mut width = pieces.len() / 2;
+        while width > 0 {
+            leave_out(&mut pieces, width, &mut |file| {
+                attempts = attempts.saturating_sub(1);
+                attempts > 0 && differs(Job { code, day, file }).is_some()
+            });
+            width /= 2;
+        }
+        small.file = pieces.concat();
+    }
+    Some(small)
+}
+
+/// Leaves out so many pieces at a time wherever the rest is still good.
+fn leave_out(pieces: &mut Vec<Vec<u8>>, width: usize, is_good: &mut dyn FnMut(&[u8]) -> bool) {
+    let mut place = 0;
+    while place + width <= pieces.len() {
+        let rest = [&pieces[..place], &pieces[place + width..]].concat().concat();
+        if is_good(&rest) {
+            pieces.drain(place..place + width);
+        } else {
+            place += width;
+        }
+    }
+}
+
+fn cut_lines(file: &[u8]) -> Vec<Vec<u8>> {
+    file.split_inclusive(|&byte| byte == b'\n').map(<[u8]>::to_vec).collect()
+}
+
+fn cut_bytes(file: &[u8]) -> Vec<Vec<u8>> {
+    file.iter().map(|&byte| vec![byte]).collect()
+}

@@ -1,0 +1,64 @@
+//! How often the reference met each rule and each refusal: a run that never
+//! meets one says nothing about it.
+
+use second::rules::Fault;
+
+#[derive(Clone)]
+pub struct Tally {
+    rules: [u64; 64],
+    refusals: [u64; 20],
+}
+
+/// Every rule and every refusal that the C face can give.
+const RULES: [std::ops::RangeInclusive<usize>; 2] = [1..=22, 30..=38];
+const REFUSALS: [std::ops::RangeInclusive<usize>; 2] = [1..=6, 10..=16];
+
+impl Tally {
+    pub fn new() -> Self {
+        Tally { rules: [0; 64], refusals: [0; 20] }
+    }
+
+    pub fn faults(&mut self, faults: &[Fault]) {
+        for &(_, rule) in faults {
+            self.rules[rule as usize] += 1;
+        }
+    }
+
+    pub fn refusal(&mut self, number: u32) {
+        self.refusals[number as usize] += 1;
+    }
+
+    pub fn add(&mut self, other: &Tally) {
+        for (sum, more) in self.rules.iter_mut().zip(other.rules) {
+            *sum += more;
+        }
+        for (sum, more) in self.refusals.iter_mut().zip(other.refusals) {
+            *sum += more;
+        }
+    }
+
+    /// The rules that were never broken.
+    pub fn missing_rules(&self) -> Vec<usize> {
+        RULES.into_iter().flatten().filter(|&rule| self.rules[rule] == 0).collect()
+    }
+
+    /// The refusals that were never given.
+    pub fn missing_refusals(&self) -> Vec<usize> {
+        REFUSALS.into_iter().flatten().filter(|&number| self.refusals[number] == 0).collect()
+    }
+
+    pub fn print(&self) {
+        println!("\nhow often the reference met each rule:");
+        print_table(RULES.into_iter().flatten().map(|rule| (rule, self.rules[rule])));
+        println!("and each refusal:");
+        print_table(REFUSALS.into_iter().flatten().map(|number| (number, self.refusals[number])));
+    }
+}
+
+fn print_table(entries: impl Iterator<Item = (usize, u64)>) {
+    let entries: Vec<_> = entries.collect();
+    for row in entries.chunks(6) {
+        let cells = row.iter().map(|(number, hits)| format!("{number:4} {hits:10}"));
+        println!("{}", cells.collect::<Vec<_>>().join(" |"));
+    }
+}

@@ -1,0 +1,95 @@
+//! The proved library behind its C face (include/certis.h): safe wrappers, and
+//! the only unsafe code here. Both runners include this file.
+
+mod raw {
+    #[link(name = "host", kind = "static")]
+    unsafe extern "C" {
+        pub fn certis_total(
+            file: *const u8,
+            file_len: usize,
+            code: u32,
+            day: u32,
+            total: *mut u64,
+        ) -> u32;
+
+        pub fn certis_check(
+            file: *const u8,
+            file_len: usize,
+            code: u32,
+            day: u32,
+            lines: *mut u32,
+            lines_len: usize,
+            rules: *mut u32,
+            rules_len: usize,
+            total: *mut u64,
+        ) -> u32;
+
+        pub fn certis_derive(
+            heading: *const u8,
+            heading_len: usize,
+            outcome: u32,
+            number: u32,
+            target: *mut u8,
+            target_len: usize,
+        ) -> u32;
+
+        pub fn certis_account(
+            prefix: *const u8,
+            prefix_len: usize,
+            number: *const u8,
+            number_len: usize,
+            good: *mut bool,
+        ) -> u32;
+    }
+}
+
+// Each call lends slices of Rust: valid for their lengths, not null, and those
+// lent for writing overlap nothing else. That is all the header asks for.
+
+pub fn total(file: &[u8], code: u32, day: u32, total: &mut u64) -> u32 {
+    unsafe { raw::certis_total(file.as_ptr(), file.len(), code, day, total) }
+}
+
+pub fn check(
+    file: &[u8],
+    code: u32,
+    day: u32,
+    lines: &mut [u32],
+    rules: &mut [u32],
+    total: &mut u64,
+) -> u32 {
+    let (lines_len, rules_len) = (lines.len(), rules.len());
+    unsafe {
+        raw::certis_check(
+            file.as_ptr(),
+            file.len(),
+            code,
+            day,
+            lines.as_mut_ptr(),
+            lines_len,
+            rules.as_mut_ptr(),
+            rules_len,
+            total,
+        )
+    }
+}
+
+pub fn derive(heading: &[u8], outcome: u32, number: u32, target: &mut [u8]) -> u32 {
+    let target_len = target.len();
+    unsafe {
+        raw::certis_derive(
+            heading.as_ptr(),
+            heading.len(),
+            outcome,
+            number,
+            target.as_mut_ptr(),
+            target_len,
+        )
+    }
+}
+
+pub fn account(prefix: &[u8], number: &[u8], good: &mut bool) -> u32 {
+    unsafe {
+        raw::certis_account(prefix.as_ptr(), prefix.len(), number.as_ptr(), number.len(), good)
+    }
+}

@@ -1,0 +1,52 @@
+//! A file in the making: its lines, which can still be changed one by one.
+
+use super::Sample;
+use crate::heading::Heading;
+use crate::lines::END_MARK;
+
+#[derive(Clone, Debug)]
+pub struct Draft {
+    pub code: u32,
+    pub day: u32,
+    /// Without their CR LF.
+    pub lines: Vec<Vec<u8>>,
+    /// The last line has its CR LF.
+    pub ended: bool,
+    /// Bytes behind the end mark.
+    pub leftover: Vec<u8>,
+}
+
+impl Draft {
+    pub fn new(code: u32, day: u32) -> Self {
+        Draft { code, day, lines: Vec::new(), ended: true, leftover: Vec::new() }
+    }
+
+    pub fn line(&mut self, text: impl Into<Vec<u8>>) {
+        self.lines.push(text.into());
+    }
+
+    pub fn heading(&mut self, heading: Heading) {
+        self.line(heading.write());
+    }
+
+    /// A heading that breaks no rule by itself.
+    pub fn good_heading(&self, kind: u32, number: u32) -> Heading {
+        let third = if matches!(kind, 35 | 37 | 45) { 800 } else { 0 };
+        let (day, first) = (self.day, self.code);
+        Heading { kind, day, first, number, second: 710, output: 0, third }
+    }
+
+    pub fn sample(&self) -> Sample {
+        Sample { code: self.code, day: self.day, file: self.bytes() }
+    }
+
+    fn bytes(&self) -> Vec<u8> {
+        let mut bytes = self.lines.join(&b"\r\n"[..]);
+        if self.ended && !self.lines.is_empty() {
+            bytes.extend(b"\r\n");
+        }
+        bytes.push(END_MARK);
+        bytes.extend(&self.leftover);
+        bytes
+    }
+}
