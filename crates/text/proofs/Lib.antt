@@ -8,3 +8,4 @@ pub mod Comparing
 pub mod Wrote
 pub mod Layouts
 pub mod Matching
+pub mod Bare

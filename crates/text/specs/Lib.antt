@@ -3,3 +3,4 @@ pub mod Digits
 pub mod Days
 pub mod Strings
 pub mod Forms
+pub mod Decimals

@@ -4,6 +4,7 @@
 // Stands on `laws` alone.
 pub mod characters;
 pub mod days;
+pub mod decimals;
 pub mod digits;
 pub mod forms;
 pub mod strings;

@@ -1,0 +1,4 @@
+pub mod Jobs
+pub mod Listings
+pub mod Answers
+pub mod Lists

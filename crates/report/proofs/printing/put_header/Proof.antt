@@ -1,0 +1,57 @@
+use Rattle.text.proofs.Wrote.{then}
+use Rattle.report.specs.Printing.{headerText}
+use borrow.Author.Needs.{needs}
+use Rattle.report.proofs.printing.put_header.Statement.{statement}
+use Rattle.report.proofs.printing.put_header.Tie as tie
+
+slice-aggregate-put : tie.Need-slice-aggregate-put
+slice-aggregate-put c = search needs
+
+put-requires : tie.Need-put-requires
+put-requires c κs = search needs
+
+put-digits-requires : tie.Need-put-digits-requires
+put-digits-requires c κs = search needs
+
+slice-aggregate-put-2 : tie.Need-slice-aggregate-put-2
+slice-aggregate-put-2 c = search needs
+
+put-requires-2 : tie.Need-put-requires-2
+put-requires-2 c κs = search needs
+
+put-digits-requires-2 : tie.Need-put-digits-requires-2
+put-digits-requires-2 c κs = search needs
+
+slice-aggregate-put-3 : tie.Need-slice-aggregate-put-3
+slice-aggregate-put-3 c = search needs
+
+put-requires-3 : tie.Need-put-requires-3
+put-requires-3 c κs = search needs
+
+same-length : tie.Need-same-length
+same-length c = search needs
+
+returns : tie.Need-returns
+unfolding headerText
+returns c =
+    let e = c .before .before in
+    let d = e .before .before .before .before .before in
+    let b = d .before .before .before .before in
+    let a = b .before .before .before .before .before in
+    let z = a .before .before .before .before in
+    (then (then (then (then (z .put .ensures) (a .put-digits .ensures .0)) (b .put2 .ensures)) (d .put-digits2 .ensures .0)) (e .put3 .ensures), search needs)
+
+pub put-header-spec : {M : Type 1} → statement M
+put-header-spec =
+    tie.close
+    (tie.spec
+    slice-aggregate-put
+    put-requires
+    put-digits-requires
+    slice-aggregate-put-2
+    put-requires-2
+    put-digits-requires-2
+    slice-aggregate-put-3
+    put-requires-3
+    same-length
+    returns)

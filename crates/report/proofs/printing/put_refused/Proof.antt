@@ -1,0 +1,44 @@
+use Rattle.text.proofs.Wrote.{then}
+use Rattle.report.specs.Printing.{refusedText}
+use Rattle.report.proofs.Listings.{at-start}
+use borrow.Author.Needs.{needs}
+use Rattle.report.proofs.printing.put_refused.Statement.{statement}
+use Rattle.report.proofs.printing.put_refused.Tie as tie
+
+slice-aggregate-put : tie.Need-slice-aggregate-put
+slice-aggregate-put c = search needs
+
+put-requires : tie.Need-put-requires
+put-requires c κs = search needs
+
+put-decimal-requires : tie.Need-put-decimal-requires
+put-decimal-requires c κs = search needs
+
+slice-aggregate-put-2 : tie.Need-slice-aggregate-put-2
+slice-aggregate-put-2 c = search needs
+
+put-requires-2 : tie.Need-put-requires-2
+put-requires-2 c κs = search needs
+
+same-length : tie.Need-same-length
+same-length c = search needs
+
+returns : tie.Need-returns
+unfolding refusedText
+returns c =
+    let b = c .before .before in
+    let a = b .before .before .before .before .before in
+    let z = a .before .before .before .before in
+    at-start (then (then (z .put .ensures) (a .put-decimal .ensures .0)) (b .put2 .ensures))
+
+pub put-refused-spec : {M : Type 1} → statement M
+put-refused-spec =
+    tie.close
+    (tie.spec
+    slice-aggregate-put
+    put-requires
+    put-decimal-requires
+    slice-aggregate-put-2
+    put-requires-2
+    same-length
+    returns)

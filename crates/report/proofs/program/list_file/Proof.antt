@@ -1,0 +1,49 @@
+use mathlib.Core.Path.{refl, sym, _∙_}
+use Rattle.report.proofs.Listings.{begins-same}
+use Rattle.report.proofs.Lists.{shown}
+use borrow.Author.Needs.{needs}
+use Rattle.report.proofs.program.list_file.Statement.{statement}
+use Rattle.report.proofs.program.list_file.Tie as tie
+
+slice-aggregate-check : tie.Need-slice-aggregate-check
+slice-aggregate-check c = search needs
+
+slice-aggregate-check-2 : tie.Need-slice-aggregate-check-2
+slice-aggregate-check-2 c = search needs
+
+check-requires : tie.Need-check-requires
+check-requires c κs = search needs
+
+number-of-requires : tie.Need-number-of-requires
+number-of-requires c κs = search needs
+
+total-or-requires : tie.Need-total-or-requires
+total-or-requires c κs = search needs
+
+put-answer-requires : tie.Need-put-answer-requires
+put-answer-requires c κs = search needs
+
+same-length : tie.Need-same-length
+same-length c = search needs
+
+returns : tie.Need-returns
+returns c =
+    let p = c .before .before in
+    let t = p .before in
+    let n = t .before .before .before in
+    let k = n .before .before .before .before in
+    let a = k .before .before .before .before .before .args in
+    begins-same (shown (a .file .now) (a .code) (a .day) _ _ _ _ (k .check .result) _ _ (k .check .ensures) (n .number-of .ensures) (t .total-or .ensures) refl refl) (p .put-answer .ensures)
+
+pub list-file-spec : {M : Type 1} → statement M
+list-file-spec =
+    tie.close
+    (tie.spec
+    slice-aggregate-check
+    slice-aggregate-check-2
+    check-requires
+    number-of-requires
+    total-or-requires
+    put-answer-requires
+    same-length
+    returns)

@@ -1,0 +1,31 @@
+// The job line at the start of the program's input.
+use text::forms::has_form;
+use text::forms::part;
+ghost use mathlib.Core.Path.{_≡_};
+ghost use Rattle.report.specs.Job.{jobLineOf, jobOf};
+
+// The code and the day that it gives.
+pub enum Job {
+    Of(u32, u32),
+    Broken,
+}
+
+fn read_line(line: &[u8]) -> Job
+    ensures { λ r. ⌜ r ≡ jobLineOf (now (line .entry)) ⌝ }
+{
+    if has_form(b"0000 00000000\n", line) {
+        Job::Of(part(line, 0, 4), part(line, 5, 8))
+    } else {
+        Job::Broken
+    }
+}
+
+// Reads the 14 bytes of the job line; what follows them is the file.
+pub fn read_job(input: &[u8]) -> Job
+    ensures { λ r. ⌜ r ≡ jobOf (now (input .entry)) ⌝ }
+{
+    if input.len() < 14 {
+        return Job::Broken;
+    }
+    read_line(&input[..14])
+}
