@@ -1,9 +1,9 @@
 //! The second program: a checker for CERTIS input files, written from
-//! document 01 (`01-scope.md`) and from nothing else of the project.
+//! document 01 and docs/DECISIONS.md, and from nothing else of the project.
 //!
 //! It exists to be compared with the proved library, so it is as plain as can
 //! be: the whole file is parsed, and each rule then looks at whatever it needs.
-//! "Reading 9" in a comment means the ninth decision of READINGS.md.
+//! "Reading 9" in a comment means the ninth entry of docs/DECISIONS.md.
 
 #![forbid(unsafe_code)]
 

@@ -1,4 +1,4 @@
-//! Whole files: document 01's marked cases here, READINGS.md in readings.rs.
+//! Whole files: document 01's marked cases here, the decisions of docs/DECISIONS.md in readings.rs.
 
 mod readings;
 

@@ -1,4 +1,4 @@
-//! The decisions of READINGS.md, one test for each that can be seen in a file.
+//! The decisions of docs/DECISIONS.md, one test for each that can be seen in a file.
 //! Reading 2 is tested in listing.rs, 3, 4 and 6 in derive.rs, 5 in account.rs.
 
 use super::*;
