@@ -2,7 +2,7 @@
 use mathlib.Core.Path.{_≡_, refl, sym, ap, _∙_}
 use mathlib.Core.Bool.{Bool, true, false, cond}
 use mathlib.Core.List.{List, [], _∷_}
-use Prim.Native.Nat.{ℕ, _≤_, _<_}
+use Prim.Native.Nat.{ℕ, _≤_, _<_, min}
 use native.Mathlib.Omega.{arith}
 use lib.Dec.{leb}
 use lib.ListN.{length, take}
@@ -44,7 +44,7 @@ heading-take s = go (leb (length s) 64) refl
         let n : length (take 64 s) ≡ 64 = length-take-le 64 s (omega arith) in
         other-length (take 64 s) (λ z. omega arith) ∙ sym (other-length s (λ z. omega arith))
 
-pub told-is : (r : Row) → lineTold (r .no) (rule1 r) (r .ended) (take 64 (r .bytes)) (length (r .bytes)) ≡ lineKept (sorted r)
+told-is : (r : Row) → lineTold (r .no) (rule1 r) (r .ended) (take 64 (r .bytes)) (length (r .bytes)) ≡ lineKept (sorted r)
 unfolding lineTold sorted headKept fieldKept lowKept
 told-is r =
     ap (λ (k : Kind). toldAs k (r .no) (rule1 r) (r .ended) (take 64 (r .bytes)) (length (r .bytes))) (first-64 (r .bytes) .0) ∙ go (kindOf (r .bytes))
@@ -56,9 +56,20 @@ told-is r =
         ap (λ (x : Reading). OfField (record { no = r .no; bad = rule1 r; ended = r .ended; ident = i; class = classOf i; said = x })) (first-64 (r .bytes) .1 (classOf i))
     go Other = refl
 
--- a short line is told by all its bytes
-pub told-short : (r : Row) → length (r .bytes) ≤ 64 → lineTold (r .no) (rule1 r) (r .ended) (r .bytes) (length (r .bytes)) ≡ lineKept (sorted r)
-told-short r h = ap (λ (b : List ℕ). lineTold (r .no) (rule1 r) (r .ended) b (length (r .bytes))) (sym (take-all 64 (r .bytes) h)) ∙ told-is r
+take-least : (s : List ℕ) → take (min 64 (length s)) s ≡ take 64 s
+take-least s = go (leb (length s) 64) refl
+  where
+    go : (t : Bool) → leb (length s) 64 ≡ t → take (min 64 (length s)) s ≡ take 64 s
+    go true e =
+        let h : length s ≤ 64 = leb-true (length s) 64 e in
+        take-all (min 64 (length s)) s (omega (arith, h)) ∙ sym (take-all 64 s h)
+    go false e =
+        let m : min 64 (length s) ≡ 64 = omega (arith, leb-false (length s) 64 e) in
+        rw m
+
+-- a line is told by its first bytes, 64 at most
+pub told-first : (r : Row) → lineTold (r .no) (rule1 r) (r .ended) (take (min 64 (length (r .bytes))) (r .bytes)) (length (r .bytes)) ≡ lineKept (sorted r)
+told-first r = ap (λ (b : List ℕ). lineTold (r .no) (rule1 r) (r .ended) b (length (r .bytes))) (take-least (r .bytes)) ∙ told-is r
 
 -- ---- what a line's kind says of it
 pub head-of : (r : Row) (k : Row) → sorted r ≡ heading k → k .no ≡ r .no

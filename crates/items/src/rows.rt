@@ -9,6 +9,7 @@ use fields::kinds;
 use fields::kinds::Kind;
 use fields::readings;
 ghost use mathlib.Core.Path.{_≡_};
+ghost use Prim.Native.Nat.{min};
 ghost use Rattle.text.specs.Characters.{answers};
 ghost use Rattle.items.specs.Rows.{sorted};
 ghost use Rattle.items.specs.Kept.{headTold, fieldTold, lowTold, lineTold, lineKept};
@@ -63,6 +64,13 @@ pub fn line_told(first: &[u8], length: usize, no: u32, bad: bool, ended: bool) -
     }
 }
 
+// How many bytes of a line it is told by.
+fn told_len(length: usize) -> usize
+    ensures { λ r. ⌜ r ≡ min 64 length ⌝ }
+{
+    if length <= 64 { length } else { 64 }
+}
+
 // What is kept of a whole line; `table` is that of `text::characters`.
 pub fn line_kept(table: &[bool; 256], line: &[u8], no: u32, ended: bool) -> Line
     requires { ⌜ now table ≡ answers ⌝ }
@@ -70,8 +78,6 @@ pub fn line_kept(table: &[bool; 256], line: &[u8], no: u32, ended: bool) -> Line
 {
     let bad = text::characters::holds_inadmissible(table, line);
     let length = line.len();
-    if length <= 64 {
-        return line_told(line, length, no, bad, ended);
-    }
-    line_told(&line[..64], length, no, bad, ended)
+    let n = told_len(length);
+    line_told(&line[..n], length, no, bad, ended)
 }

@@ -12,7 +12,8 @@ use lib.Arith.{digits-lt}
 use borrow.Author.Tests.{le-leb, lt-leb}
 use Rattle.text.specs.declared.digits.Number.{Number}
 use Rattle.text.specs.declared.digits.Number.the-variants.{Value, NotDigits}
-use Rattle.text.specs.Digits.{allDigits, valueAfter, numberOf}
+use Rattle.text.specs.Digits.{allDigits, valueAfter, value, numberOf}
+use Rattle.text.proofs.Widths.{digit-parts}
 
 -- the answer for digits after digits that stand for v
 abbrev pub from : ℕ → List ℕ → Number
@@ -39,6 +40,19 @@ module _ (s : List ℕ) (i v : ℕ) (known : numberOf s ≡ from v (drop i s)) w
   pub done : length s ≤ i → Value v ≡ numberOf s
   unfolding allDigits valueAfter
   done h = sym (known ∙ rw (drop-of-length-le s h))
+
+-- the same where all are known to be digits
+module _ (s : List ℕ) (i : ℕ) (h : i < length s) where
+  pub digit-next : allDigits (drop i s) ≡ true → (48 ≤ getD s i 0) × (getD s i 0 ≤ 57) × (allDigits (drop (i + 1) s) ≡ true)
+  digit-next e = rw add-one (digit-parts (getD s i 0) (drop (suc i) s) (rw (← drop-cons s i 0 h) e))
+
+  pub value-next : (v : ℕ) → value s ≡ valueAfter v (drop i s) → value s ≡ valueAfter (v * 10 + (getD s i 0 - 48)) (drop (i + 1) s)
+  unfolding valueAfter
+  value-next v known = known ∙ rw (add-one, drop-cons s i 0)
+
+pub value-done : (s : List ℕ) (i v : ℕ) → value s ≡ valueAfter v (drop i s) → length s ≤ i → v ≡ value s
+unfolding valueAfter
+value-done s i v known h = sym (known ∙ rw (drop-of-length-le s h))
 
 pub grows : (v i d : ℕ) → v < 10 ^ i → d < 10 → v * 10 + d < 10 ^ (i + 1)
 grows v i d h k = rw (add-one, pow-succ', mul-comm 10) (digits-lt h k)

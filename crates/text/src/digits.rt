@@ -1,9 +1,10 @@
 // Numbers as digits, at every width that fits 64 bits.
 ghost use mathlib.Core.Path.{_≡_};
+ghost use mathlib.Core.Bool.{true};
 ghost use Prim.Native.Nat.{_+_, _≤_};
-ghost use lib.ListN.{length, take, drop};
+ghost use lib.ListN.{length};
 ghost use Rattle.laws.specs.Lists.{put};
-ghost use Rattle.text.specs.Digits.{numberOf, digits};
+ghost use Rattle.text.specs.Digits.{allDigits, value as valueOf, numberOf, digits};
 
 pub enum Number {
     Value(u64),
@@ -37,12 +38,18 @@ pub fn read(s: &[u8]) -> Number
     Number::Value(v)
 }
 
-// The n bytes from a place on as one number.
-pub fn read_at(s: &[u8], at: usize, n: usize) -> Number
-    requires { ⌜ (at + n ≤ length (now s)) × (n ≤ 19) ⌝ }
-    ensures { λ r. ⌜ r ≡ numberOf (take n (drop at (now (s .entry)))) ⌝ }
+// The number that bytes stand for which are known to be digits.
+pub fn value(s: &[u8]) -> u32
+    requires { ⌜ (length (now s) ≤ 9) × (allDigits (now s) ≡ true) ⌝ }
+    ensures { λ r. ⌜ r ≡ valueOf (now (s .entry)) ⌝ }
 {
-    read(&s[at..at + n])
+    let mut v: u32 = 0;
+    let mut i = 0;
+    while i < s.len() {
+        v = v * 10 + (s[i] - 48) as u32;
+        i += 1;
+    }
+    v
 }
 
 // Writes the last n digits of a number from a place on; every other byte stays.

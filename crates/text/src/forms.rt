@@ -17,21 +17,20 @@ fn fits_byte(t: u8, b: u8) -> bool
     (b == t) | ((t == 48) & ((48 <= b) & (b <= 57)))
 }
 
-// Whether a text has the form of a template, a text with 0 for each digit.
+// Whether a text has the form of a template, a text with 0 for each digit. No byte ends the loop early, so that many are compared at once.
 pub fn has_form(template: &[u8], s: &[u8]) -> bool
     ensures { λ r. ⌜ r ≡ hasForm (now (template .entry)) (now (s .entry)) ⌝ }
 {
     if template.len() != s.len() {
         return false;
     }
+    let mut all = true;
     let mut i = 0;
     while i < template.len() {
-        if !fits_byte(template[i], s[i]) {
-            return false;
-        }
+        all = all & fits_byte(template[i], s[i]);
         i += 1;
     }
-    true
+    all
 }
 
 // The number that the n digits from a place on stand for.
@@ -39,10 +38,7 @@ pub fn part(s: &[u8], at: usize, n: usize) -> u32
     requires { ⌜ (at + n ≤ length (now s)) × (n ≤ 9) × (allDigits (take n (drop at (now s))) ≡ true) ⌝ }
     ensures { λ r. ⌜ r ≡ numberAt (now (s .entry)) at n ⌝ }
 {
-    match digits::read_at(s, at, n) {
-        digits::Number::Value(v) => v as u32,
-        digits::Number::NotDigits => 0,
-    }
+    digits::value(&s[at..at + n])
 }
 
 // Writes the last n digits of a number from a place on and answers the place after them.

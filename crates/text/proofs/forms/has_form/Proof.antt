@@ -1,20 +1,20 @@
 use Prim.Native.Nat.{ℕ, _-_, _≤_}
-use mathlib.Core.Path.{_≡_, refl, sym, _∙_}
+use mathlib.Core.Path.{_≡_, refl}
+use mathlib.Core.Bool.{_&&_}
 use mathlib.Core.List.{List}
 use native.Mathlib.Omega.{arith}
 use lib.ListN.{length, drop}
 use borrow.Author.Needs.{needs}
-use borrow.Author.Tests.{not-true, not-false}
 use Rattle.text.specs.Forms.{hasForm}
-use Rattle.text.proofs.Matching.{unequal, goes-on, differs, whole}
+use Rattle.text.proofs.Matching.{unequal, goes-on, whole}
 use Rattle.text.proofs.forms.has_form.Statement.{statement}
 use Rattle.text.proofs.forms.has_form.Tie as tie
 
 abbrev Inv-loop : tie.InvT-loop
-Inv-loop t s i₀ i = (i ≤ length t) × (length t ≡ length s) × (hasForm t s ≡ hasForm (drop i t) (drop i s))
+Inv-loop t s all₀ i₀ all i = (i ≤ length t) × (length t ≡ length s) × (hasForm t s ≡ (all && hasForm (drop i t) (drop i s)))
 
 abbrev μ-loop : tie.MeasureT-loop
-μ-loop t s i₀ i = length t - i
+μ-loop t s all₀ i₀ all i = length t - i
 
 abbrev T : tie.At-loop Inv-loop μ-loop → List ℕ
 T l = l .before .before .before .before .args .template .now
@@ -37,13 +37,6 @@ shared-slice-read-fits-byte-2 c = search needs
 fits-byte-requires : tie.Need-fits-byte-requires Inv-loop μ-loop
 fits-byte-requires c κs = search needs
 
-returns-2 : tie.Need-returns-2 Inv-loop μ-loop
-returns-2 c =
-    let l = c .before .before .before .before .before in
-    let h = c .before .before .before .before .loop-test .taken in
-    differs (T l) (S l) (l .loop .i) (l .loop .inv .2) h (omega (arith, h, l .loop .inv .1))
-    (sym (c .before .fits-byte .ensures) ∙ not-true (c .before .fits-byte .result) (c .if2 .taken))
-
 add-i : tie.Need-add-i Inv-loop μ-loop
 add-i c = search needs
 
@@ -52,16 +45,15 @@ loop-less c = search needs
 
 loop-again : tie.Need-loop-again Inv-loop μ-loop
 loop-again c =
-    let l = c .before .before .before .before .before in
-    let h = c .before .before .before .before .loop-test .taken in (
+    let l = c .before .before .before .before in
+    let h = c .before .before .before .loop-test .taken in (
       omega arith,
       l .loop .inv .1,
-      goes-on (T l) (S l) (l .loop .i) (l .loop .inv .2) h (omega (arith, h, l .loop .inv .1))
-          (sym (c .before .fits-byte .ensures) ∙ not-false (c .before .fits-byte .result) (c .if2 .left)),
+      rw (c .fits-byte .ensures) (goes-on (T l) (S l) (l .loop .i) (l .loop .all) (l .loop .inv .2) h (omega (arith, h, l .loop .inv .1))),
     )
 
-returns-3 : tie.Need-returns-3 Inv-loop μ-loop
-returns-3 c = let l = c .before in whole (T l) (S l) (l .loop .i) (l .loop .inv .2) (c .loop-test .left) (omega (arith, l .loop .inv .1))
+returns-2 : tie.Need-returns-2 Inv-loop μ-loop
+returns-2 c = let l = c .before in whole (T l) (S l) (l .loop .i) (l .loop .all) (l .loop .inv .2) (c .loop-test .left) (omega (arith, l .loop .inv .1))
 
 pub has-form-spec : {M : Type 1} → statement M
 has-form-spec =
@@ -74,8 +66,7 @@ has-form-spec =
     shared-slice-read-fits-byte
     shared-slice-read-fits-byte-2
     fits-byte-requires
-    returns-2
     add-i
     loop-less
     loop-again
-    returns-3)
+    returns-2)
