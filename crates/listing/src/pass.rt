@@ -1,4 +1,4 @@
-// One forward pass over the lines of a body: nothing is looked at twice, and nothing ahead. A field is entered when the next heading or
+// One forward pass over the lines of a body: no line is looked at again, and none ahead. A field is entered when the next heading or
 // field comes, a heading when the next heading comes, and the first heading of a block when the block ends or the file does.
 use blocks::Block;
 use blocks::Job;
