@@ -10,7 +10,8 @@ use fields::kinds::Kind;
 use fields::readings;
 ghost use mathlib.Core.Path.{_≡_};
 ghost use Prim.Native.Nat.{min};
-ghost use Rattle.text.specs.Characters.{answers};
+ghost use Rattle.laws.specs.Lists.{anyOf};
+ghost use Rattle.text.specs.Characters.{isOdd, answers};
 ghost use Rattle.items.specs.Rows.{sorted};
 ghost use Rattle.items.specs.Kept.{headTold, fieldTold, lowTold, lineTold, lineKept};
 
@@ -71,12 +72,13 @@ fn told_len(length: usize) -> usize
     if length <= 64 { length } else { 64 }
 }
 
-// What is kept of a whole line; `table` is that of `text::characters`.
-pub fn line_kept(table: &[bool; 256], line: &[u8], no: u32, ended: bool) -> Line
+// What is kept of a whole line; `table` is that of `text::characters`, and `odd` says whether a byte of it is not plain.
+pub fn line_kept(table: &[bool; 256], line: &[u8], no: u32, odd: bool, ended: bool) -> Line
     requires { ⌜ now table ≡ answers ⌝ }
+    requires { ⌜ odd ≡ anyOf isOdd (now line) ⌝ }
     ensures { λ r. ⌜ r ≡ lineKept (sorted (record { no = no; bytes = now (line .entry); ended = ended })) ⌝ }
 {
-    let bad = text::characters::holds_inadmissible(table, line);
+    let bad = text::characters::holds_inadmissible(table, line, odd);
     let length = line.len();
     let n = told_len(length);
     line_told(&line[..n], length, no, bad, ended)

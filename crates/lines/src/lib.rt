@@ -1,14 +1,14 @@
 // How a file is cut into lines: the bytes before the first 1A, cut at each CR LF. `body_len` says how far a file is read;
-// `line_from` gives the line at a place, by a reader that carries the lent file and that place. Promised, for every file and
-// place: they give what `body` and `lines` of specs/Lines.antt say. Which bytes a line may hold is not judged here. It stands
-// on crate `laws`.
+// `line_from` gives the line at a place, and by the same look whether it holds a byte that is not plain, by a reader that carries
+// the lent file and that place. Promised, for every file and place: they give what `body` and `lines` of specs/Lines.antt say. It
+// stands on crates `laws` and `text`.
 ghost use mathlib.Core.Path.{_≡_};
 ghost use Prim.Native.Nat.{_+_, _<_};
 ghost use lib.ListN.{length, drop};
 ghost use Rattle.laws.specs.Lists.{anyOf};
 ghost use Rattle.lines.specs.Lines.{isByte, body, crlf};
 ghost use Rattle.lines.specs.Blocks.{clear};
-ghost use Rattle.lines.specs.Reading.{restTo, lineAt};
+ghost use Rattle.lines.specs.Reading.{restTo, after, lineAt};
 
 // Whether b stands in s. A loop that only sets a flag is compiled to wide compares; one that stops early is not.
 fn holds(s: &[u8], b: u8) -> bool
@@ -63,21 +63,24 @@ pub fn body_len(file: &[u8]) -> usize
     mark_from(file, i)
 }
 
-// A line that was found: where it ends, where the next one starts, and whether CR LF stands between.
+// A line that was found: where it ends, where the next one starts, whether CR LF stands between, and whether a byte that is not
+// plain stands in it.
 pub struct Found {
     pub end: usize,
     pub next: usize,
     pub ended: bool,
+    pub odd: bool,
 }
 
 // A rest up to a place, with no CR LF after it.
-fn rest_to(end: usize) -> Found
-    ensures { λ r. ⌜ r ≡ restTo end ⌝ }
+fn rest_to(end: usize, odd: bool) -> Found
+    ensures { λ r. ⌜ r ≡ restTo end odd ⌝ }
 {
     Found {
         end,
         next: end,
         ended: false,
+        odd,
     }
 }
 
@@ -92,15 +95,16 @@ fn crlf_at(s: &[u8], i: usize) -> bool
     false
 }
 
-// The line at a place, byte by byte.
-fn line_by_bytes(s: &[u8], at: usize) -> Found
-    ensures { λ r. ⌜ r ≡ lineAt (now (s .entry)) at ⌝ }
+// The line at a place, byte by byte; `before` says whether an odd byte stood on it already.
+fn line_by_bytes(s: &[u8], at: usize, before: bool) -> Found
+    ensures { λ r. ⌜ r ≡ after before (lineAt (now (s .entry)) at) ⌝ }
 {
     let n = s.len();
     if n <= at {
-        return rest_to(at);
+        return rest_to(at, before);
     }
     let last = n - 1;
+    let mut odd = before;
     let mut i = at;
     while i < last {
         if crlf_at(s, i) {
@@ -108,23 +112,27 @@ fn line_by_bytes(s: &[u8], at: usize) -> Found
                 end: i,
                 next: i + 2,
                 ended: true,
+                odd,
             };
         }
+        odd = odd | !text::characters::is_plain(s[i]);
         i += 1;
     }
-    rest_to(n)
+    rest_to(n, odd | !text::characters::is_plain(s[i]))
 }
 
-// The line at a place; at or past the end it is an empty rest at that place. Blocks without CR are passed over at once: of
-// eight bytes, for most lines are short.
+// The line at a place; at or past the end it is an empty rest at that place. Blocks without CR are looked at as a whole: of eight
+// bytes, for most lines are short.
 pub fn line_at(s: &[u8], at: usize) -> Found
     ensures { λ r. ⌜ r ≡ lineAt (now (s .entry)) at ⌝ }
 {
+    let mut odd = false;
     let mut i = at;
     while clear_of(s, i, 8, 0x0d) {
+        odd = odd | text::characters::holds_odd(&s[i..i + 8]);
         i += 8;
     }
-    line_by_bytes(s, i)
+    line_by_bytes(s, i, odd)
 }
 
 // The line reader: the lent file, and its place in it.

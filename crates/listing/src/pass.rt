@@ -141,7 +141,7 @@ pub fn enter_faults(s: &[u8], code: u32, day: u32, lines: &mut [u32], rules: &mu
         let f = lines::line_from(s, at);
         let end = f.end;
         n += 1;
-        let x = items::rows::line_kept(&table, &s[at..end], n, f.ended);
+        let x = items::rows::line_kept(&table, &s[at..end], n, f.odd, f.ended);
         at = f.next;
         match x {
             Line::OfLow(l) => {

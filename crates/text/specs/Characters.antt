@@ -25,6 +25,7 @@ isAdmissible b = isPlain b || among b others
 abbrev pub isInadmissible : ℕ → Bool
 isInadmissible b = not (isAdmissible b)
 
+-- not plain: a byte that may be inadmissible
 abbrev pub isOdd : ℕ → Bool
 isOdd b = not (isPlain b)
 

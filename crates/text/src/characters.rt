@@ -3,7 +3,7 @@ ghost use mathlib.Core.Path.{_≡_};
 ghost use Rattle.laws.specs.Lists.{anyOf};
 ghost use Rattle.text.specs.Characters.{isPlain, isAdmissible, isOdd, isInadmissible, answers};
 
-fn is_plain(b: u8) -> bool
+pub fn is_plain(b: u8) -> bool
     ensures { λ r. ⌜ r ≡ isPlain b ⌝ }
 {
     (0x20 <= b) & (b <= 0x7E)
@@ -37,8 +37,9 @@ pub fn table() -> [bool; 256]
     t
 }
 
-// Only sets a flag, so that it is compiled to whole words.
-fn holds_odd(s: &[u8]) -> bool
+// Whether a text holds a byte that is not plain: only such a byte can be inadmissible. Only sets a flag, so that it is compiled to
+// whole words.
+pub fn holds_odd(s: &[u8]) -> bool
     ensures { λ r. ⌜ r ≡ anyOf isOdd (now (s .entry)) ⌝ }
 {
     let mut odd = false;
@@ -74,12 +75,13 @@ fn holds_bad(t: &[bool; 256], s: &[u8]) -> bool
     bad
 }
 
-// Whether a text holds an inadmissible byte (rule 1). The table is asked only where a byte is not plain.
-pub fn holds_inadmissible(t: &[bool; 256], s: &[u8]) -> bool
+// Whether a text holds an inadmissible byte (rule 1). Where it is known that all its bytes are plain, the table is not asked.
+pub fn holds_inadmissible(t: &[bool; 256], s: &[u8], odd: bool) -> bool
     requires { ⌜ now t ≡ answers ⌝ }
+    requires { ⌜ odd ≡ anyOf isOdd (now s) ⌝ }
     ensures { λ r. ⌜ r ≡ anyOf isInadmissible (now (s .entry)) ⌝ }
 {
-    if holds_odd(s) {
+    if odd {
         return holds_bad(t, s);
     }
     false

@@ -24,7 +24,10 @@ fn admissible_bytes() -> u64 {
 
 fn bad_byte(name: &[u8], s: &[u8]) {
     let table = text::characters::table();
-    show(name, flag(text::characters::holds_inadmissible(&table, s)));
+    show(
+        name,
+        flag(text::characters::holds_inadmissible(&table, s, text::characters::holds_odd(s))),
+    );
 }
 
 fn admissible(name: &[u8], b: u8) {

@@ -71,7 +71,7 @@ part-line-kept-end : tie.Need-part-line-kept-end Inv-loop μ-loop
 part-line-kept-end c = omega (arith, next (c .before) .starts, next (c .before) .closes, next (c .before) .within)
 
 line-kept-requires : tie.Need-line-kept-requires Inv-loop μ-loop
-line-kept-requires c κs = c .before .before .before .before .before .before .before .before .before .before .before .table .ensures
+line-kept-requires c κs = (c .before .before .before .before .before .before .before .before .before .before .before .table .ensures, next (c .before .before) .tells)
 
 enum-known-x : tie.Need-enum-known-x Inv-loop μ-loop
 enum-known-x c = search needs

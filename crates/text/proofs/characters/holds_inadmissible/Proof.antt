@@ -6,9 +6,6 @@ use borrow.Author.Needs.{needs}
 use Rattle.text.proofs.characters.holds_inadmissible.Statement.{statement}
 use Rattle.text.proofs.characters.holds_inadmissible.Tie as tie
 
-holds-odd-requires : tie.Need-holds-odd-requires
-holds-odd-requires c κs = search needs
-
 holds-bad-requires : tie.Need-holds-bad-requires
 holds-bad-requires c κs = search needs
 
@@ -16,8 +13,7 @@ returns : tie.Need-returns
 returns c = search needs
 
 returns-2 : tie.Need-returns-2
-returns-2 c = sym (weaker isOdd isInadmissible odd-weaker _ (sym (c .before .holds-odd .ensures) ∙ c .if1 .left))
+returns-2 c = sym (weaker isOdd isInadmissible odd-weaker _ (sym (c .before .before .pre .1) ∙ c .if1 .left))
 
 pub holds-inadmissible-spec : {M : Type 1} → statement M
-holds-inadmissible-spec =
-    tie.close (tie.spec holds-odd-requires holds-bad-requires returns returns-2)
+holds-inadmissible-spec = tie.close (tie.spec holds-bad-requires returns returns-2)
