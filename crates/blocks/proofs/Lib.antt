@@ -4,4 +4,3 @@ pub mod Accounting
 pub mod Tuesday
 pub mod Bits
 pub mod Laws
-mod Values

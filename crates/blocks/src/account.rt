@@ -180,24 +180,3 @@ pub fn start() -> Block
 {
     no_block(false, false)
 }
-
-// The account is lent: it is taken out, brought up to date by value, and stored back.
-pub fn step(b: &mut Block, it: Item, job: Job) -> u64
-    ensures { λ r. ⌜ (now (b .exit) ≡ closeModel job (now (b .entry)) it .block) × (r ≡ closeModel job (now (b .entry)) it .marks) × (r < 2 ^ 39) ⌝ }
-{
-    let c = close_item(*b, it, job);
-    *b = c.block;
-    c.marks
-}
-
-// The lending of a local account. Its parameters and its result are plain, so its callers need no walk.
-pub fn advance(b: Block, it: Item, job: Job) -> Closed
-    ensures { λ r. ⌜ (r ≡ closeModel job b it) × (r .marks < 2 ^ 39) ⌝ }
-{
-    let mut own = b;
-    let marks = step(&mut own, it, job);
-    Closed {
-        block: own,
-        marks: marks,
-    }
-}

@@ -135,7 +135,7 @@ fn tell(job: Job, b: Block, it: Item) -> Block {
     let head = it.head;
     let kc = it.kc;
     let at_kc = kc_marks(job, head, kc);
-    let c = blocks::account::advance(b, it, job);
+    let c = account::advance(b, it, job);
     io::print_decimal(1, it.line as u64);
     io::write_all(1, b":");
     print_rules(at_kc);

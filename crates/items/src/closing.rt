@@ -77,7 +77,7 @@ pub fn close_item(job: Job, b: Block, w: Wait, s: Live, kc: Kc, claims: Claims) 
     let any = b.any;
     let item = item_of(s, kc, claims);
     let head = item.head;
-    let c = blocks::account::advance(b, item, job);
+    let c = account::advance(b, item, job);
     let block = c.block;
     let m = head_marks(s, c.marks);
     if blocks::account::closes_block(head) {

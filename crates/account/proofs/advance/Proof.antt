@@ -39,28 +39,28 @@ use denote.Triple.Table.{entered, cited}
 use denote.Triple.Walked.{says, Stays, stay-none, walkOf, AllGo, goes-none, Walks, ends-at, walked, walk-meets}
 use denote.Triple.Clauses.{ensured, lasts}
 use denote.Exit.{yes}
 use Rattle.blocks.specs.Model.{closeModel}
 use Rattle.blocks.specs.declared.Block.{Block}
 use Rattle.blocks.specs.declared.Item.{Item}
 use Rattle.blocks.specs.declared.Job.{Job}
 use Rattle.blocks.specs.declared.Closed.{Closed}
-use Rattle.blocks.proofs.Values.{machB, machI, machJ, machC}
+use Rattle.account.proofs.Values.{machB, machI, machJ, machC}
 use Rattle.blocks.proofs.Block as TB
 use Rattle.blocks.proofs.Block.Laws as TB′
 use Rattle.blocks.proofs.Item as TI
 use Rattle.blocks.proofs.Item.Laws as TI′
 use Rattle.blocks.proofs.Job as TJ
 use Rattle.blocks.proofs.Job.Laws as TJ′
 use Rattle.blocks.proofs.Closed as TC
 use Rattle.blocks.proofs.Closed.Laws as TC′
-use Rattle.blocks.proofs.account.step as stp
-use Rattle.blocks.proofs.account.step.Symbol as step-def
-use Rattle.blocks.proofs.account.step.Symbol.{name as #step}
-use Rattle.blocks.proofs.account.step.Met as step-thm
-use Rattle.blocks.proofs.account.advance.Key.{name as #advance}
-use Rattle.blocks.proofs.account.advance as adv
-use Rattle.blocks.proofs.account.advance.Statement as stated
-use Rattle.blocks.proofs.account.advance.Code as code
+use Rattle.account.proofs.step as stp
+use Rattle.account.proofs.step.Symbol as step-def
+use Rattle.account.proofs.step.Symbol.{name as #step}
+use Rattle.account.proofs.step.Met as step-thm
+use Rattle.account.proofs.advance.Key.{name as #advance}
+use Rattle.account.proofs.advance as adv
+use Rattle.account.proofs.advance.Statement as stated
+use Rattle.account.proofs.advance.Code as code
 
 abbrev stayed : Stays (adv.ended .signature .params) (adv.ended .kept)
 stayed = (stay-none (λ _. TB.the-row) yes, (stay-none (λ _. TI.the-row) yes, (stay-none (λ _. TJ.the-row) yes, tt)))
@@ -174,4 +174,4 @@ advance-spec 𝓤 H 𝓜 𝓖 𝓡 =
     entered 𝓤 H (tripleOf 𝓤 H (𝓖 .A) adv.signature (adv.spec 𝓤 H (𝓖 .A) (𝓜 .mem) (𝓡 .run)))
     (tables 𝓤 H 𝓜 𝓡 code.env .C) (tables 𝓤 H 𝓜 𝓡 code.env .Λ) #advance code.function (code.unfolded 𝓤 H 𝓜 𝓡)
     (advance-meets 𝓤 H (𝓖 .A) (givenOf 𝓤 H 𝓜 𝓖) (𝓜 .mem) (𝓡 .run) (tablesOf 𝓤 H 𝓜 (tables 𝓤 H 𝓜 𝓡 code.env))
-    (cited 𝓤 H (Step 𝓤 H (𝓖 .A) (𝓜 .mem) (𝓡 .run)) 𝓜 𝓡 code.env #step step-def.routine code.calls-blocks·account·step (step-thm.met 𝓤 H 𝓜 𝓖 𝓡)))
+    (cited 𝓤 H (Step 𝓤 H (𝓖 .A) (𝓜 .mem) (𝓡 .run)) 𝓜 𝓡 code.env #step step-def.routine code.calls-account·step (step-thm.met 𝓤 H 𝓜 𝓖 𝓡)))

@@ -39,28 +39,28 @@ use denote.Triple.Table.{entered, cited}
 use denote.Triple.Walked.{says, Stays, stay-ref, stay-none, walkOf, AllGo, goes-none, goes-ref, Walks, ends-at, walked, walk-meets}
 use denote.Triple.Clauses.{ensured, lasts}
 use denote.Exit.{yes}
 use Rattle.blocks.specs.Model.{closeModel}
 use Rattle.blocks.specs.declared.Block.{Block}
 use Rattle.blocks.specs.declared.Item.{Item}
 use Rattle.blocks.specs.declared.Job.{Job}
 use Rattle.blocks.specs.declared.Closed.{Closed}
-use Rattle.blocks.proofs.Values.{machB, machI, machJ}
+use Rattle.account.proofs.Values.{machB, machI, machJ}
 use Rattle.blocks.proofs.Block as TB
 use Rattle.blocks.proofs.Block.Laws as TB′
 use Rattle.blocks.proofs.Item as TI
 use Rattle.blocks.proofs.Item.Laws as TI′
 use Rattle.blocks.proofs.Job as TJ
 use Rattle.blocks.proofs.Job.Laws as TJ′
 use Rattle.blocks.proofs.Closed as TC
 use Rattle.blocks.proofs.Closed.Laws as TC′
 use Rattle.blocks.proofs.account.close_item as close
 use Rattle.blocks.proofs.account.close_item.Symbol as close-def
 use Rattle.blocks.proofs.account.close_item.Symbol.{name as #close-item}
 use Rattle.blocks.proofs.account.close_item.Met as close-thm
-use Rattle.blocks.proofs.account.step.Key.{name as #step}
-use Rattle.blocks.proofs.account.step as stp
-use Rattle.blocks.proofs.account.step.Statement as stated
-use Rattle.blocks.proofs.account.step.Code as code
+use Rattle.account.proofs.step.Key.{name as #step}
+use Rattle.account.proofs.step as stp
+use Rattle.account.proofs.step.Statement as stated
+use Rattle.account.proofs.step.Code as code
 
 abbrev stayed : Stays (stp.ended .signature .params) (stp.ended .kept)
 stayed = (stay-ref (0 ∷ []) tt (plain (λ _. TB.the-row)), (stay-none (λ _. TI.the-row) yes, (stay-none (λ _. TJ.the-row) yes, tt)))
