@@ -1,4 +1,4 @@
-use mathlib.Core.Path.{_≡_}
+use mathlib.Core.Path.{_≡_, sym, _∙_}
 use mathlib.Core.Bool.{true}
 use Prim.Native.Nat.{_-_}
 use native.Mathlib.Omega.{arith}
@@ -18,7 +18,7 @@ abbrev μ-loop : tie.MeasureT-loop
 
 -- the block at i is clear
 at-clear : (c : tie.Then1 Inv-loop μ-loop) → clear (c .before .before .before .before .args .file .now) (c .before .before .loop .i) 64 0x1a ≡ true
-at-clear c = cc
+at-clear c = sym (c .before .clear-of .ensures) ∙ c .if1 .taken
 
 loop-holds : tie.Need-loop-holds Inv-loop μ-loop
 loop-holds c = pass-start _ _

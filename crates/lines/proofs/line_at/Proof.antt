@@ -19,7 +19,7 @@ abbrev μ-loop : tie.MeasureT-loop
 
 -- the block at i is clear
 at-clear : (c : tie.Then1 Inv-loop μ-loop) → clear (c .before .before .before .before .args .s .now) (c .before .before .loop .i) 8 0x0d ≡ true
-at-clear c = cc
+at-clear c = sym (c .before .clear-of .ensures) ∙ c .if1 .taken
 
 fits : (c : tie.Then1 Inv-loop μ-loop) → c .before .before .loop .i + 8 ≤ length (c .before .before .before .before .args .s .now)
 fits c = clear-fits _ _ _ _ (at-clear c)

@@ -32,7 +32,7 @@ add-t11 : tie.Need-add-t11 Inv-loop μ-loop
 add-t11 c = search needs
 
 returns-2 : tie.Need-returns-2 Inv-loop μ-loop
-returns-2 c = sym (c .before .before .before .loop .inv .1 ∙ line-cut _ _ _ (cc))
+returns-2 c = sym (c .before .before .before .loop .inv .1 ∙ line-cut _ _ _ (sym (c .before .crlf-at .ensures) ∙ c .if2 .taken))
 
 shared-slice-read-is-plain : tie.Need-shared-slice-read-is-plain Inv-loop μ-loop
 shared-slice-read-is-plain c = search needs
@@ -49,7 +49,7 @@ loop-less c = search needs
 loop-again : tie.Need-loop-again Inv-loop μ-loop
 loop-again c =
     let at-loop = c .before .before .before .before .before in
-    (search needs, at-loop .loop .inv .1 ∙ line-more _ _ (at-loop .loop .odd) _ (at-loop .loop .inv .0) (cc) (c .is-plain .ensures))
+    (search needs, at-loop .loop .inv .1 ∙ line-more _ _ (at-loop .loop .odd) _ (at-loop .loop .inv .0) (sym (c .before .before .before .crlf-at .ensures) ∙ c .before .before .if2 .left) (c .is-plain .ensures))
 
 shared-slice-read-is-plain-2 : tie.Need-shared-slice-read-is-plain-2 Inv-loop μ-loop
 shared-slice-read-is-plain-2 c = search needs
