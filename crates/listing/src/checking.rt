@@ -1,6 +1,5 @@
 // The job at the counter: a file, the submitter's code and the accounting day are checked, and the first pairs of a line and a rule
 // broken there are written into two lent slices.
-use crate::pass;
 ghost use mathlib.Core.Path.{_≡_};
 ghost use Rattle.listing.specs.Checking.{isCode, isAccountingDay, Checks, checkedNumber, checkedOr};
 

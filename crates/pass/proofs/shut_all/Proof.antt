@@ -5,15 +5,15 @@ use mathlib.Core.Bool.{Bool}
 use Rattle.ledger.specs.Faults.{marked}
 use Rattle.ledger.proofs.Marks.{marked-few}
 use Rattle.ledger.proofs.Entering.{entered-both}
-use Rattle.listing.proofs.Walk.{entered-list}
+use Rattle.pass.proofs.Walk.{entered-list}
 use lib.Dec.{ltb}
 use lib.ListN.{getD, length}
 use Rattle.fields.specs.declared.readings.Reading.{Reading}
 use Rattle.items.specs.declared.closing.Shut.{Shut}
 use Rattle.items.specs.State.{saidOf, kcAfter, claimsAfter, fieldMarksOf, fieldFaults, itemFaults, closeModel}
 use borrow.Author.Needs.{needs}
-use Rattle.listing.proofs.pass.shut_all.Statement.{statement}
-use Rattle.listing.proofs.pass.shut_all.Tie as tie
+use Rattle.pass.proofs.shut_all.Statement.{statement}
+use Rattle.pass.proofs.shut_all.Tie as tie
 
 said-of-requires : tie.Need-said-of-requires
 said-of-requires c κs = search needs

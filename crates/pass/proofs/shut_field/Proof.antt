@@ -5,11 +5,11 @@ use mathlib.Core.Bool.{Bool}
 use Rattle.ledger.specs.Faults.{marked}
 use Rattle.ledger.proofs.Marks.{marked-few}
 use Rattle.ledger.proofs.Entering.{entered-both}
-use Rattle.listing.proofs.Walk.{entered-list}
+use Rattle.pass.proofs.Walk.{entered-list}
 use Rattle.items.specs.State.{fieldMarksOf}
 use borrow.Author.Needs.{needs}
-use Rattle.listing.proofs.pass.shut_field.Statement.{statement}
-use Rattle.listing.proofs.pass.shut_field.Tie as tie
+use Rattle.pass.proofs.shut_field.Statement.{statement}
+use Rattle.pass.proofs.shut_field.Tie as tie
 
 again-requires : tie.Need-again-requires
 again-requires c κs = search needs

@@ -6,10 +6,10 @@ use lib.ListN.{length}
 use Rattle.lines.specs.Reading.{IsNext}
 use Rattle.lines.proofs.Reading.{is-next}
 use Rattle.items.specs.State.{claimsAfter}
-use Rattle.listing.proofs.Walk.{no-claim, Walking, kept-at, walk-start, walk-ready, walk-ident, few-all, walk-low, walk-field, walk-head, walk-end}
+use Rattle.pass.proofs.Walk.{no-claim, Walking, kept-at, walk-start, walk-ready, walk-ident, few-all, walk-low, walk-field, walk-head, walk-end}
 use borrow.Author.Needs.{needs}
-use Rattle.listing.proofs.pass.enter_faults.Statement.{statement}
-use Rattle.listing.proofs.pass.enter_faults.Tie as tie
+use Rattle.pass.proofs.enter_faults.Statement.{statement}
+use Rattle.pass.proofs.enter_faults.Tie as tie
 
 abbrev Inv-loop : tie.InvT-loop
 Inv-loop s code day lines₀ rules₀ job table stood₀ g₀ live₀ claims₀ block₀ wait₀ at₀ n₀ lines rules stood g live claims block wait at n = Walking code day s lines₀ rules₀ job lines rules stood g live claims block wait at n
