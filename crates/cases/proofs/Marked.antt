@@ -13,8 +13,8 @@ use Rattle.headings.specs.ItemTypes.{isInput, isTrilateral, isPriority, isPayme
 use Rattle.headings.specs.HeadRules.{rule10, rule13, rule14}
 use Rattle.headings.specs.Reading.{headingOf}
 use Rattle.headings.specs.Writing.{headingText}
-use Rattle.headings.specs.Outcomes.{outgoing, codes, inClass}
-use Rattle.headings.specs.Deriving.{barred, turned, deriveRefusals, derivedTarget}
+use Rattle.outcomes.specs.Outcomes.{outgoing, codes, inClass}
+use Rattle.outcomes.specs.Deriving.{barred, turned, deriveRefusals, derivedTarget}
 use Rattle.fields.specs.Layouts.{run, isEmpty, headIs, fits, part}
 use Rattle.fields.specs.Kinds.{place, kindOf}
 use Rattle.fields.specs.Classes.{classOf, groupOf}

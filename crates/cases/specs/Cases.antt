@@ -11,7 +11,7 @@ use Rattle.laws.specs.Refusals.{first}
 use Rattle.text.specs.Characters.{isAdmissible}
 use Rattle.text.specs.Days.{isReal}
 use Rattle.text.specs.Strings.{begins}
-use Rattle.headings.specs.Deriving.{deriveRefusals, derivedTarget}
+use Rattle.outcomes.specs.Deriving.{deriveRefusals, derivedTarget}
 use Rattle.fields.specs.Accounts.{weighed, accountOf, accountValue}
 use Rattle.ledger.specs.Faults.{Fault, fault}
 use Rattle.items.specs.Faults.{faults}

@@ -1,10 +1,4 @@
 pub mod Places
 pub mod Answers
 pub mod RoundTrips
-pub mod Seven
-pub mod Cells
-pub mod Steps
-pub mod Joined
-pub mod Small
-pub mod Sound
 pub mod Unique

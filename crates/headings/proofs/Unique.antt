@@ -8,14 +8,11 @@ use Rattle.headings.specs.declared.Heading.{Heading}
 use Rattle.headings.specs.declared.Read.{Read}
 use Rattle.headings.specs.declared.writing.Written.{Written}
 use Rattle.headings.specs.declared.writing.Written.the-variants as written
-use Rattle.headings.specs.declared.outcomes.Derived.{Derived}
-use Rattle.headings.specs.declared.outcomes.Derived.the-variants as derived
 use Rattle.headings.specs.Reading.{headingOf, readNumber, readRefusals}
 use Rattle.headings.specs.Writing.{writtenNumber, writeRefusals, writtenTarget}
-use Rattle.headings.specs.Deriving.{derivedNumber, deriveRefusals, derivedTarget}
 
 -- answers that their number gives back are as different as their numbers
-same : {A : Type 0} (number : A → ℕ) (answer : ℕ → A) → ((a : A) → a ≡ answer (number a)) → (a b : A) → number a ≡ number b → a ≡ b
+pub same : {A : Type 0} (number : A → ℕ) (answer : ℕ → A) → ((a : A) → a ≡ answer (number a)) → (a b : A) → number a ≡ number b → a ≡ b
 same number answer back a b e = back a ∙ ap answer e ∙ sym (back b)
 
 abbrev writtenBy : ℕ → Written
@@ -26,19 +23,6 @@ written-back written.Done = refl
 written-back written.TooLarge = refl
 written-back written.TooShort = refl
 
-abbrev derivedBy : ℕ → Derived
-derivedBy k =
-    getD (derived.Done ∷ derived.NoHeading ∷ derived.NotInput ∷ derived.NoOutcome ∷ derived.NoEntry ∷ derived.NotInClass ∷ derived.TooShort ∷ []) (k - 10) derived.Done
-
-derived-back : (d : Derived) → d ≡ derivedBy (derivedNumber d)
-derived-back derived.Done = refl
-derived-back derived.NoHeading = refl
-derived-back derived.NotInput = refl
-derived-back derived.NoOutcome = refl
-derived-back derived.NoEntry = refl
-derived-back derived.NotInClass = refl
-derived-back derived.TooShort = refl
-
 -- what each job promises of its answer, and of the target after it
 abbrev pub ReadMeets : List ℕ → Read → Type 0
 ReadMeets s r = (readNumber r ≡ first (readRefusals s)) × (r ≡ headingOf s)
@@ -46,17 +30,9 @@ ReadMeets s r = (readNumber r ≡ first (readRefusals s)) × (r ≡ headingOf s)
 abbrev pub WriteMeets : Heading → List ℕ → Written → List ℕ → Type 0
 WriteMeets h t w after = (writtenNumber w ≡ first (writeRefusals h (length t))) × (after ≡ writtenTarget h t)
 
-abbrev pub DeriveMeets : List ℕ → ℕ → ℕ → List ℕ → Derived → List ℕ → Type 0
-DeriveMeets s o n t d after = (derivedNumber d ≡ first (deriveRefusals s o n (length t))) × (after ≡ derivedTarget s o n t)
-
 pub read-unique : (s : List ℕ) (r r′ : Read) → ReadMeets s r → ReadMeets s r′ → r ≡ r′
 read-unique s r r′ m m′ = m .1 ∙ sym (m′ .1)
 
 pub write-unique : (h : Heading) (t : List ℕ) (w w′ : Written) (after after′ : List ℕ) → WriteMeets h t w after → WriteMeets h t w′ after′
     → (w ≡ w′) × (after ≡ after′)
 write-unique h t w w′ after after′ m m′ = (same writtenNumber writtenBy written-back w w′ (m .0 ∙ sym (m′ .0)), m .1 ∙ sym (m′ .1))
-
-pub derive-unique : (s : List ℕ) (o n : ℕ) (t : List ℕ) (d d′ : Derived) (after after′ : List ℕ) → DeriveMeets s o n t d after
-    → DeriveMeets s o n t d′ after′ → (d ≡ d′) × (after ≡ after′)
-derive-unique s o n t d d′ after after′ m m′ =
-    (same derivedNumber derivedBy derived-back d d′ (m .0 ∙ sym (m′ .0)), m .1 ∙ sym (m′ .1))

@@ -2,5 +2,3 @@ pub mod ItemTypes
 pub mod HeadRules
 pub mod Reading
 pub mod Writing
-pub mod Outcomes
-pub mod Deriving

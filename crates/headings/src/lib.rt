@@ -1,9 +1,8 @@
-// Headings of items: their types and parts, the 54 bytes in which they are read and written, and the heading that an outcome
-// derives from one. Reading, writing and deriving are open jobs: they take every input, refuse by document 01's numbers, and a
-// refusal changes no lent byte. Stands on `text` (digits, strings, layouts) and on `laws`.
+// Headings of items: their types and parts, the rules on those parts, and the 54 bytes in which they are read and written. Reading
+// and writing are open jobs: they take every input, refuse by document 01's numbers, and a refusal changes no lent byte. Stands on
+// `text` (digits, strings, layouts) and on `laws`.
 pub mod head_rules;
 pub mod item_types;
-pub mod outcomes;
 pub mod reading;
 pub mod writing;
 

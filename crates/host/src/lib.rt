@@ -1,8 +1,7 @@
 // The C face: numbers and bytes only. Each function answers 0, or the number of the refusal by document 01, and a refusal leaves
 // everything behind the pointers as it was. The promises are those of the jobs below, said with numbers: `listing` for checking,
-// `headings` for deriving, `fields` for the account check.
+// `outcomes` for deriving, `fields` for the account check.
 use fields::accounts;
-use headings::outcomes;
 use listing::checking;
 ghost use mathlib.Core.Path.{_≡_};
 ghost use mathlib.Core.Bool.{cond};
@@ -10,7 +9,7 @@ ghost use lib.Dec.{eqb};
 ghost use lib.ListN.{length};
 ghost use mathlib.Core.List.{[]};
 ghost use Rattle.laws.specs.Refusals.{first};
-ghost use Rattle.headings.specs.Deriving.{deriveRefusals, derivedTarget};
+ghost use Rattle.outcomes.specs.Deriving.{deriveRefusals, derivedTarget};
 ghost use Rattle.fields.specs.Accounts.{accountRefusals, accountHolds};
 ghost use Rattle.items.specs.Faults.{faults};
 ghost use Rattle.listing.specs.Checking.{checkRefusals};

@@ -4,7 +4,6 @@ use headings::Code;
 use headings::Heading;
 use headings::ItemNo;
 use headings::item_types;
-use headings::outcomes;
 use headings::reading;
 use headings::writing;
 

@@ -1,0 +1,22 @@
+use borrow.Author.Needs.{needs}
+use Rattle.outcomes.specs.Deriving.{barred}
+use Rattle.outcomes.proofs.is_barred.Statement.{statement}
+use Rattle.outcomes.proofs.is_barred.Tie as tie
+
+breaks-ten-requires : tie.Need-breaks-ten-requires
+breaks-ten-requires c κs = search needs
+
+breaks-thirteen-requires : tie.Need-breaks-thirteen-requires
+breaks-thirteen-requires c κs = search needs
+
+breaks-fourteen-requires : tie.Need-breaks-fourteen-requires
+breaks-fourteen-requires c κs = search needs
+
+returns : tie.Need-returns
+unfolding barred
+returns c = rw (c .breaks-fourteen .ensures, c .before .breaks-thirteen .ensures, c .before .before .breaks-ten .ensures)
+
+pub is-barred-spec : {M : Type 1} → statement M
+is-barred-spec =
+    tie.close
+    (tie.spec breaks-ten-requires breaks-thirteen-requires breaks-fourteen-requires returns)
