@@ -24,7 +24,6 @@ use Rattle.fields.specs.Classes.{classOf}
 use Rattle.fields.specs.Tails.{isBroken, reads}
 use Rattle.fields.proofs.Kept.{broken}
 use Rattle.blocks.specs.declared.Job.{Job}
-use Rattle.blocks.specs.declared.Kc.{Kc}
 use Rattle.blocks.specs.declared.Block.{Block}
 use Rattle.blocks.specs.OwnRules.{noKc}
 use Rattle.blocks.specs.Model.{jobOf, breaks8}
@@ -39,10 +38,10 @@ use Rattle.items.specs.Fields.{lineMarks, lowMarks, continuations, says,
 use Rattle.items.specs.Headings.{continued, headOf, is, kcOf, ends, fresh}
 use Rattle.items.specs.Faults.{entry, lowEntry, fieldEntry}
 use Rattle.items.specs.Kept.{headKept, fieldKept, lowKept}
-use Rattle.items.specs.State.{saidOf, readOf, lowLive, kcAfter, fieldLive, headLive, noClaims, claimsAfter, ownMarks, lowMarksOf, firstKc, lateBy, insideMarks, fieldMarksOf, fieldFaults, itemFaults, closeModel, lastMarks, headMarksOf}
+use Rattle.items.specs.State.{saidOf, readOf, lowLive, fieldLive, headLive, noClaims, claimsAfter, ownMarks, lowMarksOf, firstKc, lateBy, insideMarks, fieldMarksOf, fieldFaults, itemFaults, closeModel, lastMarks, headMarksOf}
 use Rattle.items.proofs.Ideal.{Open, start, early, atHead, atField, closed, item, push, waits, headsOut, out, lastOut, final}
 use Rattle.items.proofs.Turned.{continued-closed, firstUp, says-closed}
-use Rattle.items.proofs.Opened.{said-is, live, low-is, kcThen, kc-is, field-is, head-is, no-kc-is, claimsOf, claims, no-claims-is, claimsThen, claims-is, claims-field}
+use Rattle.items.proofs.Opened.{said-is, live, low-is, field-is, head-is, no-kc-is, claimsOf, claims, no-claims-is, claimsThen, claims-is, claims-field}
 use Rattle.items.proofs.Shutting.{put-none, accountOf, wait, last-out, read-is, shut-is, closesAs, account-of, wait-of, item-out}
 
 -- ---- the lines at which identifiers last stood
@@ -119,7 +118,7 @@ module _ (code today : ℕ) where
   -- 5 to 9 of the open field
   inside-is : (b : List Item) (h : Row) (hl : List LowRow) (ups : List (Group FieldRow)) (x : FieldRow) (ls : List LowRow) (again : Bool) → again ≡ stands (x .ident) ups
       → let g = closed x ls in let r = headOf (closed h hl) in let s = live (atField b h hl ups x ls) in
-      insideMarks job s (saidOf s) again
+      insideMarks job s (kcOf (firstUp (is (named "KC")) ups)) (saidOf s) again
       ≡ mark 5 (stands (x .ident) ups) + mark 6 (rule6 g) + mark 7 (failsCheck (says g)) + mark 8 (isFirstKc ups g && late today r (says g))
       + mark 9 (isFirstKc ups g && large r (says g))
   unfolding insideMarks fieldKept
@@ -132,7 +131,7 @@ module _ (code today : ℕ) where
       ∙ (λ j. mark 5 (stands (x .ident) ups) + mark 6 (broken-is x ls j) + mark 7 (failsCheck (says (closed x ls)))
       + mark 8 (isFirstKc ups (closed x ls) && late-is (headOf (closed h hl)) (says (closed x ls)) j) + mark 9 (isFirstKc ups (closed x ls) && large (headOf (closed h hl)) (says (closed x ls))))
 
-  field-outs : (c : Open) (a : List ℕ) → Inside c a → (l : List Fault) → putAll put (fieldsOut c) l ≡ insertAll (fieldFaults job (live c) (saidOf (live c)) a) l
+  field-outs : (c : Open) (a : List ℕ) → Inside c a → (l : List Fault) → putAll put (fieldsOut c) l ≡ insertAll (fieldFaults job (live c) (claims c) (saidOf (live c)) a) l
   unfolding fieldMarksOf fieldEntry looseMarks fieldMarks lineMarks fieldKept headKept
   field-outs start a I l = sym (put-none 0 l)
   field-outs (early ups x ls) a I l = refl
@@ -148,7 +147,7 @@ module _ (code today : ℕ) where
   itemsOut (atField b h hl ups x ls) = headsOut code today b (item (closed h hl) (closed x ls ∷ ups))
 
   abbrev model : Open → Shut
-  model c = closeModel job (accountOf (above c)) (wait code today (above c)) (live c) (kcThen c) (claimsThen c)
+  model c = closeModel job (accountOf (above c)) (wait code today (above c)) (live c) (claimsThen c)
 
   item-says : (c : Open) (l : List Fault)
       → (putAll put (itemsOut c) l ≡ put (entry (live c .head .no) (model c .marks)) (put (entry (wait code today (above c) .line) (model c .told)) l))
@@ -167,9 +166,9 @@ module _ (code today : ℕ) where
 
   all-outs : (c : Open) (a : List ℕ) → Inside c a → (l : List Fault)
       → putAll put (fieldsOut c ++ itemsOut c) l
-      ≡ insertAll (fieldFaults job (live c) (saidOf (live c)) a ++ itemFaults job (accountOf (above c)) (wait code today (above c)) (live c) (kcThen c) (claimsThen c)) l
+      ≡ insertAll (fieldFaults job (live c) (claims c) (saidOf (live c)) a ++ itemFaults job (accountOf (above c)) (wait code today (above c)) (live c) (claimsThen c)) l
   all-outs c a I l =
-      let ff = fieldFaults job (live c) (saidOf (live c)) a in
+      let ff = fieldFaults job (live c) (claims c) (saidOf (live c)) a in
       let told = marked (wait code today (above c) .line) (model c .told) in
       let own = marked (live c .head .no) (model c .marks) in
       putAll-append put (fieldsOut c) (itemsOut c) l ∙ ap (putAll put (itemsOut c)) (field-outs c a I l) ∙ item-says c (insertAll ff l) .0
@@ -232,9 +231,6 @@ module _ (code today : ℕ) where
         go (atField b h hl ups x ls) N = unfold fieldKept in N .1
 
     -- what the code closes
-    kc-closes : kcAfter s (saidOf s) ≡ kcThen c
-    kc-closes = rw (M .live-is) (kc-is c)
-
     claims-close : claimsAfter cl s (saidOf s) ≡ claimsThen c
     claims-close = rw (M .live-is, M .claims-are) (claims-is c)
 
@@ -242,25 +238,25 @@ module _ (code today : ℕ) where
     low-out l all = rw (M .live-is) (low-enters c l all)
 
     abbrev pub closing : Shut
-    closing = closeModel job b w s (kcAfter s (saidOf s)) (claimsAfter cl s (saidOf s))
+    closing = closeModel job b w s (claimsAfter cl s (saidOf s))
 
     closing-is : closing ≡ model c
-    closing-is = λ j. closeModel job (M .account-is j) (M .wait-is j) (M .live-is j) (kc-closes j) (claims-close j)
+    closing-is = λ j. closeModel job (M .account-is j) (M .wait-is j) (M .live-is j) (claims-close j)
 
     abbrev pub fieldEnters : List Fault
-    fieldEnters = fieldFaults job s (saidOf s) stood
+    fieldEnters = fieldFaults job s cl (saidOf s) stood
 
     abbrev pub itemEnters : List Fault
-    itemEnters = itemFaults job b w s (kcAfter s (saidOf s)) (claimsAfter cl s (saidOf s))
+    itemEnters = itemFaults job b w s (claimsAfter cl s (saidOf s))
 
     pub field-out : (y : FieldRow) (all : List Fault) → putAll put (out code today c (field y)) all ≡ insertAll fieldEnters all
-    field-out y all = rw (M .live-is) (ap (λ (es : List Entry). putAll put es all) (field-puts c y) ∙ field-outs c stood (M .inside) all)
+    field-out y all = rw (M .live-is, M .claims-are) (ap (λ (es : List Entry). putAll put es all) (field-puts c y) ∙ field-outs c stood (M .inside) all)
 
-    item-enters : itemEnters ≡ itemFaults job (accountOf (above c)) (wait code today (above c)) (live c) (kcThen c) (claimsThen c)
-    item-enters = λ j. itemFaults job (M .account-is j) (M .wait-is j) (M .live-is j) (kc-closes j) (claims-close j)
+    item-enters : itemEnters ≡ itemFaults job (accountOf (above c)) (wait code today (above c)) (live c) (claimsThen c)
+    item-enters = λ j. itemFaults job (M .account-is j) (M .wait-is j) (M .live-is j) (claims-close j)
 
     all-enter : (all : List Fault) → putAll put (fieldsOut c ++ itemsOut c) all ≡ insertAll (fieldEnters ++ itemEnters) all
-    all-enter all = all-outs c stood (M .inside) all ∙ sym (λ j. insertAll (fieldFaults job (M .live-is j) (saidOf (M .live-is j)) stood ++ item-enters j) all)
+    all-enter all = all-outs c stood (M .inside) all ∙ sym (λ j. insertAll (fieldFaults job (M .live-is j) (M .claims-are j) (saidOf (M .live-is j)) stood ++ item-enters j) all)
 
     pub head-out : (k : Row) (all : List Fault) → putAll put (out code today c (heading k)) all ≡ insertAll (fieldEnters ++ itemEnters) all
     head-out k all = ap (λ (es : List Entry). putAll put es all) (head-puts c k) ∙ all-enter all
@@ -311,9 +307,9 @@ module _ (code today : ℕ) where
         stays (atField b h hl ups x ls) I = I
 
     pub meant-field : (y : FieldRow) → y .row .no ≡ suc n → y .ident < 1296
-        → Meant (push c (field y)) (suc n) (fieldLive s (kcAfter s (saidOf s)) (fieldKept y)) (claimsAfter cl s (saidOf s)) b w (set stood (s .owner .ident) (s .owner .no))
+        → Meant (push c (field y)) (suc n) (fieldLive s (fieldKept y)) (claimsAfter cl s (saidOf s)) b w (set stood (s .owner .ident) (s .owner .no))
     meant-field y e small = record {
-      live-is = (λ j. fieldLive (M .live-is j) (kc-closes j) (fieldKept y)) ∙ field-is c y;
+      live-is = ap (λ (t : Live). fieldLive t (fieldKept y)) (M .live-is) ∙ field-is c y;
       claims-are = claims-close ∙ claims-field c y;
       account-is = M .account-is ∙ ap accountOf (same-above c);
       wait-is = M .wait-is ∙ ap (wait code today) (same-above c);

@@ -17,7 +17,6 @@ use Rattle.fields.specs.Tails.{tailOf, tailMore}
 use Rattle.laws.proofs.Any.{or-left, or-right}
 use Rattle.fields.proofs.Kept.{tail-more}
 use Rattle.blocks.specs.declared.Kc.{Kc}
-use Rattle.blocks.specs.declared.Kc.the-variants.{NoKc}
 use Rattle.blocks.specs.declared.Span.{Span as SpanOf}
 use Rattle.blocks.specs.declared.Stated.{Stated as StatedOf}
 use Rattle.blocks.specs.declared.Sum.{Sum}
@@ -29,7 +28,7 @@ use Rattle.items.specs.Tree.{Group, Item}
 use Rattle.items.specs.Fields.{continuations, says, stands}
 use Rattle.items.specs.Headings.{continued, orElse, ifThere, firstSaid, is, isGroup, kcBy, kcOf, spanBy, spanOf, statedBy, statedOf, nine}
 use Rattle.items.specs.Kept.{headKept, fieldKept, lowKept}
-use Rattle.items.specs.State.{noHead, noField, quiet, saidOf, tailAfter, lowLive, kcKept, kcAfter, fieldLive, headLive, noSum, noClaims, isClaim, spanKept, statedKept, groupClaims, claimsWith, claimsAfter}
+use Rattle.items.specs.State.{noHead, noField, quiet, saidOf, tailAfter, lowLive, kcKept, fieldLive, headLive, noSum, noClaims, isClaim, spanKept, statedKept, groupClaims, claimsWith, claimsAfter}
 use Rattle.items.proofs.Ideal.{Open, start, early, atHead, atField, closed, push}
 use Rattle.items.proofs.Turned.{firstUp, says-closed}
 
@@ -42,7 +41,6 @@ live (early ups x ls) =
       fielded = true;
       head = noHead;
       continued = false;
-      kc = kcOf (firstUp (is (named "KC")) ups);
       owner = fieldKept x;
       tail = tailOf (continuations ls);
     }
@@ -52,7 +50,6 @@ live (atHead b h ls) =
       fielded = false;
       head = headKept h;
       continued = continued ls;
-      kc = NoKc;
       owner = noField;
       tail = tailOf [];
     }
@@ -62,7 +59,6 @@ live (atField b h hl ups x ls) =
       fielded = true;
       head = headKept h;
       continued = continued hl;
-      kc = kcOf (firstUp (is (named "KC")) ups);
       owner = fieldKept x;
       tail = tailOf (continuations ls);
     }
@@ -78,12 +74,12 @@ tail-on l ls = go (l .continues)
 
 pub low-is : (c : Open) (l : LowRow) → lowLive (live c) (lowKept l) ≡ live (push c (low l))
 low-is start l = refl
-low-is (early ups x ls) l = ap (λ (t : Tail). record { headed = false; fielded = true; head = noHead; continued = false; kc = kcOf (firstUp (is (named "KC")) ups); owner = fieldKept x; tail = t }) (tail-on l ls)
-low-is (atHead b h ls) l = ap (λ (t : Bool). record { headed = true; fielded = false; head = headKept h; continued = t; kc = NoKc; owner = noField; tail = tailOf [] }) (more-is l ls)
+low-is (early ups x ls) l = ap (λ (t : Tail). record { headed = false; fielded = true; head = noHead; continued = false; owner = fieldKept x; tail = t }) (tail-on l ls)
+low-is (atHead b h ls) l = ap (λ (t : Bool). record { headed = true; fielded = false; head = headKept h; continued = t; owner = noField; tail = tailOf [] }) (more-is l ls)
   where
     more-is : (l : LowRow) (ls : List LowRow) → (lowKept l .continues || continued ls) ≡ continued (l ∷ ls)
     more-is l ls = unfold continued lowKept in refl
-low-is (atField b h hl ups x ls) l = ap (λ (t : Tail). record { headed = true; fielded = true; head = headKept h; continued = continued hl; kc = kcOf (firstUp (is (named "KC")) ups); owner = fieldKept x; tail = t }) (tail-on l ls)
+low-is (atField b h hl ups x ls) l = ap (λ (t : Tail). record { headed = true; fielded = true; head = headKept h; continued = continued hl; owner = fieldKept x; tail = t }) (tail-on l ls)
 
 -- what the open field says
 pub said-is : (x : FieldRow) (ls : List LowRow) → _≡_ {A = Reading} (saidOf (live (early [] x ls))) (says (closed x ls))
@@ -99,28 +95,12 @@ kc-first (Span a b) k = refl
 kc-first (Stated n a) k = refl
 kc-first (Party b) k = refl
 
-kc-more : (o : Option Reading) (t : Bool) (r : Reading) → cond t (kcKept (kcOf o) (kcBy r)) (kcOf o) ≡ kcOf (orElse o (ifThere t r))
-kc-more none true r = refl
-kc-more none false r = refl
-kc-more (some q) true r = kc-first q (kcBy r)
-kc-more (some q) false r = refl
+kc-more : (o : Option Reading) (r : Reading) → kcKept (kcOf o) (kcBy r) ≡ kcOf (orElse o (some r))
+kc-more none r = refl
+kc-more (some q) r = kc-first q (kcBy r)
 
--- the item's first KC with the open field
-abbrev pub kcThen : Open → Kc
-kcThen start = NoKc
-kcThen (early ups x ls) = kcOf (firstUp (is (named "KC")) (closed x ls ∷ ups))
-kcThen (atHead b h ls) = NoKc
-kcThen (atField b h hl ups x ls) = kcOf (firstUp (is (named "KC")) (closed x ls ∷ ups))
-
-pub kc-is : (c : Open) → kcAfter (live c) (saidOf (live c)) ≡ kcThen c
-unfolding firstUp fieldKept
-kc-is start = refl
-kc-is (early ups x ls) = rw (said-is x ls) (kc-more (firstUp (is (named "KC")) ups) (eqb (x .ident) (named "KC")) (says (closed x ls)))
-kc-is (atHead b h ls) = refl
-kc-is (atField b h hl ups x ls) = rw (said-is x ls) (kc-more (firstUp (is (named "KC")) ups) (eqb (x .ident) (named "KC")) (says (closed x ls)))
-
-pub field-is : (c : Open) (y : FieldRow) → fieldLive (live c) (kcThen c) (fieldKept y) ≡ live (push c (field y))
-unfolding continuations firstUp
+pub field-is : (c : Open) (y : FieldRow) → fieldLive (live c) (fieldKept y) ≡ live (push c (field y))
+unfolding continuations
 field-is start y = refl
 field-is (early ups x ls) y = refl
 field-is (atHead b h ls) y = refl
@@ -166,6 +146,7 @@ no-kc-is i (g ∷ ups) =
 abbrev pub claimsOf : List (Group FieldRow) → Claims
 claimsOf ups =
     record {
+      kc = kcOf (firstUp (is (named "KC")) ups);
       span = spanOf (firstUp (is (named "IN")) ups);
       sums = record { groups = nine (λ d. record { stated = statedOf (firstUp (isGroup d) ups) }) };
       s9 = stands (named "S9") ups;
@@ -249,61 +230,77 @@ inGroups ups d = firstUp (isGroup d) ups
 abbrev grownClaims : List (Group FieldRow) → ℕ → Reading → Claims
 grownClaims ups i r =
     record {
+      kc = kcOf (orElse (firstUp (is (named "KC")) ups) (ifThere (eqb i (named "KC")) r));
       span = spanOf (orElse (firstUp (is (named "IN")) ups) (ifThere (eqb i (named "IN")) r));
       sums = record { groups = nine (λ d. record { stated = statedOf (orElse (inGroups ups d) (ifThere (eqb (groupOf i) d) r)) }) };
       s9 = eqb i (named "S9") || stands (named "S9") ups;
     }
 
-abbrev claimsAs : SpanOf → List Sum → Bool → Claims
-claimsAs span groups s9 = record { span = span; sums = record { groups = groups }; s9 = s9 }
+abbrev claimsAs : Kc → SpanOf → List Sum → Bool → Claims
+claimsAs kc span groups s9 = record { kc = kc; span = span; sums = record { groups = groups }; s9 = s9 }
 
 groups-are : (ups : List (Group FieldRow)) (d : ℕ) (r : Reading)
     → nine (grown (inGroups ups) d r) ≡ nine (λ k. record { stated = statedOf (orElse (inGroups ups k) (ifThere (eqb d k) r)) })
 groups-are ups d r = same-nine _ _ (λ k h. ap (λ (t : StatedOf). record { stated = t }) (sym (stated-more (inGroups ups k) (eqb d k) r)))
 
-claim-in : (ups : List (Group FieldRow)) (r : Reading) → claimsWith (claimsOf ups) (named "IN") r ≡ grownClaims ups (named "IN") r
-unfolding claimsWith place groupOf
-claim-in ups r =
-    λ j. claimsAs (span-more (firstUp (is (named "IN")) ups) r j)
-    (same-nine (summed (inGroups ups)) _ (λ k h. ap (λ (o : Option Reading). record { stated = statedOf o }) (sym (none-in k h))) j)
-    (stands (named "S9") ups)
+-- a field that states no sum leaves the groups as they are
+same-groups : (ups : List (Group FieldRow)) (r : Reading) → nine (summed (inGroups ups)) ≡ nine (λ k. record { stated = statedOf (orElse (inGroups ups k) (ifThere (eqb 9 k) r)) })
+same-groups ups r = same-nine (summed (inGroups ups)) _ (λ k h. ap (λ (o : Option Reading). record { stated = statedOf o }) (sym (none-in k h)))
   where
     none-in : (k : ℕ) → k < 9 → orElse (inGroups ups k) (ifThere (eqb 9 k) r) ≡ inGroups ups k
     none-in k h = let e : eqb 9 k ≡ false = ne-eqb 9 k (λ q. omega arith) in rw e (else-none (inGroups ups k))
 
--- a field that is no IN
-claim-other : (ups : List (Group FieldRow)) (i : ℕ) (r : Reading) → eqb i (named "IN") ≡ false
-    → claimsAs (spanOf (firstUp (is (named "IN")) ups)) (groupClaims (claimsOf ups .sums .groups) (groupOf i) r) (eqb i (named "S9") || stands (named "S9") ups)
-    ≡ grownClaims ups i r
-claim-other ups i r e =
-    rw e
-    (λ j. claimsAs (ap spanOf (sym (else-none (firstUp (is (named "IN")) ups))) j) ((groups-more (inGroups ups) (groupOf i) r ∙ groups-are ups (groupOf i) r) j)
-    (eqb i (named "S9") || stands (named "S9") ups))
+same-kc : (ups : List (Group FieldRow)) → kcOf (firstUp (is (named "KC")) ups) ≡ kcOf (orElse (firstUp (is (named "KC")) ups) none)
+same-kc ups = ap kcOf (sym (else-none (firstUp (is (named "KC")) ups)))
 
-with-other : (c : Claims) (i : ℕ) (r : Reading) → eqb i (named "IN") ≡ false
-    → claimsWith c i r ≡ claimsAs (c .span) (groupClaims (c .sums .groups) (groupOf i) r) (eqb i (named "S9") || c .s9)
-unfolding claimsWith
-with-other c i r e = rw e
+same-span : (ups : List (Group FieldRow)) → spanOf (firstUp (is (named "IN")) ups) ≡ spanOf (orElse (firstUp (is (named "IN")) ups) none)
+same-span ups = ap spanOf (sym (else-none (firstUp (is (named "IN")) ups)))
+
+claim-kc : (ups : List (Group FieldRow)) (r : Reading) → claimsWith (claimsOf ups) (named "KC") r ≡ grownClaims ups (named "KC") r
+unfolding claimsWith place groupOf
+claim-kc ups r = λ j. claimsAs (kc-more (firstUp (is (named "KC")) ups) r j) (same-span ups j) (same-groups ups r j) (stands (named "S9") ups)
+
+claim-in : (ups : List (Group FieldRow)) (r : Reading) → claimsWith (claimsOf ups) (named "IN") r ≡ grownClaims ups (named "IN") r
+unfolding claimsWith place groupOf
+claim-in ups r = λ j. claimsAs (same-kc ups j) (span-more (firstUp (is (named "IN")) ups) r j) (same-groups ups r j) (stands (named "S9") ups)
+
+-- a field that is neither
+module _ (ups : List (Group FieldRow)) (i : ℕ) (r : Reading) (k : eqb i (named "KC") ≡ false) (e : eqb i (named "IN") ≡ false) where
+  claim-other : claimsAs (claimsOf ups .kc) (claimsOf ups .span) (groupClaims (claimsOf ups .sums .groups) (groupOf i) r) (eqb i (named "S9") || stands (named "S9") ups) ≡ grownClaims ups i r
+  claim-other =
+      rw (k, e)
+      (λ j. claimsAs (same-kc ups j) (same-span ups j) ((groups-more (inGroups ups) (groupOf i) r ∙ groups-are ups (groupOf i) r) j) (eqb i (named "S9") || stands (named "S9") ups))
+
+  with-other : (c : Claims) → claimsWith c i r ≡ claimsAs (c .kc) (c .span) (groupClaims (c .sums .groups) (groupOf i) r) (eqb i (named "S9") || c .s9)
+  unfolding claimsWith
+  with-other c = rw (k, e)
 
 -- a field that claims nothing
 none-claimed : (c : Claims) (i : ℕ) (r : Reading) → eqb i (named "S9") ≡ false → 9 ≤ groupOf i
-    → c ≡ claimsAs (c .span) (groupClaims (c .sums .groups) (groupOf i) r) (eqb i (named "S9") || c .s9)
+    → c ≡ claimsAs (c .kc) (c .span) (groupClaims (c .sums .groups) (groupOf i) r) (eqb i (named "S9") || c .s9)
 unfolding groupClaims
 none-claimed c i r e h = rw (e, le-leb 9 (groupOf i) h)
 
-claim-at : (ups : List (Group FieldRow)) (i : ℕ) (r : Reading)
-    → cond (eqb i (named "IN") || (eqb i (named "S9") || ltb (groupOf i) 9)) (claimsWith (claimsOf ups) i r) (claimsOf ups) ≡ grownClaims ups i r
-claim-at ups i r = go (eqb i (named "IN")) refl
-  where
-    other : (t : Bool) → (eqb i (named "S9") || ltb (groupOf i) 9) ≡ t → eqb i (named "IN") ≡ false → cond t (claimsWith (claimsOf ups) i r) (claimsOf ups) ≡ grownClaims ups i r
-    other true q e = with-other (claimsOf ups) i r e ∙ claim-other ups i r e
-    other false q e =
-        none-claimed (claimsOf ups) i r (or-left (eqb i (named "S9")) (ltb (groupOf i) 9) q) (ltb-false (groupOf i) 9 (or-right (eqb i (named "S9")) (ltb (groupOf i) 9) q))
-        ∙ claim-other ups i r e
+-- it is one that claims
+abbrev claimed : ℕ → Bool
+claimed i = eqb i (named "KC") || (eqb i (named "IN") || (eqb i (named "S9") || ltb (groupOf i) 9))
 
-    go : (t : Bool) → eqb i (named "IN") ≡ t → cond (t || (eqb i (named "S9") || ltb (groupOf i) 9)) (claimsWith (claimsOf ups) i r) (claimsOf ups) ≡ grownClaims ups i r
-    go true e = rw (eqb-true i (named "IN") e) (claim-in ups r)
-    go false e = other (eqb i (named "S9") || ltb (groupOf i) 9) refl e
+claim-at : (ups : List (Group FieldRow)) (i : ℕ) (r : Reading) → cond (claimed i) (claimsWith (claimsOf ups) i r) (claimsOf ups) ≡ grownClaims ups i r
+claim-at ups i r = go (eqb i (named "KC")) refl
+  where
+    other : (t : Bool) → (eqb i (named "S9") || ltb (groupOf i) 9) ≡ t → eqb i (named "KC") ≡ false → eqb i (named "IN") ≡ false → cond t (claimsWith (claimsOf ups) i r) (claimsOf ups) ≡ grownClaims ups i r
+    other true q k e = with-other ups i r k e (claimsOf ups) ∙ claim-other ups i r k e
+    other false q k e =
+        none-claimed (claimsOf ups) i r (or-left (eqb i (named "S9")) (ltb (groupOf i) 9) q) (ltb-false (groupOf i) 9 (or-right (eqb i (named "S9")) (ltb (groupOf i) 9) q))
+        ∙ claim-other ups i r k e
+
+    in-or : (t : Bool) → eqb i (named "IN") ≡ t → eqb i (named "KC") ≡ false → cond (t || (eqb i (named "S9") || ltb (groupOf i) 9)) (claimsWith (claimsOf ups) i r) (claimsOf ups) ≡ grownClaims ups i r
+    in-or true e k = rw (eqb-true i (named "IN") e) (claim-in ups r)
+    in-or false e k = other (eqb i (named "S9") || ltb (groupOf i) 9) refl k e
+
+    go : (t : Bool) → eqb i (named "KC") ≡ t → cond (t || (eqb i (named "IN") || (eqb i (named "S9") || ltb (groupOf i) 9))) (claimsWith (claimsOf ups) i r) (claimsOf ups) ≡ grownClaims ups i r
+    go true k = rw (eqb-true i (named "KC") k) (claim-kc ups r)
+    go false k = in-or (eqb i (named "IN")) refl k
 
 -- the claims with the open field
 abbrev pub claimsThen : Open → Claims

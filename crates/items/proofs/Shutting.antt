@@ -13,7 +13,6 @@ use Rattle.headings.specs.declared.Read.{Read}
 use Rattle.headings.specs.declared.Read.the-variants.{Reads, Unreadable}
 use Rattle.headings.specs.Reading.{headingOf}
 use Rattle.fields.specs.Kinds.{named}
-use Rattle.blocks.specs.declared.Kc.{Kc}
 use Rattle.blocks.specs.declared.Block.{Block}
 use Rattle.blocks.specs.declared.Item.{Item as Digest}
 use Rattle.blocks.specs.Items.{empty, closesAt, blockAbove}
@@ -50,9 +49,9 @@ pub any-is : (b : List Item) → accountOf b .any ≡ not (fresh b)
 unfolding summary
 any-is b = refl
 
-abbrev pub itemAs : Row → List LowRow → Kc → Claims → Digest
-itemAs h hl kc c =
-    record { line = headKept h .no; head = cond (continued hl) Unreadable (headKept h .read); kc = kc; span = c .span; sums = c .sums; s9 = c .s9 }
+abbrev pub itemAs : Row → List LowRow → Claims → Digest
+itemAs h hl c =
+    record { line = headKept h .no; head = cond (continued hl) Unreadable (headKept h .read); kc = c .kc; span = c .span; sums = c .sums; s9 = c .s9 }
 
 abbrev pub waitNext : (ends first : Bool) → Wait → Wait → Wait
 waitNext true e w x = noWait
@@ -98,7 +97,7 @@ module _ (code today : ℕ) where
     unfolding headOf headKept
     read-is = rw (continued-closed hl)
 
-    digest-is : itemAs h hl (kcOf (firstUp (is (named "KC")) gs)) (claimsOf gs) ≡ digest it
+    digest-is : itemAs h hl (claimsOf gs) ≡ digest it
     unfolding digest headKept
     digest-is = λ j. record {
       line = h .no;
@@ -135,7 +134,7 @@ module _ (code today : ℕ) where
     job-code = record { 0 = code }
 
     -- the code's closing of a state that means this item
-    pub shut-is : let d = itemAs h hl (kcOf (firstUp (is (named "KC")) gs)) (claimsOf gs) in
+    pub shut-is : let d = itemAs h hl (claimsOf gs) in
         let c = blockModel (jobOf job-code today) (accountOf b) d in
         shutAs true (closesAt (d .head)) (accountOf b .any) (accountOf b) (c .block) (wait b) (headKept h .no) (marksAs (d .head) (c .marks))
         ≡ closesAs (ends it) (fresh b)

@@ -49,7 +49,7 @@ abbrev pub noField : Field
 noField = record { no = 0; bad = false; ended = false; ident = 0; class = Free; said = Plain }
 
 abbrev pub quiet : Live
-quiet = record { headed = false; fielded = false; head = noHead; continued = false; kc = NoKc; owner = noField; tail = tailOf [] }
+quiet = record { headed = false; fielded = false; head = noHead; continued = false; owner = noField; tail = tailOf [] }
 
 abbrev pub readOf : Live → Read
 readOf s = cond (s .continued) Unreadable (s .head .read)
@@ -67,36 +67,33 @@ lowLive s l =
       fielded = s .fielded;
       head = s .head;
       continued = (s .headed && (not (s .fielded) && l .continues)) || s .continued;
-      kc = s .kc;
       owner = s .owner;
       tail = tailAfter (s .fielded && l .continues) (s .tail) (l .length);
     }
 
-abbrev pub kcKept : Kc → Kc → Kc
-kcKept NoKc k = k
-kcKept BrokenKc k = BrokenKc
-kcKept (PaidKc a d) k = PaidKc a d
-
-abbrev pub kcAfter : Live → Reading → Kc
-kcAfter s said = cond (s .fielded && eqb (s .owner .ident) (named "KC")) (kcKept (s .kc) (kcBy said)) (s .kc)
-
-abbrev pub fieldLive : Live → Kc → Field → Live
-fieldLive s kc y =
-    record { headed = s .headed; fielded = true; head = s .head; continued = s .continued; kc = kc; owner = y; tail = tailOf [] }
+abbrev pub fieldLive : Live → Field → Live
+fieldLive s y = record { headed = s .headed; fielded = true; head = s .head; continued = s .continued; owner = y; tail = tailOf [] }
 
 abbrev pub headLive : Head → Live
-headLive k = record { headed = true; fielded = false; head = k; continued = false; kc = NoKc; owner = noField; tail = tailOf [] }
+headLive k = record { headed = true; fielded = false; head = k; continued = false; owner = noField; tail = tailOf [] }
 
 -- ---- what is claimed
 abbrev pub noSum : Sum
 noSum = record { stated = NoSum }
 
 abbrev pub noClaims : Claims
-noClaims = record { span = NoIn; sums = record { groups = replicate 9 noSum }; s9 = false }
+noClaims = record { kc = NoKc; span = NoIn; sums = record { groups = replicate 9 noSum }; s9 = false }
 
 abbrev pub isClaim : Live → Bool
 isClaim s =
-    s .fielded && (eqb (s .owner .ident) (named "IN") || (eqb (s .owner .ident) (named "S9") || ltb (groupOf (s .owner .ident)) 9))
+    s .fielded && (
+    eqb (s .owner .ident) (named "KC") || (eqb (s .owner .ident) (named "IN") || (eqb (s .owner .ident) (named "S9") || ltb (groupOf (s .owner .ident)) 9))
+    )
+
+abbrev pub kcKept : Kc → Kc → Kc
+kcKept NoKc k = k
+kcKept BrokenKc k = BrokenKc
+kcKept (PaidKc a d) k = PaidKc a d
 
 abbrev pub spanKept : SpanOf → SpanOf → SpanOf
 spanKept NoIn x = x
@@ -114,12 +111,14 @@ groupClaims groups d said =
 
 unfoldable pub claimsWith : Claims → ℕ → Reading → Claims
 claimsWith c ident said =
-    cond (eqb ident (named "IN")) (record { span = spanKept (c .span) (spanBy said); sums = c .sums; s9 = c .s9 })
+    cond (eqb ident (named "KC")) (record { kc = kcKept (c .kc) (kcBy said); span = c .span; sums = c .sums; s9 = c .s9 })
+    (cond (eqb ident (named "IN")) (record { kc = c .kc; span = spanKept (c .span) (spanBy said); sums = c .sums; s9 = c .s9 })
     (record {
+      kc = c .kc;
       span = c .span;
       sums = record { groups = groupClaims (c .sums .groups) (groupOf ident) said };
       s9 = eqb ident (named "S9") || c .s9;
-    })
+    }))
 
 abbrev pub claimsAfter : Claims → Live → Reading → Claims
 claimsAfter c s said = cond (isClaim s) (claimsWith c (s .owner .ident) said) c
@@ -132,8 +131,8 @@ abbrev pub lowMarksOf : Live → Low → ℕ
 lowMarksOf s l =
     ownMarks (l .bad) (l .ended) + mark 2 (not (s .headed || s .fielded) || not (l .continues)) + mark 3 (not (s .headed))
 
-abbrev pub firstKc : Live → Bool
-firstKc s = eqb (s .owner .ident) (named "KC") && noKc (s .kc)
+abbrev pub firstKc : Live → Kc → Bool
+firstKc s kc = eqb (s .owner .ident) (named "KC") && noKc kc
 
 abbrev pub lateBy : Job → Read → Reading → Bool
 lateBy j (Reads h) (Paid a d) = breaks8 j (h .kind) d
@@ -144,22 +143,22 @@ lateBy j (Reads h) (Stated n a) = false
 lateBy j (Reads h) (Party b) = false
 lateBy j Unreadable r = false
 
-unfoldable pub insideMarks : Job → Live → Reading → Bool → ℕ
-insideMarks j s said again =
-    mark 5 again + mark 6 (isBroken said) + mark 7 (failsCheck said) + mark 8 (firstKc s && lateBy j (readOf s) said)
-    + mark 9 (firstKc s && large (readOf s) said)
+unfoldable pub insideMarks : Job → Live → Kc → Reading → Bool → ℕ
+insideMarks j s kc said again =
+    mark 5 again + mark 6 (isBroken said) + mark 7 (failsCheck said) + mark 8 (firstKc s kc && lateBy j (readOf s) said)
+    + mark 9 (firstKc s kc && large (readOf s) said)
 
-unfoldable pub fieldMarksOf : Job → Live → Reading → Bool → ℕ
-fieldMarksOf j s said again =
+unfoldable pub fieldMarksOf : Job → Live → Kc → Reading → Bool → ℕ
+fieldMarksOf j s kc said again =
     cond (s .fielded)
-    (cond (s .headed) (ownMarks (s .owner .bad) (s .owner .ended) + insideMarks j s said again) (ownMarks (s .owner .bad) (s .owner .ended) + 8)) 0
+    (cond (s .headed) (ownMarks (s .owner .bad) (s .owner .ended) + insideMarks j s kc said again) (ownMarks (s .owner .bad) (s .owner .ended) + 8)) 0
 
 -- ---- an item closes
 abbrev pub noWait : Wait
 noWait = record { line = 0; marks = 0 }
 
-abbrev pub itemModel : Live → Kc → Claims → Digest
-itemModel s kc c = record { line = s .head .no; head = readOf s; kc = kc; span = c .span; sums = c .sums; s9 = c .s9 }
+abbrev pub itemModel : Live → Claims → Digest
+itemModel s c = record { line = s .head .no; head = readOf s; kc = c .kc; span = c .span; sums = c .sums; s9 = c .s9 }
 
 unfoldable pub headMarksOf : Live → ℕ → ℕ
 headMarksOf s m = ownMarks (s .head .bad) (s .head .ended) + mark 6 (isUnreadable (readOf s)) + m
@@ -173,9 +172,9 @@ shutAs true true any b b′ w n m = shut b′ noWait (cond any (w .marks) 0) m
 shutAs true false true b b′ w n m = shut b′ w 0 m
 shutAs true false false b b′ w n m = shut b′ (record { line = n; marks = m }) 0 0
 
-unfoldable pub closeModel : Job → Block → Wait → Live → Kc → Claims → Shut
-closeModel j b w s kc c =
-    let closed = blockModel j b (itemModel s kc c) in
+unfoldable pub closeModel : Job → Block → Wait → Live → Claims → Shut
+closeModel j b w s c =
+    let closed = blockModel j b (itemModel s c) in
     shutAs (s .headed) (closesAt (readOf s)) (b .any) b (closed .block) w (s .head .no) (headMarksOf s (closed .marks))
 
 unfoldable pub lastMarks : Block → Wait → ℕ
@@ -183,9 +182,9 @@ lastMarks b w = cond (b .any) (w .marks + 2 ^ 16) 0
 
 -- ---- what is entered
 -- the open field, by the lines at which identifiers last stood: its own stood in this item where that is past the heading's line
-abbrev pub fieldFaults : Job → Live → Reading → List ℕ → List Fault
-fieldFaults j s said stood = marked (s .owner .no) (fieldMarksOf j s said (ltb (s .head .no) (getD stood (s .owner .ident) 0)))
+abbrev pub fieldFaults : Job → Live → Claims → Reading → List ℕ → List Fault
+fieldFaults j s c said stood = marked (s .owner .no) (fieldMarksOf j s (c .kc) said (ltb (s .head .no) (getD stood (s .owner .ident) 0)))
 
 -- the open item: the one who waited, and its own heading
-abbrev pub itemFaults : Job → Block → Wait → Live → Kc → Claims → List Fault
-itemFaults j b w s kc c = marked (w .line) (closeModel j b w s kc c .told) ++ marked (s .head .no) (closeModel j b w s kc c .marks)
+abbrev pub itemFaults : Job → Block → Wait → Live → Claims → List Fault
+itemFaults j b w s c = marked (w .line) (closeModel j b w s c .told) ++ marked (s .head .no) (closeModel j b w s c .marks)

@@ -1,6 +1,7 @@
-// What an item's closed fields claim of its block.
+// What an item's closed fields say that its heading needs.
 use crate::Claims;
 use crate::Live;
+use blocks::Kc;
 use blocks::Span;
 use blocks::Stated;
 use blocks::Sum;
@@ -9,8 +10,8 @@ use fields::classes;
 use fields::readings::Reading;
 ghost use mathlib.Core.Path.{_≡_};
 ghost use Prim.Native.Nat.{_<_};
-ghost use Rattle.items.specs.State.{noClaims, isClaim, spanKept, statedKept, groupClaims, claimsWith, claimsAfter};
-ghost use Rattle.items.specs.Headings.{spanBy, statedBy};
+ghost use Rattle.items.specs.State.{noClaims, isClaim, kcKept, spanKept, statedKept, groupClaims, claimsWith, claimsAfter};
+ghost use Rattle.items.specs.Headings.{kcBy, spanBy, statedBy};
 
 pub fn no_claims() -> Claims
     ensures { λ r. ⌜ r ≡ noClaims ⌝ }
@@ -21,18 +22,45 @@ pub fn no_claims() -> Claims
     let groups = [none; 9];
     let sums = Sums { groups };
     Claims {
+        kc: Kc::NoKc,
         span: Span::NoIn,
         sums,
         s9: false,
     }
 }
 
-// Whether the open field claims something: an IN or one of S0 to S9.
+// Whether the open field claims something: a KC, an IN or one of S0 to S9.
 pub fn is_claim(s: Live) -> bool
     ensures { λ r. ⌜ r ≡ isClaim s ⌝ }
 {
     let ident = s.owner.ident;
-    s.fielded & ((ident == classes::IN) | ((ident == classes::S9) | (classes::group_of(ident) < 9)))
+    s.fielded
+        & ((ident == classes::KC)
+            | ((ident == classes::IN) | ((ident == classes::S9) | (classes::group_of(ident) < 9))))
+}
+
+fn kc_by(said: Reading) -> Kc
+    ensures { λ r. ⌜ r ≡ kcBy said ⌝ }
+{
+    match said {
+        Reading::Paid(amount, day) => Kc::Paid(amount, day),
+        Reading::Broken => Kc::BrokenKc,
+        Reading::Plain => Kc::BrokenKc,
+        Reading::Span(_, _) => Kc::BrokenKc,
+        Reading::Stated(_, _) => Kc::BrokenKc,
+        Reading::Party(_) => Kc::BrokenKc,
+    }
+}
+
+// The first of two.
+fn kc_kept(first: Kc, then: Kc) -> Kc
+    ensures { λ r. ⌜ r ≡ kcKept first then ⌝ }
+{
+    match first {
+        Kc::NoKc => then,
+        Kc::BrokenKc => first,
+        Kc::Paid(_, _) => first,
+    }
 }
 
 fn span_by(said: Reading) -> Span
@@ -99,11 +127,22 @@ fn group_claims(groups: [Sum; 9], d: usize, said: Reading) -> [Sum; 9]
 fn with_claim(c: Claims, ident: usize, said: Reading) -> Claims
     ensures { λ r. ⌜ r ≡ claimsWith c ident said ⌝ }
 {
+    let kc = c.kc;
     let sums = c.sums;
     let span = c.span;
+    if ident == classes::KC {
+        let first = kc_kept(kc, kc_by(said));
+        return Claims {
+            kc: first,
+            span,
+            sums,
+            s9: c.s9,
+        };
+    }
     if ident == classes::IN {
         let first = span_kept(span, span_by(said));
         return Claims {
+            kc,
             span: first,
             sums,
             s9: c.s9,
@@ -113,6 +152,7 @@ fn with_claim(c: Claims, ident: usize, said: Reading) -> Claims
     let groups = group_claims(before, classes::group_of(ident), said);
     let after = Sums { groups };
     Claims {
+        kc,
         span,
         sums: after,
         s9: (ident == classes::S9) | c.s9,

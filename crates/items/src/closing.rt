@@ -5,7 +5,6 @@ use crate::Wait;
 use blocks::Block;
 use blocks::Item;
 use blocks::Job;
-use blocks::Kc;
 use blocks::marks::flag;
 use headings::Read;
 ghost use mathlib.Core.Path.{_≡_};
@@ -37,10 +36,11 @@ fn is_unreadable(read: Read) -> bool
     }
 }
 
-fn item_of(s: Live, kc: Kc, claims: Claims) -> Item
-    ensures { λ r. ⌜ r ≡ itemModel s kc claims ⌝ }
+fn item_of(s: Live, claims: Claims) -> Item
+    ensures { λ r. ⌜ r ≡ itemModel s claims ⌝ }
 {
     let head = crate::open::read_of(s);
+    let kc = claims.kc;
     let span = claims.span;
     let sums = claims.sums;
     Item {
@@ -62,9 +62,9 @@ fn head_marks(s: Live, marks: u64) -> u64
     crate::marking::own_marks(s.head.bad, s.head.ended) + flag(is_unreadable(read), 64) + marks
 }
 
-pub fn close_item(job: Job, b: Block, w: Wait, s: Live, kc: Kc, claims: Claims) -> Shut
+pub fn close_item(job: Job, b: Block, w: Wait, s: Live, claims: Claims) -> Shut
     requires { ⌜ w .marks < 2 ^ 40 ⌝ }
-    ensures { λ r. ⌜ (r ≡ closeModel job b w s kc claims) × (r .wait .marks < 2 ^ 40) × (r .told < 2 ^ 40) × (r .marks < 2 ^ 40) ⌝ }
+    ensures { λ r. ⌜ (r ≡ closeModel job b w s claims) × (r .wait .marks < 2 ^ 40) × (r .told < 2 ^ 40) × (r .marks < 2 ^ 40) ⌝ }
 {
     if !s.headed {
         return Shut {
@@ -75,7 +75,7 @@ pub fn close_item(job: Job, b: Block, w: Wait, s: Live, kc: Kc, claims: Claims) 
         };
     }
     let any = b.any;
-    let item = item_of(s, kc, claims);
+    let item = item_of(s, claims);
     let head = item.head;
     let c = account::advance(b, item, job);
     let block = c.block;

@@ -49,21 +49,21 @@ pub enum Line {
     OfLow(Low),
 }
 
-// What is open: the heading of the item, with whether a continuation belongs to it and the item's first KC so far; the field, with
-// its tail so far. What is not open has fixed values, so that the state is a function of the lines above.
+// What is open: the heading of the item, with whether a continuation belongs to it; the field, with its tail so far. What is not
+// open has fixed values, so that the state is a function of the lines above.
 pub struct Live {
     pub headed: bool,
     pub fielded: bool,
     pub head: Head,
     pub continued: bool,
-    pub kc: Kc,
     pub owner: Field,
     pub tail: Tail,
 }
 
-// What the item's closed fields claim of its block: the first IN, the first S0 to S8, and whether an S9 stands. Apart from `Live`,
-// since few lines touch it.
+// What the item's closed fields say that its heading needs: the first KC, the first IN, the first S0 to S8, and whether an S9
+// stands. Apart from `Live`, since few lines touch it.
 pub struct Claims {
+    pub kc: Kc,
     pub span: Span,
     pub sums: Sums,
     pub s9: bool,

@@ -2,6 +2,7 @@
 use crate::Live;
 use crate::Low;
 use blocks::Job;
+use blocks::Kc;
 use blocks::marks::flag;
 use fields::classes;
 use fields::readings::Reading;
@@ -84,20 +85,19 @@ fn is_large(read: Read, said: Reading) -> bool
     }
 }
 
-// Whether the open field is the item's first KC.
-fn is_first_kc(s: Live) -> bool
-    ensures { λ r. ⌜ r ≡ firstKc s ⌝ }
+// Whether the open field is the item's first KC; `kc` is the one above it.
+fn is_first_kc(s: Live, kc: Kc) -> bool
+    ensures { λ r. ⌜ r ≡ firstKc s kc ⌝ }
 {
-    let kc = s.kc;
     (s.owner.ident == classes::KC) & blocks::own_rules::has_no_kc(kc)
 }
 
 // 5 to 9, for the open field of an item.
-fn inside_marks(job: Job, s: Live, said: Reading, again: bool) -> u64
-    ensures { λ r. ⌜ (r ≡ insideMarks job s said again) × (r < 1024) ⌝ }
+fn inside_marks(job: Job, s: Live, kc: Kc, said: Reading, again: bool) -> u64
+    ensures { λ r. ⌜ (r ≡ insideMarks job s kc said again) × (r < 1024) ⌝ }
 {
     let read = crate::open::read_of(s);
-    let first = is_first_kc(s);
+    let first = is_first_kc(s, kc);
     flag(again, 32)
         + flag(is_broken(said), 64)
         + flag(fails_check(said), 128)
@@ -105,16 +105,17 @@ fn inside_marks(job: Job, s: Live, said: Reading, again: bool) -> u64
         + flag(first & is_large(read, said), 512)
 }
 
-// The marks of the open field, which closes; `again` says whether its identifier stood already in the item.
-pub fn field_marks(job: Job, s: Live, said: Reading, again: bool) -> u64
-    ensures { λ r. ⌜ r ≡ fieldMarksOf job s said again ⌝ }
+// The marks of the open field, which closes; `kc` is the item's first KC above it, and `again` says whether its identifier stood
+// already in the item.
+pub fn field_marks(job: Job, s: Live, kc: Kc, said: Reading, again: bool) -> u64
+    ensures { λ r. ⌜ r ≡ fieldMarksOf job s kc said again ⌝ }
 {
     if !s.fielded {
         return 0;
     }
     let own = own_marks(s.owner.bad, s.owner.ended);
     if s.headed {
-        return own + inside_marks(job, s, said, again);
+        return own + inside_marks(job, s, kc, said, again);
     }
     own + 8
 }

@@ -3,16 +3,13 @@ use crate::Field;
 use crate::Head;
 use crate::Live;
 use crate::Low;
-use blocks::Kc;
-use fields::classes;
 use fields::classes::Class;
 use fields::readings::Reading;
 use fields::tails;
 use fields::tails::Tail;
 use headings::Read;
 ghost use mathlib.Core.Path.{_≡_};
-ghost use Rattle.items.specs.State.{noHead, noField, quiet, readOf, saidOf, tailAfter, lowLive, kcKept, kcAfter, fieldLive, headLive};
-ghost use Rattle.items.specs.Headings.{kcBy};
+ghost use Rattle.items.specs.State.{noHead, noField, quiet, readOf, saidOf, tailAfter, lowLive, fieldLive, headLive};
 
 fn no_head() -> Head
     ensures { λ r. ⌜ r ≡ noHead ⌝ }
@@ -50,7 +47,6 @@ pub fn start() -> Live
         fielded: false,
         head,
         continued: false,
-        kc: Kc::NoKc,
         owner,
         tail,
     }
@@ -91,7 +87,6 @@ pub fn with_low(s: Live, l: Low) -> Live
     ensures { λ r. ⌜ r ≡ lowLive s l ⌝ }
 {
     let head = s.head;
-    let kc = s.kc;
     let owner = s.owner;
     let before = s.tail;
     let tail = tail_after(s.fielded & l.continues, before, l.length);
@@ -100,50 +95,14 @@ pub fn with_low(s: Live, l: Low) -> Live
         fielded: s.fielded,
         head,
         continued: (s.headed & (!s.fielded & l.continues)) | s.continued,
-        kc,
         owner,
         tail,
     }
 }
 
-fn kc_by(said: Reading) -> Kc
-    ensures { λ r. ⌜ r ≡ kcBy said ⌝ }
-{
-    match said {
-        Reading::Paid(amount, day) => Kc::Paid(amount, day),
-        Reading::Broken => Kc::BrokenKc,
-        Reading::Plain => Kc::BrokenKc,
-        Reading::Span(_, _) => Kc::BrokenKc,
-        Reading::Stated(_, _) => Kc::BrokenKc,
-        Reading::Party(_) => Kc::BrokenKc,
-    }
-}
-
-// The first of two.
-fn kc_kept(first: Kc, then: Kc) -> Kc
-    ensures { λ r. ⌜ r ≡ kcKept first then ⌝ }
-{
-    match first {
-        Kc::NoKc => then,
-        Kc::BrokenKc => first,
-        Kc::Paid(_, _) => first,
-    }
-}
-
-// The item's first KC, with the open field, which closes.
-pub fn kc_after(s: Live, said: Reading) -> Kc
-    ensures { λ r. ⌜ r ≡ kcAfter s said ⌝ }
-{
-    let kc = s.kc;
-    if s.fielded & (s.owner.ident == classes::KC) {
-        return kc_kept(kc, kc_by(said));
-    }
-    kc
-}
-
-// A field opens; `kc` is the item's first KC with the one that was open.
-pub fn with_field(s: Live, kc: Kc, y: Field) -> Live
-    ensures { λ r. ⌜ r ≡ fieldLive s kc y ⌝ }
+// A field opens.
+pub fn with_field(s: Live, y: Field) -> Live
+    ensures { λ r. ⌜ r ≡ fieldLive s y ⌝ }
 {
     let head = s.head;
     let tail = tails::no_tail();
@@ -152,7 +111,6 @@ pub fn with_field(s: Live, kc: Kc, y: Field) -> Live
         fielded: true,
         head,
         continued: s.continued,
-        kc,
         owner: y,
         tail,
     }
@@ -169,7 +127,6 @@ pub fn with_head(k: Head) -> Live
         fielded: false,
         head: k,
         continued: false,
-        kc: Kc::NoKc,
         owner,
         tail,
     }

@@ -19,7 +19,6 @@ use Rattle.ledger.proofs.Entries.{putAll, put, put-comm, in-line-order}
 use Rattle.ledger.proofs.Book.{Book, book-start, book-ready, book-more, book-listed}
 use Rattle.fields.specs.declared.readings.Reading.{Reading}
 use Rattle.blocks.specs.declared.Job.{Job}
-use Rattle.blocks.specs.declared.Kc.{Kc}
 use Rattle.blocks.specs.declared.Block.{Block}
 use Rattle.blocks.specs.Model.{jobOf}
 use Rattle.blocks.specs.Summary.{summary}
@@ -35,7 +34,7 @@ use Rattle.items.specs.Rows.{Row, FieldRow, LowRow, Sorted, heading, field, low
 use Rattle.items.specs.Tree.{tree}
 use Rattle.items.specs.Faults.{declare, faultsIn}
 use Rattle.items.specs.Kept.{lineKept, headKept, fieldKept, lowKept}
-use Rattle.items.specs.State.{isClaim, quiet, saidOf, lowLive, kcAfter, fieldLive, headLive, noClaims, claimsAfter, lowMarksOf, fieldMarksOf, noWait, closeModel, lastMarks, fieldFaults, itemFaults}
+use Rattle.items.specs.State.{isClaim, quiet, saidOf, lowLive, fieldLive, headLive, noClaims, claimsAfter, lowMarksOf, fieldMarksOf, noWait, closeModel, lastMarks, fieldFaults, itemFaults}
 use Rattle.items.proofs.Ideal.{Open, start, push, out, final}
 use Rattle.items.proofs.Order.{run, emitted}
 use Rattle.items.proofs.Numbers.{lines-rise}
@@ -49,7 +48,7 @@ entered-list {g} {ls} {rs} {g′} {ls′} {rs′} e E = subst (λ (zs : List Fau
 
 -- what is entered when all that is open closes
 abbrev pub allFaults : Job → Live → Claims → Block → Wait → List ℕ → List Fault
-allFaults j s cl b w stood = fieldFaults j s (saidOf s) stood ++ itemFaults j b w s (kcAfter s (saidOf s)) (claimsAfter cl s (saidOf s))
+allFaults j s cl b w stood = fieldFaults j s cl (saidOf s) stood ++ itemFaults j b w s (claimsAfter cl s (saidOf s))
 
 module _ (code today : ℕ) (s ls₀ rs₀ : List ℕ) where
   -- at a place of the body, after n lines
@@ -116,20 +115,19 @@ module _ {code today : ℕ} {s ls₀ rs₀ : List ℕ} {j : Job} {ls rs stood : 
   pub walk-ident : v .owner .ident < 1296
   walk-ident = ident-small code today (W .pieces) n v cl b w stood (W .meant)
 
-  few-field : (x : Reading) → length (fieldFaults j v x stood) ≤ 64
-  few-field x = marked-few (v .owner .no) (fieldMarksOf j v x (ltb (v .head .no) (getD stood (v .owner .ident) 0)))
+  few-field : (x : Reading) → length (fieldFaults j v cl x stood) ≤ 64
+  few-field x = marked-few (v .owner .no) (fieldMarksOf j v (cl .kc) x (ltb (v .head .no) (getD stood (v .owner .ident) 0)))
 
   pub few-all : length (allFaults j v cl b w stood) ≤ 192
   few-all =
-      let kc : Kc = kcAfter v (saidOf v) in
       let ca : Claims = claimsAfter cl v (saidOf v) in
       omega (
         arith,
-        length-append (fieldFaults j v (saidOf v) stood) (itemFaults j b w v kc ca),
-        length-append (marked (w .line) (closeModel j b w v kc ca .told)) (marked (v .head .no) (closeModel j b w v kc ca .marks)),
+        length-append (fieldFaults j v cl (saidOf v) stood) (itemFaults j b w v ca),
+        length-append (marked (w .line) (closeModel j b w v ca .told)) (marked (v .head .no) (closeModel j b w v ca .marks)),
         few-field (saidOf v),
-        marked-few (w .line) (closeModel j b w v kc ca .told),
-        marked-few (v .head .no) (closeModel j b w v kc ca .marks),
+        marked-few (w .line) (closeModel j b w v ca .told),
+        marked-few (v .head .no) (closeModel j b w v ca .marks),
       )
 
   -- one line, whatever it is
@@ -168,22 +166,22 @@ module _ {code today : ℕ} {s ls₀ rs₀ : List ℕ} {j : Job} {ls rs stood : 
           (low-out code today (W .pieces) n v cl b w stood (W .meant) (k .0) (W .all) ∙ (λ i. insertAll (marked (k .2 i .no) (lowMarksOf v (k .2 i))) (W .all)) ∙ ap (λ (t : ℕ). insertAll (marked (l .no) t) (W .all)) (sym em))
           (meant-as (ev ∙ ap (lowLive v) (sym (k .2))) refl refl refl refl (meant-low code today (W .pieces) n v cl b w stood (W .meant) (k .0))) E (omega (arith, marked-few (l .no) m)) (W .calm)
 
-      pub walk-field : (y : Field) → x ≡ OfField y → {said : Reading} → said ≡ saidOf v → {kc : Kc} → kc ≡ kcAfter v said → {v′ : Live} → v′ ≡ fieldLive v kc y
+      pub walk-field : (y : Field) → x ≡ OfField y → {said : Reading} → said ≡ saidOf v → {v′ : Live} → v′ ≡ fieldLive v y
           → {cl′ : Claims} → cl′ ≡ claimsAfter cl v said → {stood′ : List ℕ} → stood′ ≡ set stood (v .owner .ident) (v .owner .no)
-          → {g′ : Ledger} {ls′ rs′ : List ℕ} → Entered (fieldFaults j v said stood) g ls rs g′ ls′ rs′
+          → {g′ : Ledger} {ls′ rs′ : List ℕ} → Entered (fieldFaults j v cl said stood) g ls rs g′ ls′ rs′
           → Walking code today s ls₀ rs₀ j ls′ rs′ stood′ g′ v′ cl′ b w (f .next) (n + 1)
-      walk-field y e {said} es {kc} ek {v′} ev {cl′} ec {stood′} et E =
+      walk-field y e {said} es {v′} ev {cl′} ec {stood′} et E =
           let k = kept-field (sorted row) y (sym ex ∙ e) in
           let q = field-of row (k .0) (k .1) in
-          walk-on (field (k .0)) (k .1) (fieldFaults j v said stood)
-          (field-out code today (W .pieces) n v cl b w stood (W .meant) (k .0) (W .all) ∙ sym (λ i. insertAll (fieldFaults (W .job-is i) v (es i) stood) (W .all)))
-          (meant-as (ev ∙ (λ i. fieldLive v ((ek ∙ ap (kcAfter v) es) i) (sym (k .2) i))) (ec ∙ ap (claimsAfter cl v) es) refl refl et
+          walk-on (field (k .0)) (k .1) (fieldFaults j v cl said stood)
+          (field-out code today (W .pieces) n v cl b w stood (W .meant) (k .0) (W .all) ∙ sym (λ i. insertAll (fieldFaults (W .job-is i) v cl (es i) stood) (W .all)))
+          (meant-as (ev ∙ ap (fieldLive v) (sym (k .2))) (ec ∙ ap (claimsAfter cl v) es) refl refl et
           (meant-field code today (W .pieces) n v cl b w stood (W .meant) (k .0) (q .0) (q .1))) E (omega (arith, few-field said)) (W .calm)
 
       pub walk-head : (k : Head) → x ≡ OfHead k → {v′ : Live} → v′ ≡ headLive k → {cl′ : Claims} → cl′ ≡ noClaims
           → {stood′ : List ℕ} → stood′ ≡ set stood (v .owner .ident) (v .owner .no)
-          → {b′ : Block} → b′ ≡ closeModel j b w v (kcAfter v (saidOf v)) (claimsAfter cl v (saidOf v)) .block
-          → {w′ : Wait} → w′ ≡ closeModel j b w v (kcAfter v (saidOf v)) (claimsAfter cl v (saidOf v)) .wait → w′ .marks < 2 ^ 40
+          → {b′ : Block} → b′ ≡ closeModel j b w v (claimsAfter cl v (saidOf v)) .block
+          → {w′ : Wait} → w′ ≡ closeModel j b w v (claimsAfter cl v (saidOf v)) .wait → w′ .marks < 2 ^ 40
           → {g′ : Ledger} {ls′ rs′ : List ℕ} → Entered (allFaults j v cl b w stood) g ls rs g′ ls′ rs′
           → Walking code today s ls₀ rs₀ j ls′ rs′ stood′ g′ v′ cl′ b′ w′ (f .next) (n + 1)
       walk-head k e {v′} ev {cl′} ec {stood′} et {b′} eb {w′} ew calm E =
@@ -191,13 +189,13 @@ module _ {code today : ℕ} {s ls₀ rs₀ : List ℕ} {j : Job} {ls rs stood : 
           walk-on (heading (h .0)) (h .1) (allFaults j v cl b w stood)
           (head-out code today (W .pieces) n v cl b w stood (W .meant) (h .0) (W .all) ∙ sym (λ i. insertAll (allFaults (W .job-is i) v cl b w stood) (W .all)))
           (meant-as (ev ∙ ap headLive (sym (h .2))) ec
-          (eb ∙ (λ i. closeModel (W .job-is i) b w v (kcAfter v (saidOf v)) (claimsAfter cl v (saidOf v)) .block))
-          (ew ∙ (λ i. closeModel (W .job-is i) b w v (kcAfter v (saidOf v)) (claimsAfter cl v (saidOf v)) .wait)) et
+          (eb ∙ (λ i. closeModel (W .job-is i) b w v (claimsAfter cl v (saidOf v)) .block))
+          (ew ∙ (λ i. closeModel (W .job-is i) b w v (claimsAfter cl v (saidOf v)) .wait)) et
           (meant-head code today (W .pieces) n v cl b w stood (W .meant) (h .0) (head-of row (h .0) (h .1)))) E few-all calm
 
   -- the end
-  pub walk-end : length s ≤ at → {b′ : Block} → b′ ≡ closeModel j b w v (kcAfter v (saidOf v)) (claimsAfter cl v (saidOf v)) .block
-      → {w′ : Wait} → w′ ≡ closeModel j b w v (kcAfter v (saidOf v)) (claimsAfter cl v (saidOf v)) .wait
+  pub walk-end : length s ≤ at → {b′ : Block} → b′ ≡ closeModel j b w v (claimsAfter cl v (saidOf v)) .block
+      → {w′ : Wait} → w′ ≡ closeModel j b w v (claimsAfter cl v (saidOf v)) .wait
       → {g₁ : Ledger} {ls₁ rs₁ : List ℕ} → Entered (allFaults j v cl b w stood) g ls rs g₁ ls₁ rs₁
       → {m : ℕ} → m ≡ lastMarks b′ w′ → {g₂ : Ledger} {ls₂ rs₂ : List ℕ} → Entered (marked (w′ .line) m) g₁ ls₁ rs₁ g₂ ls₂ rs₂ → Listed (faultsIn code today s) ls₀ rs₀ g₂ ls₂ rs₂
   unfolding rowsFrom
@@ -207,7 +205,7 @@ module _ {code today : ℕ} {s ls₀ rs₀ : List ℕ} {j : Job} {ls rs stood : 
       ap (λ (z : List Sorted). run code today put (W .pieces) (W .all) z) (sym (ap (rowsFrom (suc n)) (lines-past s at h))) ∙ W .rest in
       let ends : putAll put (final code today (W .pieces)) (W .all) ≡ insertAll (marked (w′ .line) m) (insertAll xs (W .all)) =
       final-out code today (W .pieces) n v cl b w stood (W .meant) (W .all)
-      ∙ sym (λ i. let d = closeModel (W .job-is i) b w v (kcAfter v (saidOf v)) (claimsAfter cl v (saidOf v)) in
+      ∙ sym (λ i. let d = closeModel (W .job-is i) b w v (claimsAfter cl v (saidOf v)) in
       insertAll (marked (d .wait .line) (lastMarks (d .block) (d .wait))) (insertAll (allFaults (W .job-is i) v cl b w stood) (W .all)))
       ∙ sym (λ i. insertAll (marked (ew i .line) (lastMarks (eb i) (ew i))) (insertAll xs (W .all)))
       ∙ sym (λ i. insertAll (marked (w′ .line) (em i)) (insertAll xs (W .all))) in

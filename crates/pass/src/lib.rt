@@ -5,7 +5,6 @@
 // `ledger`, the cut in `lines`, the table of characters in `text`.
 use blocks::Block;
 use blocks::Job;
-use blocks::Kc;
 use fields::readings::Reading;
 use headings::Code;
 use items::Claims;
@@ -23,7 +22,7 @@ ghost use Prim.Native.Nat.{_≤_, _<_, _^_};
 ghost use lib.Dec.{ltb};
 ghost use lib.ListN.{length, getD, set, replicate};
 ghost use Rattle.ledger.specs.Slices.{Ready, Entered, Listed};
-ghost use Rattle.items.specs.State.{saidOf, kcAfter, claimsAfter, fieldFaults, itemFaults, closeModel};
+ghost use Rattle.items.specs.State.{saidOf, claimsAfter, fieldFaults, itemFaults, closeModel};
 ghost use Rattle.items.specs.Faults.{faultsIn};
 
 // No identifier stood.
@@ -52,15 +51,17 @@ fn shut_field(
     g: Ledger,
     job: Job,
     s: Live,
+    claims: Claims,
     said: Reading,
 ) -> Ledger
     requires { ⌜ Ready (g .kept) (now lines) (now rules) ⌝ }
     requires { ⌜ (g .total < 2 ^ 62) × (s .owner .ident < 1296) ⌝ }
-    ensures { λ r. ⌜ Entered (fieldFaults job s said (now (stood .entry))) g (now (lines .entry)) (now (rules .entry)) r (now (lines .exit)) (now (rules .exit)) ⌝ }
+    ensures { λ r. ⌜ Entered (fieldFaults job s claims said (now (stood .entry))) g (now (lines .entry)) (now (rules .entry)) r (now (lines .exit)) (now (rules .exit)) ⌝ }
     ensures { λ _. ⌜ now (stood .exit) ≡ set (now (stood .entry)) (s .owner .ident) (s .owner .no) ⌝ }
 {
     let stands = again(stood, s.owner.ident, s.owner.no, s.head.no);
-    let marks = marking::field_marks(job, s, said, stands);
+    let kc = claims.kc;
+    let marks = marking::field_marks(job, s, kc, said, stands);
     ledger::enter(lines, rules, g, s.owner.no, marks)
 }
 
@@ -77,17 +78,16 @@ fn shut_item(
     g: Ledger,
     job: Job,
     s: Live,
-    kc: Kc,
     claims: Claims,
     b: Block,
     w: Wait,
 ) -> Closed
     requires { ⌜ Ready (g .kept) (now lines) (now rules) ⌝ }
     requires { ⌜ (g .total < 2 ^ 62) × (w .marks < 2 ^ 40) ⌝ }
-    ensures { λ r. ⌜ Entered (itemFaults job b w s kc claims) g (now (lines .entry)) (now (rules .entry)) (r .ledger) (now (lines .exit)) (now (rules .exit)) ⌝ }
-    ensures { λ r. ⌜ (r .block ≡ closeModel job b w s kc claims .block) × (r .wait ≡ closeModel job b w s kc claims .wait) × (r .wait .marks < 2 ^ 40) ⌝ }
+    ensures { λ r. ⌜ Entered (itemFaults job b w s claims) g (now (lines .entry)) (now (rules .entry)) (r .ledger) (now (lines .exit)) (now (rules .exit)) ⌝ }
+    ensures { λ r. ⌜ (r .block ≡ closeModel job b w s claims .block) × (r .wait ≡ closeModel job b w s claims .wait) × (r .wait .marks < 2 ^ 40) ⌝ }
 {
-    let c = closing::close_item(job, b, w, s, kc, claims);
+    let c = closing::close_item(job, b, w, s, claims);
     let block = c.block;
     let wait = c.wait;
     let first = ledger::enter(lines, rules, g, w.line, c.told);
@@ -113,15 +113,14 @@ fn shut_all(
 ) -> Closed
     requires { ⌜ Ready (g .kept) (now lines) (now rules) ⌝ }
     requires { ⌜ (g .total < 2 ^ 61) × (s .owner .ident < 1296) × (w .marks < 2 ^ 40) ⌝ }
-    ensures { λ r. ⌜ Entered (fieldFaults job s (saidOf s) (now (stood .entry)) ++ itemFaults job b w s (kcAfter s (saidOf s)) (claimsAfter claims s (saidOf s))) g (now (lines .entry)) (now (rules .entry)) (r .ledger) (now (lines .exit)) (now (rules .exit)) ⌝ }
+    ensures { λ r. ⌜ Entered (fieldFaults job s claims (saidOf s) (now (stood .entry)) ++ itemFaults job b w s (claimsAfter claims s (saidOf s))) g (now (lines .entry)) (now (rules .entry)) (r .ledger) (now (lines .exit)) (now (rules .exit)) ⌝ }
     ensures { λ _. ⌜ now (stood .exit) ≡ set (now (stood .entry)) (s .owner .ident) (s .owner .no) ⌝ }
-    ensures { λ r. ⌜ (r .block ≡ closeModel job b w s (kcAfter s (saidOf s)) (claimsAfter claims s (saidOf s)) .block) × (r .wait ≡ closeModel job b w s (kcAfter s (saidOf s)) (claimsAfter claims s (saidOf s)) .wait) × (r .wait .marks < 2 ^ 40) ⌝ }
+    ensures { λ r. ⌜ (r .block ≡ closeModel job b w s (claimsAfter claims s (saidOf s)) .block) × (r .wait ≡ closeModel job b w s (claimsAfter claims s (saidOf s)) .wait) × (r .wait .marks < 2 ^ 40) ⌝ }
 {
     let said = open::said_of(s);
-    let g1 = shut_field(lines, rules, stood, g, job, s, said);
-    let kc = open::kc_after(s, said);
+    let g1 = shut_field(lines, rules, stood, g, job, s, claims, said);
     let all = claiming::claims_after(claims, s, said);
-    shut_item(lines, rules, g1, job, s, kc, all, b, w)
+    shut_item(lines, rules, g1, job, s, all, b, w)
 }
 
 // Enters the faults of a body, for the submitter's code and the accounting day.
@@ -153,11 +152,11 @@ pub fn enter_faults(s: &[u8], code: u32, day: u32, lines: &mut [u32], rules: &mu
             }
             Line::OfField(y) => {
                 let said = open::said_of(live);
-                g = shut_field(lines, rules, &mut stood, g, job, live, said);
+                g = shut_field(lines, rules, &mut stood, g, job, live, claims, said);
                 if claiming::is_claim(live) {
                     claims = claiming::claims_after(claims, live, said);
                 }
-                live = open::with_field(live, open::kc_after(live, said), y);
+                live = open::with_field(live, y);
             }
             Line::OfHead(k) => {
                 let t = shut_all(lines, rules, &mut stood, g, job, live, claims, block, wait);

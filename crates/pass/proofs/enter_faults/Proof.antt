@@ -106,17 +106,14 @@ is-claim-requires c κs = search needs
 claims-after-requires : tie.Need-claims-after-requires Inv-loop μ-loop
 claims-after-requires c κs = search needs
 
-kc-after-requires : tie.Need-kc-after-requires Inv-loop μ-loop
-kc-after-requires c κs = search needs
-
 with-field-requires : tie.Need-with-field-requires Inv-loop μ-loop
 with-field-requires c κs = search needs
 
 loop-less-2 : tie.Need-loop-less-2 Inv-loop μ-loop
-loop-less-2 c = omega (arith, next (c .before .before .before .before .before .before .before .before .before .before .before .before .before .before .before .before .before .before .before) .moves, next (c .before .before .before .before .before .before .before .before .before .before .before .before .before .before .before .before .before .before .before) .within)
+loop-less-2 c = omega (arith, next (c .before .before .before .before .before .before .before .before .before .before .before .before .before .before .before .before .before .before) .moves, next (c .before .before .before .before .before .before .before .before .before .before .before .before .before .before .before .before .before .before) .within)
 
 loop-again-2 : tie.Need-loop-again-2 Inv-loop μ-loop
-loop-again-2 c = walk-field (c .before .before .before .before .before .before .before .before .before .before .before .before .before .before .before .before .before .before .before .before .before .loop .inv) (next (c .before .before .before .before .before .before .before .before .before .before .before .before .before .before .before .before .before .before .before)) (kept-at _ _ _ (c .before .before .before .before .before .before .before .before .before .before .before .before .before .before .before .before .line-kept .ensures)) (c .before .before .before .before .before .before .before .before .before .before .before .before .before .before .x2 .given .0 .0) (c .before .before .before .before .before .before .before .before .before .before .before .before .before .before .x2 .given .1) (c .before .before .before .before .before .before .before .before .before .before .before .before .said-of .ensures) (c .before .kc-after .ensures) (c .with-field .ensures) (claims-joined (c .before .before)) (c .before .before .before .before .before .before .before .before .shut-field .ensures .1) (c .before .before .before .before .before .before .before .before .shut-field .ensures .0)
+loop-again-2 c = walk-field (c .before .before .before .before .before .before .before .before .before .before .before .before .before .before .before .before .before .before .before .before .loop .inv) (next (c .before .before .before .before .before .before .before .before .before .before .before .before .before .before .before .before .before .before)) (kept-at _ _ _ (c .before .before .before .before .before .before .before .before .before .before .before .before .before .before .before .line-kept .ensures)) (c .before .before .before .before .before .before .before .before .before .before .before .before .before .x2 .given .0 .0) (c .before .before .before .before .before .before .before .before .before .before .before .before .before .x2 .given .1) (c .before .before .before .before .before .before .before .before .before .before .before .said-of .ensures) (c .with-field .ensures) (claims-joined (c .before)) (c .before .before .before .before .before .before .before .shut-field .ensures .1) (c .before .before .before .before .before .before .before .shut-field .ensures .0)
 
 enum-known-x-3 : tie.Need-enum-known-x-3 Inv-loop μ-loop
 enum-known-x-3 c = search needs
@@ -188,7 +185,6 @@ enter-faults-spec =
     shut-field-requires
     is-claim-requires
     claims-after-requires
-    kc-after-requires
     with-field-requires
     loop-less-2
     loop-again-2

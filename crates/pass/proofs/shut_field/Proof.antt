@@ -29,7 +29,7 @@ same-length-2 c = search needs
 returns : tie.Need-returns
 returns c =
     let a = c .before .before .before .before .before .before .before .before .before .before .before .before .args in
-    let e = c .before .before .before .before .before .before .before .field-marks .ensures ∙ ap (fieldMarksOf (a .job) (a .s) (a .said)) (c .before .before .before .before .before .before .before .before .again .ensures .0) in
+    let e = c .before .before .before .before .before .before .before .field-marks .ensures ∙ ap (fieldMarksOf (a .job) (a .s) (a .claims .kc) (a .said)) (c .before .before .before .before .before .before .before .before .again .ensures .0) in
     (entered-list (ap (marked (a .s .owner .no)) e) (c .before .before .before .before .enter .ensures .0), c .before .before .before .before .before .before .before .before .again .ensures .1)
 
 pub shut-field-spec : {M : Type 1} → statement M

@@ -1,6 +1,6 @@
 use borrow.Author.Needs.{needs}
-use Rattle.items.proofs.open.kc_by.Statement.{statement}
-use Rattle.items.proofs.open.kc_by.Tie as tie
+use Rattle.items.proofs.claiming.kc_by.Statement.{statement}
+use Rattle.items.proofs.claiming.kc_by.Tie as tie
 
 enum-known-said : tie.Need-enum-known-said
 enum-known-said c = search needs
