@@ -112,6 +112,10 @@ module _ {code today : ℕ} {s ls₀ rs₀ : List ℕ} {j : Job} {ls rs stood : 
   pub walk-ready : Ready (g .kept) ls rs
   walk-ready = book-ready (W .book)
 
+  -- what is listed so far leaves room to count on
+  pub walk-room : length s ≤ 10000000 → g .total < 2 ^ 61
+  walk-room h = omega (arith, W .small, W .few, W .to)
+
   pub walk-ident : v .owner .ident < 1296
   walk-ident = ident-small code today (W .pieces) n v cl b w stood (W .meant)
 

@@ -6,7 +6,7 @@ use lib.ListN.{length}
 use Rattle.lines.specs.Reading.{IsNext}
 use Rattle.lines.proofs.Reading.{is-next}
 use Rattle.items.specs.State.{claimsAfter}
-use Rattle.pass.proofs.Walk.{no-claim, Walking, kept-at, walk-start, walk-ready, walk-ident, few-all, walk-low, walk-field, walk-head, walk-end}
+use Rattle.pass.proofs.Walk.{no-claim, Walking, kept-at, walk-start, walk-ready, walk-room, walk-ident, few-all, walk-low, walk-field, walk-head, walk-end}
 use borrow.Author.Needs.{needs}
 use Rattle.pass.proofs.enter_faults.Statement.{statement}
 use Rattle.pass.proofs.enter_faults.Tie as tie
@@ -24,8 +24,9 @@ next c = is-next _ _ _ (c .line-from .ensures) (c .before .loop-test .taken)
 -- the claims are touched only where the open field makes one
 claims-joined : (c : tie.Joined1 Inv-loop μ-loop) → c .if1 .claims ≡ claimsAfter (c .before .before .before .before .before .before .before .before .before .before .before .before .before .before .before .before .before .before .before .loop .claims) (c .before .before .before .before .before .before .before .before .before .before .before .before .before .before .before .before .before .before .before .loop .live) (c .before .before .before .before .before .before .before .before .before .before .said-of .result)
 claims-joined c =
+    let at-loop = c .before .before .before .before .before .before .before .before .before .before .before .before .before .before .before .before .before .before .before in
     ⊎-elim (λ w. w .2 ∙ w .1 .ensures)
-    (λ w. w .1 ∙ no-claim (c .before .before .before .before .before .before .before .before .before .before .before .before .before .before .before .before .before .before .before .loop .claims) (c .before .before .before .before .before .before .before .before .before .before .before .before .before .before .before .before .before .before .before .loop .live) _ (sym (c .before .is-claim .ensures) ∙ w .0 .left)) (c .if1 .came)
+    (λ w. w .1 ∙ no-claim (at-loop .loop .claims) (at-loop .loop .live) _ (sym (c .before .is-claim .ensures) ∙ w .0 .left)) (c .if1 .came)
 
 job-of-requires : tie.Need-job-of-requires Inv-loop μ-loop
 job-of-requires c κs = search needs
@@ -80,16 +81,24 @@ low-marks-requires : tie.Need-low-marks-requires Inv-loop μ-loop
 low-marks-requires c κs = search needs
 
 enter-requires : tie.Need-enter-requires Inv-loop μ-loop
-enter-requires c κs = (walk-ready (c .before .before .before .before .before .before .before .before .before .before .before .loop .inv), omega (arith, c .before .before .before .before .before .before .before .before .before .before .before .loop .inv .small, c .before .before .before .before .before .before .before .before .before .before .before .loop .inv .few, c .before .before .before .before .before .before .before .before .before .before .before .loop .inv .to, c .before .before .before .before .before .before .before .before .before .before .before .before .before .before .before .before .before .before .before .before .before .before .before .pre .0))
+enter-requires c κs =
+    let at-loop = c .before .before .before .before .before .before .before .before .before .before .before in
+    let start = at-loop .before .before .before .before .before .before .before .before .before .before .before .before in
+    (walk-ready (at-loop .loop .inv), omega (arith, walk-room (at-loop .loop .inv) (start .pre .0)))
 
 with-low-requires : tie.Need-with-low-requires Inv-loop μ-loop
 with-low-requires c κs = search needs
 
 loop-less : tie.Need-loop-less Inv-loop μ-loop
-loop-less c = omega (arith, next (c .before .before .before .before .before .before .before .before .before .before .before .before .before .before .before) .moves, next (c .before .before .before .before .before .before .before .before .before .before .before .before .before .before .before) .within)
+loop-less c =
+    let found = c .before .before .before .before .before .before .before .before .before .before .before .before .before .before .before in
+    omega (arith, next found .moves, next found .within)
 
 loop-again : tie.Need-loop-again Inv-loop μ-loop
-loop-again c = walk-low (c .before .before .before .before .before .before .before .before .before .before .before .before .before .before .before .before .before .loop .inv) (next (c .before .before .before .before .before .before .before .before .before .before .before .before .before .before .before)) (kept-at _ _ _ (c .before .before .before .before .before .before .before .before .before .before .before .before .line-kept .ensures)) (c .before .before .before .before .before .before .before .before .before .before .x .given .0 .0) (c .before .before .before .before .before .before .before .before .before .before .x .given .1) (c .with-low .ensures) (c .before .before .before .before .before .before .low-marks .ensures) (c .before .before .before .before .before .enter .ensures .0)
+loop-again c =
+    let at-loop = c .before .before .before .before .before .before .before .before .before .before .before .before .before .before .before .before .before in
+    let found = c .before .before .before .before .before .before .before .before .before .before .before .before .before .before .before in
+    walk-low (at-loop .loop .inv) (next found) (kept-at _ _ _ (c .before .before .before .before .before .before .before .before .before .before .before .before .line-kept .ensures)) (c .before .before .before .before .before .before .before .before .before .before .x .given .0 .0) (c .before .before .before .before .before .before .before .before .before .before .x .given .1) (c .with-low .ensures) (c .before .before .before .before .before .before .low-marks .ensures) (c .before .before .before .before .before .enter .ensures .0)
 
 enum-known-x-2 : tie.Need-enum-known-x-2 Inv-loop μ-loop
 enum-known-x-2 c = search needs
@@ -98,7 +107,10 @@ said-of-requires : tie.Need-said-of-requires Inv-loop μ-loop
 said-of-requires c κs = search needs
 
 shut-field-requires : tie.Need-shut-field-requires Inv-loop μ-loop
-shut-field-requires c κs = (walk-ready (c .before .before .before .before .before .before .before .before .before .before .before .before .loop .inv), (omega (arith, c .before .before .before .before .before .before .before .before .before .before .before .before .loop .inv .small, c .before .before .before .before .before .before .before .before .before .before .before .before .loop .inv .few, c .before .before .before .before .before .before .before .before .before .before .before .before .loop .inv .to, c .before .before .before .before .before .before .before .before .before .before .before .before .before .before .before .before .before .before .before .before .before .before .before .before .pre .0), walk-ident (c .before .before .before .before .before .before .before .before .before .before .before .before .loop .inv)))
+shut-field-requires c κs =
+    let at-loop = c .before .before .before .before .before .before .before .before .before .before .before .before in
+    let start = at-loop .before .before .before .before .before .before .before .before .before .before .before .before in
+    (walk-ready (at-loop .loop .inv), (omega (arith, walk-room (at-loop .loop .inv) (start .pre .0)), walk-ident (at-loop .loop .inv)))
 
 is-claim-requires : tie.Need-is-claim-requires Inv-loop μ-loop
 is-claim-requires c κs = search needs
@@ -110,16 +122,24 @@ with-field-requires : tie.Need-with-field-requires Inv-loop μ-loop
 with-field-requires c κs = search needs
 
 loop-less-2 : tie.Need-loop-less-2 Inv-loop μ-loop
-loop-less-2 c = omega (arith, next (c .before .before .before .before .before .before .before .before .before .before .before .before .before .before .before .before .before .before) .moves, next (c .before .before .before .before .before .before .before .before .before .before .before .before .before .before .before .before .before .before) .within)
+loop-less-2 c =
+    let found = c .before .before .before .before .before .before .before .before .before .before .before .before .before .before .before .before .before .before in
+    omega (arith, next found .moves, next found .within)
 
 loop-again-2 : tie.Need-loop-again-2 Inv-loop μ-loop
-loop-again-2 c = walk-field (c .before .before .before .before .before .before .before .before .before .before .before .before .before .before .before .before .before .before .before .before .loop .inv) (next (c .before .before .before .before .before .before .before .before .before .before .before .before .before .before .before .before .before .before)) (kept-at _ _ _ (c .before .before .before .before .before .before .before .before .before .before .before .before .before .before .before .line-kept .ensures)) (c .before .before .before .before .before .before .before .before .before .before .before .before .before .x2 .given .0 .0) (c .before .before .before .before .before .before .before .before .before .before .before .before .before .x2 .given .1) (c .before .before .before .before .before .before .before .before .before .before .before .said-of .ensures) (c .with-field .ensures) (claims-joined (c .before)) (c .before .before .before .before .before .before .before .shut-field .ensures .1) (c .before .before .before .before .before .before .before .shut-field .ensures .0)
+loop-again-2 c =
+    let at-loop = c .before .before .before .before .before .before .before .before .before .before .before .before .before .before .before .before .before .before .before .before in
+    let found = c .before .before .before .before .before .before .before .before .before .before .before .before .before .before .before .before .before .before in
+    walk-field (at-loop .loop .inv) (next found) (kept-at _ _ _ (c .before .before .before .before .before .before .before .before .before .before .before .before .before .before .before .line-kept .ensures)) (c .before .before .before .before .before .before .before .before .before .before .before .before .before .x2 .given .0 .0) (c .before .before .before .before .before .before .before .before .before .before .before .before .before .x2 .given .1) (c .before .before .before .before .before .before .before .before .before .before .before .said-of .ensures) (c .with-field .ensures) (claims-joined (c .before)) (c .before .before .before .before .before .before .before .shut-field .ensures .1) (c .before .before .before .before .before .before .before .shut-field .ensures .0)
 
 enum-known-x-3 : tie.Need-enum-known-x-3 Inv-loop μ-loop
 enum-known-x-3 c = search needs
 
 shut-all-requires : tie.Need-shut-all-requires Inv-loop μ-loop
-shut-all-requires c κs = (walk-ready (c .before .before .before .before .before .before .before .before .before .before .before .loop .inv), (omega (arith, c .before .before .before .before .before .before .before .before .before .before .before .loop .inv .small, c .before .before .before .before .before .before .before .before .before .before .before .loop .inv .few, c .before .before .before .before .before .before .before .before .before .before .before .loop .inv .to, c .before .before .before .before .before .before .before .before .before .before .before .before .before .before .before .before .before .before .before .before .before .before .before .pre .0), walk-ident (c .before .before .before .before .before .before .before .before .before .before .before .loop .inv), c .before .before .before .before .before .before .before .before .before .before .before .loop .inv .calm))
+shut-all-requires c κs =
+    let at-loop = c .before .before .before .before .before .before .before .before .before .before .before in
+    let start = at-loop .before .before .before .before .before .before .before .before .before .before .before .before in
+    (walk-ready (at-loop .loop .inv), (omega (arith, walk-room (at-loop .loop .inv) (start .pre .0)), walk-ident (at-loop .loop .inv), at-loop .loop .inv .calm))
 
 no-claims-requires-2 : tie.Need-no-claims-requires-2 Inv-loop μ-loop
 no-claims-requires-2 c κs = search needs
@@ -128,27 +148,41 @@ with-head-requires : tie.Need-with-head-requires Inv-loop μ-loop
 with-head-requires c κs = search needs
 
 loop-less-3 : tie.Need-loop-less-3 Inv-loop μ-loop
-loop-less-3 c = omega (arith, next (c .before .before .before .before .before .before .before .before .before .before .before .before .before .before .before .before .before .before .before) .moves, next (c .before .before .before .before .before .before .before .before .before .before .before .before .before .before .before .before .before .before .before) .within)
+loop-less-3 c =
+    let found = c .before .before .before .before .before .before .before .before .before .before .before .before .before .before .before .before .before .before .before in
+    omega (arith, next found .moves, next found .within)
 
 loop-again-3 : tie.Need-loop-again-3 Inv-loop μ-loop
-loop-again-3 c = walk-head (c .before .before .before .before .before .before .before .before .before .before .before .before .before .before .before .before .before .before .before .before .before .loop .inv) (next (c .before .before .before .before .before .before .before .before .before .before .before .before .before .before .before .before .before .before .before)) (kept-at _ _ _ (c .before .before .before .before .before .before .before .before .before .before .before .before .before .before .before .before .line-kept .ensures)) (c .before .before .before .before .before .before .before .before .before .before .before .before .before .before .x3 .given .0 .0) (c .before .before .before .before .before .before .before .before .before .before .before .before .before .before .x3 .given .1) (c .with-head .ensures) (c .before .no-claims2 .ensures) (c .before .before .before .before .before .before .before .before .before .shut-all .ensures .1 .0) (c .before .before .before .before .before .before .before .before .before .shut-all .ensures .1 .1 .0) (c .before .before .before .before .before .before .before .before .before .shut-all .ensures .1 .1 .1) (c .before .before .before .before .before .before .before .before .before .shut-all .ensures .1 .1 .2) (c .before .before .before .before .before .before .before .before .before .shut-all .ensures .0)
+loop-again-3 c =
+    let at-loop = c .before .before .before .before .before .before .before .before .before .before .before .before .before .before .before .before .before .before .before .before .before in
+    let found = c .before .before .before .before .before .before .before .before .before .before .before .before .before .before .before .before .before .before .before in
+    walk-head (at-loop .loop .inv) (next found) (kept-at _ _ _ (c .before .before .before .before .before .before .before .before .before .before .before .before .before .before .before .before .line-kept .ensures)) (c .before .before .before .before .before .before .before .before .before .before .before .before .before .before .x3 .given .0 .0) (c .before .before .before .before .before .before .before .before .before .before .before .before .before .before .x3 .given .1) (c .with-head .ensures) (c .before .no-claims2 .ensures) (c .before .before .before .before .before .before .before .before .before .shut-all .ensures .1 .0) (c .before .before .before .before .before .before .before .before .before .shut-all .ensures .1 .1 .0) (c .before .before .before .before .before .before .before .before .before .shut-all .ensures .1 .1 .1) (c .before .before .before .before .before .before .before .before .before .shut-all .ensures .1 .1 .2) (c .before .before .before .before .before .before .before .before .before .shut-all .ensures .0)
 
 shut-all-requires-2 : tie.Need-shut-all-requires-2 Inv-loop μ-loop
-shut-all-requires-2 c κs = (walk-ready (c .before .before .before .before .loop .inv), (omega (arith, c .before .before .before .before .loop .inv .small, c .before .before .before .before .loop .inv .few, c .before .before .before .before .loop .inv .to, c .before .before .before .before .before .before .before .before .before .before .before .before .before .before .before .before .pre .0), walk-ident (c .before .before .before .before .loop .inv), c .before .before .before .before .loop .inv .calm))
+shut-all-requires-2 c κs =
+    let at-loop = c .before .before .before .before in
+    let start = at-loop .before .before .before .before .before .before .before .before .before .before .before .before in
+    (walk-ready (at-loop .loop .inv), (omega (arith, walk-room (at-loop .loop .inv) (start .pre .0)), walk-ident (at-loop .loop .inv), at-loop .loop .inv .calm))
 
 last-marks-requires : tie.Need-last-marks-requires Inv-loop μ-loop
 last-marks-requires c κs = c .before .before .before .before .shut-all2 .ensures .1 .1 .2
 
 enter-requires-2 : tie.Need-enter-requires-2 Inv-loop μ-loop
 enter-requires-2 c κs =
+    let at-loop = c .before .before .before .before .before .before .before .before .before .before .before .before in
+    let start = at-loop .before .before .before .before .before .before .before .before .before .before .before .before in
     let E = c .before .before .before .before .before .before .before .shut-all2 .ensures .0 in
-    (E .put .ready, omega (arith, c .before .before .before .before .before .before .before .before .before .before .before .before .loop .inv .small, c .before .before .before .before .before .before .before .before .before .before .before .before .loop .inv .few, c .before .before .before .before .before .before .before .before .before .before .before .before .loop .inv .to, c .before .before .before .before .before .before .before .before .before .before .before .before .before .before .before .before .before .before .before .before .before .before .before .before .pre .0, E .sum, few-all (c .before .before .before .before .before .before .before .before .before .before .before .before .loop .inv)))
+    (E .put .ready, omega (arith, walk-room (at-loop .loop .inv) (start .pre .0), E .sum, few-all (at-loop .loop .inv)))
 
 same-length : tie.Need-same-length Inv-loop μ-loop
-same-length c = c .before .before .before .before .enter2 .kept .0 ∙ c .before .before .before .before .before .before .before .before .before .before .before .before .shut-all2 .kept .0 ∙ c .before .before .before .before .before .before .before .before .before .before .before .before .before .before .before .before .before .loop .inv .book .entered .put .lines-long
+same-length c =
+    let at-loop = c .before .before .before .before .before .before .before .before .before .before .before .before .before .before .before .before .before in
+    c .before .before .before .before .enter2 .kept .0 ∙ c .before .before .before .before .before .before .before .before .before .before .before .before .shut-all2 .kept .0 ∙ at-loop .loop .inv .book .entered .put .lines-long
 
 same-length-2 : tie.Need-same-length-2 Inv-loop μ-loop
-same-length-2 c = c .before .before .before .before .enter2 .kept .1 .0 ∙ c .before .before .before .before .before .before .before .before .before .before .before .before .shut-all2 .kept .1 .0 ∙ c .before .before .before .before .before .before .before .before .before .before .before .before .before .before .before .before .before .loop .inv .book .entered .put .rules-long
+same-length-2 c =
+    let at-loop = c .before .before .before .before .before .before .before .before .before .before .before .before .before .before .before .before .before in
+    c .before .before .before .before .enter2 .kept .1 .0 ∙ c .before .before .before .before .before .before .before .before .before .before .before .before .shut-all2 .kept .1 .0 ∙ at-loop .loop .inv .book .entered .put .rules-long
 
 returns : tie.Need-returns Inv-loop μ-loop
 returns c = walk-end (c .before .before .before .before .before .before .before .before .before .before .before .before .before .before .before .before .before .loop .inv) (omega (arith, c .before .before .before .before .before .before .before .before .before .before .before .before .before .before .before .before .loop-test)) (c .before .before .before .before .before .before .before .before .before .before .before .before .shut-all2 .ensures .1 .1 .0) (c .before .before .before .before .before .before .before .before .before .before .before .before .shut-all2 .ensures .1 .1 .1) (c .before .before .before .before .before .before .before .before .before .before .before .before .shut-all2 .ensures .0) (c .before .before .before .before .before .before .before .last-marks .ensures .0) (c .before .before .before .before .enter2 .ensures .0)
