@@ -1,8 +1,9 @@
 -- The marks of a field and the closing of an item, by the tests in the order in which the code asks them.
 use mathlib.Core.Path.{_≡_, refl, sym, ap, _∙_}
-use mathlib.Core.Bool.{Bool, true, false, cond, not}
+use mathlib.Core.Bool.{Bool, true, false, cond, not, _&&_}
 use Prim.Native.Nat.{ℕ, _+_}
 use borrow.Author.Tests.{not-true, not-false}
+use Rattle.laws.specs.Tests.{mark}
 use Rattle.fields.specs.declared.readings.Reading.{Reading}
 use Rattle.blocks.specs.declared.Job.{Job}
 use Rattle.blocks.specs.declared.Kc.{Kc}
@@ -15,6 +16,11 @@ use Rattle.items.specs.declared.Live.{Live}
 use Rattle.items.specs.declared.Claims.{Claims}
 use Rattle.items.specs.declared.Wait.{Wait}
 use Rattle.items.specs.State.{ownMarks, insideMarks, fieldMarksOf, readOf, noWait, itemModel, headMarksOf, shut, shutAs, closeModel}
+
+-- 8 and 9 at a field that pays nothing
+pub neither : (first : Bool) → _≡_ {A = ℕ} 0 (mark 8 (first && false) + mark 9 (first && false))
+neither true = refl
+neither false = refl
 
 module _ (j : Job) (s : Live) (kc : Kc) (said : Reading) (again : Bool) where
   pub no-field : not (s .fielded) ≡ true → 0 ≡ fieldMarksOf j s kc said again

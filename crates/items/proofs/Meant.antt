@@ -5,6 +5,7 @@ use mathlib.Core.Bool.{Bool, true, false, cond, not, _&&_, _||_}
 use mathlib.Core.Option.{none, some}
 use mathlib.Core.List.{List, [], _∷_, _++_, map}
 use Prim.Native.Nat.{ℕ, zero, suc, _+_, _≤_, _<_}
+use native.Mathlib.Nat.{add-assoc}
 use native.Mathlib.Omega.{arith}
 use lib.Dec.{eqb, ltb}
 use lib.ListN.{length, getD, set, length-set}
@@ -38,7 +39,7 @@ use Rattle.items.specs.Fields.{lineMarks, lowMarks, continuations, says,
 use Rattle.items.specs.Headings.{continued, headOf, is, kcOf, ends, fresh}
 use Rattle.items.specs.Faults.{entry, lowEntry, fieldEntry}
 use Rattle.items.specs.Kept.{headKept, fieldKept, lowKept}
-use Rattle.items.specs.State.{saidOf, readOf, lowLive, fieldLive, headLive, noClaims, claimsAfter, ownMarks, lowMarksOf, firstKc, lateBy, insideMarks, fieldMarksOf, fieldFaults, itemFaults, closeModel, lastMarks, headMarksOf}
+use Rattle.items.specs.State.{saidOf, readOf, lowLive, fieldLive, headLive, noClaims, claimsAfter, ownMarks, lowMarksOf, firstKc, lateBy, kcMarks, insideMarks, fieldMarksOf, fieldFaults, itemFaults, closeModel, lastMarks, headMarksOf}
 use Rattle.items.proofs.Ideal.{Open, start, early, atHead, atField, closed, item, push, waits, headsOut, out, lastOut, final}
 use Rattle.items.proofs.Turned.{continued-closed, firstUp, says-closed}
 use Rattle.items.proofs.Opened.{said-is, live, low-is, field-is, head-is, no-kc-is, claimsOf, claims, no-claims-is, claimsThen, claims-is, claims-field}
@@ -121,13 +122,14 @@ module _ (code today : ℕ) where
       insideMarks job s (kcOf (firstUp (is (named "KC")) ups)) (saidOf s) again
       ≡ mark 5 (stands (x .ident) ups) + mark 6 (rule6 g) + mark 7 (failsCheck (says g)) + mark 8 (isFirstKc ups g && late today r (says g))
       + mark 9 (isFirstKc ups g && large r (says g))
-  unfolding insideMarks fieldKept
+  unfolding insideMarks kcMarks fieldKept
   inside-is b h hl ups x ls again e =
       let first : (eqb (x .ident) (named "KC") && noKc (kcOf (firstUp (is (named "KC")) ups))) ≡ (eqb (x .ident) (named "KC") && not (stands (named "KC") ups)) =
       ap (λ (t : Bool). eqb (x .ident) (named "KC") && t) (no-kc-is (named "KC") ups) in
       let said : saidOf (live (atField b h hl ups x ls)) ≡ says (closed x ls) = said-is x ls in
       let read : readOf (live (atField b h hl ups x ls)) ≡ headOf (closed h hl) = read-is code today b h hl ups in
-      (λ j. mark 5 (e j) + mark 6 (isBroken (said j)) + mark 7 (failsCheck (said j)) + mark 8 (first j && lateBy job (read j) (said j)) + mark 9 (first j && large (read j) (said j)))
+      (λ j. mark 5 (e j) + mark 6 (isBroken (said j)) + mark 7 (failsCheck (said j)) + (mark 8 (first j && lateBy job (read j) (said j)) + mark 9 (first j && large (read j) (said j))))
+      ∙ sym (add-assoc _ _ _)
       ∙ (λ j. mark 5 (stands (x .ident) ups) + mark 6 (broken-is x ls j) + mark 7 (failsCheck (says (closed x ls)))
       + mark 8 (isFirstKc ups (closed x ls) && late-is (headOf (closed h hl)) (says (closed x ls)) j) + mark 9 (isFirstKc ups (closed x ls) && large (headOf (closed h hl)) (says (closed x ls))))
 

@@ -143,10 +143,13 @@ lateBy j (Reads h) (Stated n a) = false
 lateBy j (Reads h) (Party b) = false
 lateBy j Unreadable r = false
 
+-- 8 and 9
+unfoldable pub kcMarks : Job → Bool → Read → Reading → ℕ
+kcMarks j first h said = mark 8 (first && lateBy j h said) + mark 9 (first && large h said)
+
 unfoldable pub insideMarks : Job → Live → Kc → Reading → Bool → ℕ
 insideMarks j s kc said again =
-    mark 5 again + mark 6 (isBroken said) + mark 7 (failsCheck said) + mark 8 (firstKc s kc && lateBy j (readOf s) said)
-    + mark 9 (firstKc s kc && large (readOf s) said)
+    mark 5 again + mark 6 (isBroken said) + mark 7 (failsCheck said) + kcMarks j (firstKc s kc) (readOf s) said
 
 unfoldable pub fieldMarksOf : Job → Live → Kc → Reading → Bool → ℕ
 fieldMarksOf j s kc said again =

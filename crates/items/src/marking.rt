@@ -11,8 +11,7 @@ ghost use mathlib.Core.Path.{_≡_};
 ghost use Prim.Native.Nat.{_<_, _≤_, _^_};
 ghost use Rattle.fields.specs.Tails.{isBroken};
 ghost use Rattle.items.specs.Fields.{failsCheck};
-ghost use Rattle.items.specs.State.{ownMarks, lowMarksOf, firstKc, lateBy, insideMarks, fieldMarksOf};
-ghost use Rattle.items.specs.Fields.{large};
+ghost use Rattle.items.specs.State.{ownMarks, lowMarksOf, kcMarks, firstKc, insideMarks, fieldMarksOf};
 
 // 1 and 4.
 pub fn own_marks(bad: bool, ended: bool) -> u64
@@ -53,34 +52,25 @@ fn fails_check(said: Reading) -> bool
     }
 }
 
-fn is_late(job: Job, read: Read, said: Reading) -> bool
-    ensures { λ r. ⌜ r ≡ lateBy job read said ⌝ }
+// 8 and 9, which a field breaks only where it is the item's first KC.
+fn kc_marks(job: Job, first: bool, read: Read, said: Reading) -> u64
+    ensures { λ r. ⌜ (r ≡ kcMarks job first read said) × (r ≤ 768) ⌝ }
 {
     match read {
-        Read::Unreadable => false,
+        Read::Unreadable => 0,
         Read::Reads(h) => match said {
-            Reading::Paid(_, day) => blocks::own_rules::breaks_eight(job, h.kind, day),
-            Reading::Broken => false,
-            Reading::Plain => false,
-            Reading::Span(_, _) => false,
-            Reading::Stated(_, _) => false,
-            Reading::Party(_) => false,
-        },
-    }
-}
-
-fn is_large(read: Read, said: Reading) -> bool
-    ensures { λ r. ⌜ r ≡ large read said ⌝ }
-{
-    match read {
-        Read::Unreadable => false,
-        Read::Reads(h) => match said {
-            Reading::Paid(amount, _) => blocks::own_rules::breaks_nine(h.kind, amount),
-            Reading::Broken => false,
-            Reading::Plain => false,
-            Reading::Span(_, _) => false,
-            Reading::Stated(_, _) => false,
-            Reading::Party(_) => false,
+            Reading::Paid(amount, day) => {
+                flag(
+                    first & blocks::own_rules::breaks_eight(job, h.kind, day),
+                    256,
+                )
+                    + flag(first & blocks::own_rules::breaks_nine(h.kind, amount), 512)
+            }
+            Reading::Broken => 0,
+            Reading::Plain => 0,
+            Reading::Span(_, _) => 0,
+            Reading::Stated(_, _) => 0,
+            Reading::Party(_) => 0,
         },
     }
 }
@@ -101,8 +91,7 @@ fn inside_marks(job: Job, s: Live, kc: Kc, said: Reading, again: bool) -> u64
     flag(again, 32)
         + flag(is_broken(said), 64)
         + flag(fails_check(said), 128)
-        + flag(first & is_late(job, read, said), 256)
-        + flag(first & is_large(read, said), 512)
+        + kc_marks(job, first, read, said)
 }
 
 // The marks of the open field, which closes; `kc` is the item's first KC above it, and `again` says whether its identifier stood

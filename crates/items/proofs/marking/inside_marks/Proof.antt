@@ -31,29 +31,17 @@ flag-requires-3 c κs = search needs
 add-result-2 : tie.Need-add-result-2
 add-result-2 c = search needs
 
-is-late-requires : tie.Need-is-late-requires
-is-late-requires c κs = search needs
-
-flag-requires-4 : tie.Need-flag-requires-4
-flag-requires-4 c κs = search needs
+kc-marks-requires : tie.Need-kc-marks-requires
+kc-marks-requires c κs = search needs
 
 add-result-3 : tie.Need-add-result-3
 add-result-3 c = search needs
 
-is-large-requires : tie.Need-is-large-requires
-is-large-requires c κs = search needs
-
-flag-requires-5 : tie.Need-flag-requires-5
-flag-requires-5 c κs = search needs
-
-add-result-4 : tie.Need-add-result-4
-add-result-4 c = search needs
-
 returns : tie.Need-returns
 unfolding insideMarks
 returns c = (
-  simp (c .flag5 .ensures .0, c .before .is-large .ensures, c .before .before .flag4 .ensures .0, c .before .before .before .is-late .ensures, c .before .before .before .before .flag3 .ensures .0, c .before .before .before .before .before .fails-check .ensures, c .before .before .before .before .before .before .flag2 .ensures .0, c .before .before .before .before .before .before .before .is-broken .ensures, c .before .before .before .before .before .before .before .before .flag .ensures .0, c .before .before .before .before .before .before .before .before .before .is-first-kc .ensures, c .before .before .before .before .before .before .before .before .before .before .read-of .ensures),
-  omega (arith, c .flag5 .ensures .1, c .before .before .flag4 .ensures .1, c .before .before .before .before .flag3 .ensures .1, c .before .before .before .before .before .before .flag2 .ensures .1, c .before .before .before .before .before .before .before .before .flag .ensures .1),
+  simp (c .kc-marks .ensures .0, c .before .flag3 .ensures .0, c .before .before .fails-check .ensures, c .before .before .before .flag2 .ensures .0, c .before .before .before .before .is-broken .ensures, c .before .before .before .before .before .flag .ensures .0, c .before .before .before .before .before .before .is-first-kc .ensures, c .before .before .before .before .before .before .before .read-of .ensures),
+  omega (arith, c .kc-marks .ensures .1, c .before .flag3 .ensures .1, c .before .before .before .flag2 .ensures .1, c .before .before .before .before .before .flag .ensures .1),
 )
 
 pub inside-marks-spec : {M : Type 1} → statement M
@@ -69,10 +57,6 @@ inside-marks-spec =
     fails-check-requires
     flag-requires-3
     add-result-2
-    is-late-requires
-    flag-requires-4
+    kc-marks-requires
     add-result-3
-    is-large-requires
-    flag-requires-5
-    add-result-4
     returns)
