@@ -9,7 +9,7 @@ use lib.Dec.{eqb, ltb}
 use lib.ListN.{length, getD, set}
 use borrow.Author.Tests.{eqb-true, eq-eqb, ne-eqb, ltb-true, ltb-false, le-ltb}
 use Rattle.laws.specs.Tests.{among}
-use Rattle.text.specs.Days.{isReal, dayNumber, later, sum}
+use Rattle.days.specs.Days.{isReal, dayNumber, later, sum}
 use Rattle.headings.specs.declared.Code.{Code}
 use Rattle.headings.specs.declared.ItemNo.{ItemNo}
 use Rattle.headings.specs.declared.Heading.{Heading}

@@ -4,7 +4,7 @@ use Prim.Native.Nat.{ℕ, _^_}
 use mathlib.Core.Path.{_≡_, refl}
 use mathlib.Core.Bool.{false}
 use mathlib.Core.List.{List, [], _∷_}
-use Rattle.text.specs.Days.{isReal, isLeap, row, monthLength, dayNumber}
+use Rattle.days.specs.Days.{isReal, isLeap, row, monthLength, dayNumber}
 use Rattle.headings.specs.ItemTypes.{isInput, isPayment, isPriority, isTrilateral}
 use Rattle.headings.specs.HeadRules.{rule10, rule13, rule14}
 use Rattle.headings.specs.declared.Read.the-variants.{Reads}

@@ -5,7 +5,7 @@ use mathlib.Core.List.{List}
 use lib.Dec.{eqb, ltb}
 use lib.ListN.{getD, set, replicate}
 use Rattle.laws.specs.Tests.{among}
-use Rattle.text.specs.Days.{isReal, dayNumber}
+use Rattle.days.specs.Days.{isReal, dayNumber}
 use Rattle.headings.specs.declared.Code.{Code}
 use Rattle.headings.specs.declared.Heading.{Heading}
 use Rattle.headings.specs.declared.Read.{Read}

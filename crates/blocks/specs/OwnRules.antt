@@ -4,7 +4,7 @@ use mathlib.Core.Bool.{Bool, true, false, not, _&&_, _||_}
 use mathlib.Core.List.{List, [], _∷_}
 use lib.Dec.{eqb, ltb}
 use Rattle.laws.specs.Tests.{among}
-use Rattle.text.specs.Days.{isReal, later}
+use Rattle.days.specs.Days.{isReal, later}
 use Rattle.headings.specs.declared.Heading.{Heading}
 use Rattle.headings.specs.ItemTypes.{isPayment}
 use Rattle.blocks.specs.declared.Kc.{Kc}

@@ -2,6 +2,8 @@
 use crate::Job;
 use crate::Kc;
 use crate::marks::flag;
+use days::day_number;
+use days::is_real;
 use headings::Amount;
 use headings::Code;
 use headings::Heading;
@@ -9,8 +11,6 @@ use headings::head_rules::breaks_fourteen;
 use headings::head_rules::breaks_ten;
 use headings::head_rules::breaks_thirteen;
 use headings::item_types::is_payment;
-use text::days::day_number;
-use text::days::is_real;
 ghost use mathlib.Core.Path.{_≡_};
 ghost use mathlib.Core.Bool.{not};
 ghost use Prim.Native.Nat.{_+_, _<_, _^_};

@@ -6,7 +6,7 @@ use Rattle.laws.specs.Tests.{every}
 use Rattle.laws.specs.Lists.{anyOf}
 use Rattle.text.specs.Characters.{isAdmissible}
 use Rattle.text.specs.Digits.{valueAfter, digits}
-use Rattle.text.specs.Days.{isLeap, row, monthLength, isReal, dayNumber}
+use Rattle.days.specs.Days.{isLeap, row, monthLength, isReal, dayNumber}
 use Rattle.text.specs.Strings.{begins}
 use Rattle.text.specs.Forms.{template, hasForm, numbers, textOf as formText}
 use Rattle.headings.specs.ItemTypes.{isInput, isTrilateral, isPriority, isPayment}

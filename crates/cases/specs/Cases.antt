@@ -9,7 +9,7 @@ use lib.Dec.{eqb}
 use Rattle.laws.specs.Ascii.{ascii}
 use Rattle.laws.specs.Refusals.{first}
 use Rattle.text.specs.Characters.{isAdmissible}
-use Rattle.text.specs.Days.{isReal}
+use Rattle.days.specs.Days.{isReal}
 use Rattle.text.specs.Strings.{begins}
 use Rattle.outcomes.specs.Deriving.{deriveRefusals, derivedTarget}
 use Rattle.fields.specs.Accounts.{weighed, accountOf, accountValue}

@@ -6,7 +6,7 @@ use mathlib.Core.List.{List, [], _∷_}
 use lib.Dec.{leb, ltb, eqb}
 use lib.ListN.{length}
 use Rattle.laws.specs.Refusals.{Refusal, _if_, first}
-use Rattle.text.specs.Days.{isReal}
+use Rattle.days.specs.Days.{isReal}
 use Rattle.lines.specs.Lines.{hasMark, startsWithMark}
 use Rattle.ledger.specs.Faults.{Fault}
 use Rattle.ledger.specs.Slices.{written}

@@ -23,7 +23,7 @@ fn is_code(code: u32) -> bool
 fn is_accounting_day(day: u32) -> bool
     ensures { λ r. ⌜ r ≡ isAccountingDay day ⌝ }
 {
-    let real = text::days::is_real(day);
+    let real = days::is_real(day);
     real & ((20000101 <= day) & (day <= 20991231))
 }
 

@@ -1,6 +1,5 @@
 pub mod Characters
 pub mod Digits
-pub mod Days
 pub mod Strings
 pub mod Forms
 pub mod Decimals

@@ -75,16 +75,13 @@ fn digits() {
 }
 
 fn real(name: &[u8], day: u32) {
-    show(name, flag(text::days::is_real(day)));
+    show(name, flag(days::is_real(day)));
 }
 
 fn apart(name: &[u8], from: u32, to: u32) {
     show(
         name,
-        std::num::wrapping_sub_u64(
-            text::days::day_number(to) as u64,
-            text::days::day_number(from) as u64,
-        ),
+        std::num::wrapping_sub_u64(days::day_number(to) as u64, days::day_number(from) as u64),
     );
 }
 

@@ -1,9 +1,9 @@
 use borrow.Author.Needs.{needs}
-use Rattle.text.proofs.days.is_real.Statement.{statement}
-use Rattle.text.proofs.days.is_real.Tie as tie
-use Rattle.text.proofs.Calendar.{not-real, real-by-last}
+use Rattle.days.proofs.is_real.Statement.{statement}
+use Rattle.days.proofs.is_real.Tie as tie
+use Rattle.days.proofs.Calendar.{not-real, real-by-last}
 use borrow.Author.Tests.{le-leb, lt-leb}
-use Rattle.text.specs.Days.{monthLength}
+use Rattle.days.specs.Days.{monthLength}
 
 returns : tie.Need-returns
 returns c = not-real _ 0 (lt-leb 1 _ (c .if1 .taken))

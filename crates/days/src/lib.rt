@@ -1,7 +1,9 @@
 // Days of the Gregorian calendar, each the number YYYYMMDD: which are real, and the running number by which days are reckoned.
+// Promised, for every number: the definitions of specs/Days.antt, which count years and months by the two rows of month lengths. The
+// laws say that real days and their numbers have one order, and that the next day has the next number. Stands on `laws` alone.
 ghost use mathlib.Core.Path.{_≡_};
 ghost use lib.ListN.{getD};
-ghost use Rattle.text.specs.Days.{isLeap, row, isReal, dayNumber};
+ghost use Rattle.days.specs.Days.{isLeap, row, isReal, dayNumber};
 
 // The lengths of the twelve months of a plain year and of a leap year.
 const PLAIN: [u32; 12] = [31, 28, 31, 30, 31, 30, 31, 31, 30, 31, 30, 31];

@@ -13,8 +13,8 @@ use lib.Dec.{T, leb, ltb, eqb, leb→le}
 use borrow.Author.Tests.{leb-true, ltb-true, ltb-false, le-leb, eqb-true, eqb-false}
 use Rattle.laws.proofs.Every.{each-holds}
 use Rattle.laws.proofs.Entries.{at}
-use Rattle.text.specs.Days.{isLeap, row, sum, daysBefore, dayNumber, yearOf, monthOf, dateOf, realTests, isReal, monthLength, next, on}
-use Rattle.text.proofs.Calendar.{sum-more, month-le}
+use Rattle.days.specs.Days.{isLeap, row, sum, daysBefore, dayNumber, yearOf, monthOf, dateOf, realTests, isReal, monthLength, next, on}
+use Rattle.days.proofs.Calendar.{sum-more, month-le}
 
 -- what the test of a real day says, part by part
 pub record Real (n : ℕ) : Type 0 where

@@ -1,14 +1,14 @@
 use borrow.Author.Needs.{needs}
 use native.Mathlib.Omega.{arith}
-use Rattle.text.proofs.days.day_number.Statement.{statement}
-use Rattle.text.proofs.days.day_number.Tie as tie
+use Rattle.days.proofs.day_number.Statement.{statement}
+use Rattle.days.proofs.day_number.Tie as tie
 use native.Mathlib.Numerals.{add-one}
 use Prim.Native.Nat.{ℕ, _+_, _-_, _*_, _≤_}
 use mathlib.Core.Path.{_≡_, _∙_}
 use native.Mathlib.Nat.{add-right-comm}
 use lib.ListN.{take}
-use Rattle.text.specs.Days.{isLeap, row, sum, dayNumber, monthOf}
-use Rattle.text.proofs.Calendar.{years, sum-more, month-le}
+use Rattle.days.specs.Days.{isLeap, row, sum, dayNumber, monthOf}
+use Rattle.days.proofs.Calendar.{years, sum-more, month-le}
 
 abbrev Inv-loop : tie.InvT-loop
 Inv-loop day year month leap n₀ k₀ n k = (n ≡ n₀ + sum (take k (row leap))) × (k ≤ month - 1) × (month ≤ 99) × (n₀ ≤ 157000000) × (n ≤ 157000000 + 31 * k)

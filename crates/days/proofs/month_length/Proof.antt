@@ -1,9 +1,9 @@
 use borrow.Author.Needs.{needs}
-use Rattle.text.proofs.days.month_length.Statement.{statement}
-use Rattle.text.proofs.days.month_length.Tie as tie
+use Rattle.days.proofs.month_length.Statement.{statement}
+use Rattle.days.proofs.month_length.Tie as tie
 use mathlib.Core.Path.{sym}
-use Rattle.text.specs.Days.{row}
-use Rattle.text.proofs.Calendar.{row-past}
+use Rattle.days.specs.Days.{row}
+use Rattle.days.proofs.Calendar.{row-past}
 
 returns : tie.Need-returns
 returns c = sym (row-past _ _ (c .if1 .taken))
