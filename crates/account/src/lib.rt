@@ -1,33 +1,184 @@
-// The running account of a block, lent by `&mut`: `step` takes it out, has `blocks` close an item by value, and stores it back;
-// `advance` lends a local account to `step`, for callers that hold theirs by value. Promised, for every account, item and job:
-// the account and the marks that `closeModel` of `blocks` says. It judges no rule; the rules, the records and that model stand
-// in `blocks`.
+// The running account of the open block, by value, brought up to date at each heading. Promised, for every account, item and job:
+// the account and the marks that `closeModel` of `blocks` says, which are those of the items themselves (theorem `account` there).
+// It judges no rule: those stand in `blocks`, with the records. Stands on `blocks`, and on `headings` for the types of items.
 use blocks::Block;
 use blocks::Closed;
 use blocks::Item;
 use blocks::Job;
-use blocks::account::close_item;
+use blocks::Kc;
+use blocks::block_rules::closing_marks;
+use blocks::block_rules::open_marks;
+use blocks::groups::capped;
+use blocks::own_rules::own_marks;
+use headings::Heading;
+use headings::ItemNo;
+use headings::Read;
+use headings::item_types::is_payment;
+use headings::item_types::is_priority;
 ghost use mathlib.Core.Path.{_≡_};
+ghost use mathlib.Core.Bool.{cond};
+ghost use mathlib.Core.List.{[]};
 ghost use Prim.Native.Nat.{_<_, _^_};
-ghost use Rattle.blocks.specs.Model.{closeModel};
+ghost use Rattle.blocks.specs.Items.{closesAt};
+ghost use Rattle.blocks.specs.Model.{amountBlock, kcBlock, headingBlock, touchedBlock, emptyBlock, readBlock, readMarks, closeModel};
+ghost use Rattle.blocks.specs.Summary.{summary};
 
-// The account is lent: it is taken out, brought up to date by value, and stored back.
-pub fn step(b: &mut Block, it: Item, job: Job) -> u64
-    ensures { λ r. ⌜ (now (b .exit) ≡ closeModel job (now (b .entry)) it .block) × (r ≡ closeModel job (now (b .entry)) it .marks) × (r < 2 ^ 39) ⌝ }
+// Whether an item with this heading closes its block.
+pub fn closes_block(head: Read) -> bool
+    ensures { λ r. ⌜ r ≡ closesAt head ⌝ }
 {
-    let c = close_item(*b, it, job);
-    *b = c.block;
-    c.marks
+    match head {
+        Read::Reads(h) => h.kind == 51,
+        Read::Unreadable => false,
+    }
 }
 
-// The lending of a local account. Its parameters and its result are plain, so its callers need no walk.
-pub fn advance(b: Block, it: Item, job: Job) -> Closed
+// The account with one amount more in the group of its type.
+fn with_amount(b: Block, kind: u32, amount: u64) -> Block
+    ensures { λ r. ⌜ r ≡ amountBlock b kind amount ⌝ }
+{
+    let d = (kind / 10) as usize;
+    if d < 9 {
+        let mut next = b;
+        next.counts[d] = capped(10000000, b.counts[d], 1);
+        next.sums[d] = capped(100000000000000000, b.sums[d], amount);
+        return next;
+    }
+    b
+}
+
+// A KC counts in an item of an input type other than 51, and only if it reads.
+fn with_kc(b: Block, kind: u32, kc: Kc) -> Block
+    ensures { λ r. ⌜ r ≡ kcBlock b kind kc ⌝ }
+{
+    match kc {
+        Kc::NoKc => b,
+        Kc::BrokenKc => b,
+        Kc::Paid(amount, _) => {
+            if is_payment(kind) {
+                with_amount(b, kind, amount.0)
+            } else {
+                b
+            }
+        }
+    }
+}
+
+// What the block's first heading said stays.
+fn day_kept(some: bool, first: u32, day: u32) -> u32
+    ensures { λ r. ⌜ r ≡ cond some first day ⌝ }
+{
+    if some { first } else { day }
+}
+
+fn number_kept(some: bool, first: ItemNo, number: ItemNo) -> ItemNo
+    ensures { λ r. ⌜ r ≡ cond some first number ⌝ }
+{
+    if some { first } else { number }
+}
+
+// The account with a readable heading more that is no 51.
+fn with_heading(b: Block, h: Heading) -> Block
+    ensures { λ r. ⌜ r ≡ headingBlock b h ⌝ }
+{
+    let paying = is_payment(h.kind);
+    let own = is_priority(h.kind);
+    let day = day_kept(b.some, b.day, h.day);
+    let first = number_kept(b.some, b.first, h.number);
+    let last = h.number;
+    let counts = b.counts;
+    let sums = b.sums;
+    Block {
+        classed: b.classed | paying,
+        priority: (b.classed & b.priority) | (!b.classed & (paying & own)),
+        any: true,
+        some: true,
+        day: day,
+        first: first,
+        last: last,
+        counts: counts,
+        sums: sums,
+    }
+}
+
+// The account with an unreadable heading more: the block has a heading, and all else goes on.
+fn with_unreadable(b: Block) -> Block
+    ensures { λ r. ⌜ r ≡ touchedBlock b ⌝ }
+{
+    let mut next = b;
+    next.any = true;
+    next
+}
+
+// An account with no item of the open block, in a file of this class.
+fn no_block(classed: bool, priority: bool) -> Block
+    ensures { λ r. ⌜ r ≡ emptyBlock classed priority ⌝ }
+{
+    Block {
+        classed: classed,
+        priority: priority,
+        any: false,
+        some: false,
+        day: 0,
+        first: ItemNo(0),
+        last: ItemNo(0),
+        counts: [0u64; 9],
+        sums: [0u64; 9],
+    }
+}
+
+fn read_block(b: Block, h: Heading, kc: Kc) -> Block
+    ensures { λ r. ⌜ r ≡ readBlock b h kc ⌝ }
+{
+    if h.kind == 51 {
+        no_block(b.classed, b.priority)
+    } else {
+        with_kc(with_heading(b, h), h.kind, kc)
+    }
+}
+
+fn read_marks(job: Job, b: Block, it: Item, h: Heading) -> u64
+    ensures { λ r. ⌜ (r ≡ readMarks job b it h) × (r < 2 ^ 39) ⌝ }
+{
+    let kc = it.kc;
+    let span = it.span;
+    let stated = it.sums;
+    let own = own_marks(job, h, kc);
+    if h.kind == 51 {
+        own + closing_marks(b, h, span, it.s9, stated)
+    } else {
+        own + open_marks(b, h)
+    }
+}
+
+// An item is closed, by value.
+pub fn close_item(b: Block, it: Item, job: Job) -> Closed
     ensures { λ r. ⌜ (r ≡ closeModel job b it) × (r .marks < 2 ^ 39) ⌝ }
 {
-    let mut own = b;
-    let marks = step(&mut own, it, job);
-    Closed {
-        block: own,
-        marks: marks,
+    let head = it.head;
+    let kc = it.kc;
+    match head {
+        Read::Unreadable => {
+            let next = with_unreadable(b);
+            Closed {
+                block: next,
+                marks: 0,
+            }
+        }
+        Read::Reads(h) => {
+            let next = read_block(b, h, kc);
+            let marks = read_marks(job, b, it, h);
+            Closed {
+                block: next,
+                marks: marks,
+            }
+        }
     }
+}
+
+// The account before the first item.
+pub fn start() -> Block
+    ensures { λ r. ⌜ r ≡ summary [] ⌝ }
+{
+    no_block(false, false)
 }

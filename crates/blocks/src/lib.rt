@@ -1,13 +1,13 @@
 // Items and blocks: the rules at a heading (10 to 22 and 30 to 38), and 8 and 9 at an item's first KC. The rules are statements
 // over the items above and below; the running account of the open block is only a way to compute them, and the theorem
-// `account` says so. The open functions take every input; counts and sums stop at a cap, so nothing overflows.
+// `account` says so (the crate `account` keeps it). The open functions take every input; counts and sums stop at a cap, so
+// nothing overflows.
 // Stands on `days`, the types and rules of `headings`, and `laws`.
 use headings::Amount;
 use headings::Code;
 use headings::ItemNo;
 use headings::Read;
 
-pub mod account;
 pub mod block_rules;
 pub mod groups;
 pub mod marks;

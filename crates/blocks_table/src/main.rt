@@ -135,7 +135,7 @@ fn tell(job: Job, b: Block, it: Item) -> Block {
     let head = it.head;
     let kc = it.kc;
     let at_kc = kc_marks(job, head, kc);
-    let c = account::advance(b, it, job);
+    let c = lending::advance(b, it, job);
     io::print_decimal(1, it.line as u64);
     io::write_all(1, b":");
     print_rules(at_kc);
@@ -245,7 +245,7 @@ fn days_and_amounts(job: Job, start: Block) -> Block {
 
 fn main() {
     let job = blocks::own_rules::job_of(Code(300), 20240304);
-    let mut b = clean(job, blocks::account::start());
+    let mut b = clean(job, account::start());
     b = headings_of_all_kinds(job, b);
     b = more_headings(job, b);
     b = alone(job, b);

@@ -4,7 +4,6 @@ use mathlib.Core.Bool.{Bool, true, false, cond, not, _&&_}
 use Prim.Native.Nat.{ℕ, _+_}
 use borrow.Author.Tests.{not-true, not-false}
 use Rattle.laws.specs.Tests.{mark}
-use Rattle.fields.specs.declared.readings.Reading.{Reading}
 use Rattle.blocks.specs.declared.Job.{Job}
 use Rattle.blocks.specs.declared.Kc.{Kc}
 use Rattle.blocks.specs.declared.Block.{Block}
@@ -22,25 +21,25 @@ pub neither : (first : Bool) → _≡_ {A = ℕ} 0 (mark 8 (first && false) + ma
 neither true = refl
 neither false = refl
 
-module _ (j : Job) (s : Live) (kc : Kc) (said : Reading) (again : Bool) where
-  pub no-field : not (s .fielded) ≡ true → 0 ≡ fieldMarksOf j s kc said again
+module _ (j : Job) (s : Live) (kc : Kc) (again : Bool) where
+  pub no-field : not (s .fielded) ≡ true → 0 ≡ fieldMarksOf j s kc again
   unfolding fieldMarksOf
   no-field h = rw (not-true (s .fielded) h)
 
   module _ (own : ℕ) (e : own ≡ ownMarks (s .owner .bad) (s .owner .ended)) (h : not (s .fielded) ≡ false) where
-    pub in-item : s .headed ≡ true → (m : ℕ) → m ≡ insideMarks j s kc said again → own + m ≡ fieldMarksOf j s kc said again
+    pub in-item : s .headed ≡ true → (m : ℕ) → m ≡ insideMarks j s kc again → own + m ≡ fieldMarksOf j s kc again
     unfolding fieldMarksOf
     in-item k m q =
         (λ i. e i + q i)
         ∙ sym (λ i. cond (not-false (s .fielded) h i)
-        (cond (k i) (ownMarks (s .owner .bad) (s .owner .ended) + insideMarks j s kc said again) (ownMarks (s .owner .bad) (s .owner .ended) + 8)) 0)
+        (cond (k i) (ownMarks (s .owner .bad) (s .owner .ended) + insideMarks j s kc again) (ownMarks (s .owner .bad) (s .owner .ended) + 8)) 0)
 
-    pub before-items : s .headed ≡ false → own + 8 ≡ fieldMarksOf j s kc said again
+    pub before-items : s .headed ≡ false → own + 8 ≡ fieldMarksOf j s kc again
     unfolding fieldMarksOf
     before-items k =
         (λ i. e i + 8)
         ∙ sym (λ i. cond (not-false (s .fielded) h i)
-        (cond (k i) (ownMarks (s .owner .bad) (s .owner .ended) + insideMarks j s kc said again) (ownMarks (s .owner .bad) (s .owner .ended) + 8)) 0)
+        (cond (k i) (ownMarks (s .owner .bad) (s .owner .ended) + insideMarks j s kc again) (ownMarks (s .owner .bad) (s .owner .ended) + 8)) 0)
 
 module _ (j : Job) (b : Block) (w : Wait) (s : Live) (c : Claims) where
   pub close-none : not (s .headed) ≡ true → shut b w 0 0 ≡ closeModel j b w s c

@@ -119,7 +119,7 @@ module _ (code today : ℕ) where
   -- 5 to 9 of the open field
   inside-is : (b : List Item) (h : Row) (hl : List LowRow) (ups : List (Group FieldRow)) (x : FieldRow) (ls : List LowRow) (again : Bool) → again ≡ stands (x .ident) ups
       → let g = closed x ls in let r = headOf (closed h hl) in let s = live (atField b h hl ups x ls) in
-      insideMarks job s (kcOf (firstUp (is (named "KC")) ups)) (saidOf s) again
+      insideMarks job s (kcOf (firstUp (is (named "KC")) ups)) again
       ≡ mark 5 (stands (x .ident) ups) + mark 6 (rule6 g) + mark 7 (failsCheck (says g)) + mark 8 (isFirstKc ups g && late today r (says g))
       + mark 9 (isFirstKc ups g && large r (says g))
   unfolding insideMarks kcMarks fieldKept
@@ -133,7 +133,7 @@ module _ (code today : ℕ) where
       ∙ (λ j. mark 5 (stands (x .ident) ups) + mark 6 (broken-is x ls j) + mark 7 (failsCheck (says (closed x ls)))
       + mark 8 (isFirstKc ups (closed x ls) && late-is (headOf (closed h hl)) (says (closed x ls)) j) + mark 9 (isFirstKc ups (closed x ls) && large (headOf (closed h hl)) (says (closed x ls))))
 
-  field-outs : (c : Open) (a : List ℕ) → Inside c a → (l : List Fault) → putAll put (fieldsOut c) l ≡ insertAll (fieldFaults job (live c) (claims c) (saidOf (live c)) a) l
+  field-outs : (c : Open) (a : List ℕ) → Inside c a → (l : List Fault) → putAll put (fieldsOut c) l ≡ insertAll (fieldFaults job (live c) (claims c) a) l
   unfolding fieldMarksOf fieldEntry looseMarks fieldMarks lineMarks fieldKept headKept
   field-outs start a I l = sym (put-none 0 l)
   field-outs (early ups x ls) a I l = refl
@@ -168,9 +168,9 @@ module _ (code today : ℕ) where
 
   all-outs : (c : Open) (a : List ℕ) → Inside c a → (l : List Fault)
       → putAll put (fieldsOut c ++ itemsOut c) l
-      ≡ insertAll (fieldFaults job (live c) (claims c) (saidOf (live c)) a ++ itemFaults job (accountOf (above c)) (wait code today (above c)) (live c) (claimsThen c)) l
+      ≡ insertAll (fieldFaults job (live c) (claims c) a ++ itemFaults job (accountOf (above c)) (wait code today (above c)) (live c) (claimsThen c)) l
   all-outs c a I l =
-      let ff = fieldFaults job (live c) (claims c) (saidOf (live c)) a in
+      let ff = fieldFaults job (live c) (claims c) a in
       let told = marked (wait code today (above c) .line) (model c .told) in
       let own = marked (live c .head .no) (model c .marks) in
       putAll-append put (fieldsOut c) (itemsOut c) l ∙ ap (putAll put (itemsOut c)) (field-outs c a I l) ∙ item-says c (insertAll ff l) .0
@@ -233,23 +233,23 @@ module _ (code today : ℕ) where
         go (atField b h hl ups x ls) N = unfold fieldKept in N .1
 
     -- what the code closes
-    claims-close : claimsAfter cl s (saidOf s) ≡ claimsThen c
+    claims-close : claimsAfter cl s ≡ claimsThen c
     claims-close = rw (M .live-is, M .claims-are) (claims-is c)
 
     pub low-out : (l : LowRow) (all : List Fault) → putAll put (out code today c (low l)) all ≡ insertAll (marked (lowKept l .no) (lowMarksOf s (lowKept l))) all
     low-out l all = rw (M .live-is) (low-enters c l all)
 
     abbrev pub closing : Shut
-    closing = closeModel job b w s (claimsAfter cl s (saidOf s))
+    closing = closeModel job b w s (claimsAfter cl s)
 
     closing-is : closing ≡ model c
     closing-is = λ j. closeModel job (M .account-is j) (M .wait-is j) (M .live-is j) (claims-close j)
 
     abbrev pub fieldEnters : List Fault
-    fieldEnters = fieldFaults job s cl (saidOf s) stood
+    fieldEnters = fieldFaults job s cl stood
 
     abbrev pub itemEnters : List Fault
-    itemEnters = itemFaults job b w s (claimsAfter cl s (saidOf s))
+    itemEnters = itemFaults job b w s (claimsAfter cl s)
 
     pub field-out : (y : FieldRow) (all : List Fault) → putAll put (out code today c (field y)) all ≡ insertAll fieldEnters all
     field-out y all = rw (M .live-is, M .claims-are) (ap (λ (es : List Entry). putAll put es all) (field-puts c y) ∙ field-outs c stood (M .inside) all)
@@ -258,7 +258,7 @@ module _ (code today : ℕ) where
     item-enters = λ j. itemFaults job (M .account-is j) (M .wait-is j) (M .live-is j) (claims-close j)
 
     all-enter : (all : List Fault) → putAll put (fieldsOut c ++ itemsOut c) all ≡ insertAll (fieldEnters ++ itemEnters) all
-    all-enter all = all-outs c stood (M .inside) all ∙ sym (λ j. insertAll (fieldFaults job (M .live-is j) (M .claims-are j) (saidOf (M .live-is j)) stood ++ item-enters j) all)
+    all-enter all = all-outs c stood (M .inside) all ∙ sym (λ j. insertAll (fieldFaults job (M .live-is j) (M .claims-are j) stood ++ item-enters j) all)
 
     pub head-out : (k : Row) (all : List Fault) → putAll put (out code today c (heading k)) all ≡ insertAll (fieldEnters ++ itemEnters) all
     head-out k all = ap (λ (es : List Entry). putAll put es all) (head-puts c k) ∙ all-enter all
@@ -309,7 +309,7 @@ module _ (code today : ℕ) where
         stays (atField b h hl ups x ls) I = I
 
     pub meant-field : (y : FieldRow) → y .row .no ≡ suc n → y .ident < 1296
-        → Meant (push c (field y)) (suc n) (fieldLive s (fieldKept y)) (claimsAfter cl s (saidOf s)) b w (set stood (s .owner .ident) (s .owner .no))
+        → Meant (push c (field y)) (suc n) (fieldLive s (fieldKept y)) (claimsAfter cl s) b w (set stood (s .owner .ident) (s .owner .no))
     meant-field y e small = record {
       live-is = ap (λ (t : Live). fieldLive t (fieldKept y)) (M .live-is) ∙ field-is c y;
       claims-are = claims-close ∙ claims-field c y;

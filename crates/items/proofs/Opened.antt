@@ -310,11 +310,11 @@ claimsThen (atHead b h ls) = claimsOf []
 claimsThen (atField b h hl ups x ls) = claimsOf (closed x ls ∷ ups)
 
 claims-on : (ups : List (Group FieldRow)) (x : FieldRow) (ls : List LowRow)
-    → claimsAfter (claimsOf ups) (live (early ups x ls)) (saidOf (live (early [] x ls))) ≡ claimsOf (closed x ls ∷ ups)
+    → claimsAfter (claimsOf ups) (live (early ups x ls)) ≡ claimsOf (closed x ls ∷ ups)
 unfolding firstUp stands fieldKept
 claims-on ups x ls = rw (said-is x ls) (claim-at ups (x .ident) (says (closed x ls)))
 
-pub claims-is : (c : Open) → claimsAfter (claims c) (live c) (saidOf (live c)) ≡ claimsThen c
+pub claims-is : (c : Open) → claimsAfter (claims c) (live c) ≡ claimsThen c
 claims-is start = refl
 claims-is (early ups x ls) = claims-on ups x ls
 claims-is (atHead b h ls) = refl

@@ -44,16 +44,14 @@ heading-take s = go (leb (length s) 64) refl
         let n : length (take 64 s) ≡ 64 = length-take-le 64 s (omega arith) in
         other-length (take 64 s) (λ z. omega arith) ∙ sym (other-length s (λ z. omega arith))
 
-told-is : (r : Row) → lineTold (r .no) (rule1 r) (r .ended) (take 64 (r .bytes)) (length (r .bytes)) ≡ lineKept (sorted r)
-unfolding lineTold sorted headKept fieldKept lowKept
-told-is r =
-    ap (λ (k : Kind). toldAs k (r .no) (rule1 r) (r .ended) (take 64 (r .bytes)) (length (r .bytes))) (first-64 (r .bytes) .0) ∙ go (kindOf (r .bytes))
+told-is : (n : ℕ) (bad ended : Bool) (s : List ℕ) → lineTold n bad ended (take 64 s) (length s) ≡ lineTold n bad ended s (length s)
+unfolding lineTold
+told-is n bad ended s = ap (λ (k : Kind). toldAs k n bad ended (take 64 s) (length s)) (first-64 s .0) ∙ go (kindOf s)
   where
-    go : (k : Kind) → toldAs k (r .no) (rule1 r) (r .ended) (take 64 (r .bytes)) (length (r .bytes)) ≡ lineKept (sortedAs k r)
-    go Heading = ap (λ (x : Read). OfHead (record { no = r .no; bad = rule1 r; ended = r .ended; read = x })) (heading-take (r .bytes))
+    go : (k : Kind) → toldAs k n bad ended (take 64 s) (length s) ≡ toldAs k n bad ended s (length s)
+    go Heading = ap (λ (x : Read). OfHead (record { no = n; bad = bad; ended = ended; read = x })) (heading-take s)
     go Continuation = refl
-    go (Field i) =
-        ap (λ (x : Reading). OfField (record { no = r .no; bad = rule1 r; ended = r .ended; ident = i; class = classOf i; said = x })) (first-64 (r .bytes) .1 (classOf i))
+    go (Field i) = ap (λ (x : Reading). OfField (record { no = n; bad = bad; ended = ended; ident = i; class = classOf i; said = x })) (first-64 s .1 (classOf i))
     go Other = refl
 
 take-least : (s : List ℕ) → take (min 64 (length s)) s ≡ take 64 s
@@ -68,8 +66,19 @@ take-least s = go (leb (length s) 64) refl
         rw m
 
 -- a line is told by its first bytes, 64 at most
-pub told-first : (r : Row) → lineTold (r .no) (rule1 r) (r .ended) (take (min 64 (length (r .bytes))) (r .bytes)) (length (r .bytes)) ≡ lineKept (sorted r)
-told-first r = ap (λ (b : List ℕ). lineTold (r .no) (rule1 r) (r .ended) b (length (r .bytes))) (take-least (r .bytes)) ∙ told-is r
+pub told-first : (n : ℕ) (bad ended : Bool) (s : List ℕ) → lineTold n bad ended (take (min 64 (length s)) s) (length s) ≡ lineTold n bad ended s (length s)
+told-first n bad ended s = ap (λ (first : List ℕ). lineTold n bad ended first (length s)) (take-least s) ∙ told-is n bad ended s
+
+-- a row that is told whole
+pub told-kept : (r : Row) → lineTold (r .no) (rule1 r) (r .ended) (r .bytes) (length (r .bytes)) ≡ lineKept (sorted r)
+unfolding lineTold sorted headKept fieldKept lowKept
+told-kept r = go (kindOf (r .bytes))
+  where
+    go : (k : Kind) → toldAs k (r .no) (rule1 r) (r .ended) (r .bytes) (length (r .bytes)) ≡ lineKept (sortedAs k r)
+    go Heading = refl
+    go Continuation = refl
+    go (Field i) = refl
+    go Other = refl
 
 -- ---- what a line's kind says of it
 pub head-of : (r : Row) (k : Row) → sorted r ≡ heading k → k .no ≡ r .no

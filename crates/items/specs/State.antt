@@ -120,8 +120,8 @@ claimsWith c ident said =
       s9 = eqb ident (named "S9") || c .s9;
     }))
 
-abbrev pub claimsAfter : Claims → Live → Reading → Claims
-claimsAfter c s said = cond (isClaim s) (claimsWith c (s .owner .ident) said) c
+abbrev pub claimsAfter : Claims → Live → Claims
+claimsAfter c s = cond (isClaim s) (claimsWith c (s .owner .ident) (saidOf s)) c
 
 -- ---- marks
 abbrev pub ownMarks : Bool → Bool → ℕ
@@ -147,14 +147,14 @@ lateBy j Unreadable r = false
 unfoldable pub kcMarks : Job → Bool → Read → Reading → ℕ
 kcMarks j first h said = mark 8 (first && lateBy j h said) + mark 9 (first && large h said)
 
-unfoldable pub insideMarks : Job → Live → Kc → Reading → Bool → ℕ
-insideMarks j s kc said again =
-    mark 5 again + mark 6 (isBroken said) + mark 7 (failsCheck said) + kcMarks j (firstKc s kc) (readOf s) said
+unfoldable pub insideMarks : Job → Live → Kc → Bool → ℕ
+insideMarks j s kc again =
+    mark 5 again + mark 6 (isBroken (saidOf s)) + mark 7 (failsCheck (saidOf s)) + kcMarks j (firstKc s kc) (readOf s) (saidOf s)
 
-unfoldable pub fieldMarksOf : Job → Live → Kc → Reading → Bool → ℕ
-fieldMarksOf j s kc said again =
+unfoldable pub fieldMarksOf : Job → Live → Kc → Bool → ℕ
+fieldMarksOf j s kc again =
     cond (s .fielded)
-    (cond (s .headed) (ownMarks (s .owner .bad) (s .owner .ended) + insideMarks j s kc said again) (ownMarks (s .owner .bad) (s .owner .ended) + 8)) 0
+    (cond (s .headed) (ownMarks (s .owner .bad) (s .owner .ended) + insideMarks j s kc again) (ownMarks (s .owner .bad) (s .owner .ended) + 8)) 0
 
 -- ---- an item closes
 abbrev pub noWait : Wait
@@ -185,8 +185,8 @@ lastMarks b w = cond (b .any) (w .marks + 2 ^ 16) 0
 
 -- ---- what is entered
 -- the open field, by the lines at which identifiers last stood: its own stood in this item where that is past the heading's line
-abbrev pub fieldFaults : Job → Live → Claims → Reading → List ℕ → List Fault
-fieldFaults j s c said stood = marked (s .owner .no) (fieldMarksOf j s (c .kc) said (ltb (s .head .no) (getD stood (s .owner .ident) 0)))
+abbrev pub fieldFaults : Job → Live → Claims → List ℕ → List Fault
+fieldFaults j s c stood = marked (s .owner .no) (fieldMarksOf j s (c .kc) (ltb (s .head .no) (getD stood (s .owner .ident) 0)))
 
 -- the open item: the one who waited, and its own heading
 abbrev pub itemFaults : Job → Block → Wait → Live → Claims → List Fault

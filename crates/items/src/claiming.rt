@@ -160,10 +160,11 @@ fn with_claim(c: Claims, ident: usize, said: Reading) -> Claims
 }
 
 // The claims with those of the open field, which closes.
-pub fn claims_after(c: Claims, s: Live, said: Reading) -> Claims
-    ensures { λ r. ⌜ r ≡ claimsAfter c s said ⌝ }
+pub fn claims_after(c: Claims, s: Live) -> Claims
+    ensures { λ r. ⌜ r ≡ claimsAfter c s ⌝ }
 {
     if is_claim(s) {
+        let said = crate::open::said_of(s);
         return with_claim(c, s.owner.ident, said);
     }
     c

@@ -77,10 +77,10 @@ pub fn close_item(job: Job, b: Block, w: Wait, s: Live, claims: Claims) -> Shut
     let any = b.any;
     let item = item_of(s, claims);
     let head = item.head;
-    let c = account::advance(b, item, job);
+    let c = lending::advance(b, item, job);
     let block = c.block;
     let m = head_marks(s, c.marks);
-    if blocks::account::closes_block(head) {
+    if account::closes_block(head) {
         let wait = no_wait();
         return Shut {
             block,

@@ -50,14 +50,15 @@ pub enum Line {
 }
 
 // What is open: the heading of the item, with whether a continuation belongs to it; the field, with its tail so far. What is not
-// open has fixed values, so that the state is a function of the lines above.
+// open has fixed values, so that the state is a function of the lines above. The flags stand last: between the records they would
+// make each copy of the state overlap itself, which costs a stall for every line.
 pub struct Live {
-    pub headed: bool,
-    pub fielded: bool,
     pub head: Head,
-    pub continued: bool,
     pub owner: Field,
     pub tail: Tail,
+    pub headed: bool,
+    pub continued: bool,
+    pub fielded: bool,
 }
 
 // What the item's closed fields say that its heading needs: the first KC, the first IN, the first S0 to S8, and whether an S9

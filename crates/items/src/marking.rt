@@ -83,9 +83,10 @@ fn is_first_kc(s: Live, kc: Kc) -> bool
 }
 
 // 5 to 9, for the open field of an item.
-fn inside_marks(job: Job, s: Live, kc: Kc, said: Reading, again: bool) -> u64
-    ensures { λ r. ⌜ (r ≡ insideMarks job s kc said again) × (r < 1024) ⌝ }
+fn inside_marks(job: Job, s: Live, kc: Kc, again: bool) -> u64
+    ensures { λ r. ⌜ (r ≡ insideMarks job s kc again) × (r < 1024) ⌝ }
 {
+    let said = crate::open::said_of(s);
     let read = crate::open::read_of(s);
     let first = is_first_kc(s, kc);
     flag(again, 32)
@@ -96,15 +97,15 @@ fn inside_marks(job: Job, s: Live, kc: Kc, said: Reading, again: bool) -> u64
 
 // The marks of the open field, which closes; `kc` is the item's first KC above it, and `again` says whether its identifier stood
 // already in the item.
-pub fn field_marks(job: Job, s: Live, kc: Kc, said: Reading, again: bool) -> u64
-    ensures { λ r. ⌜ r ≡ fieldMarksOf job s kc said again ⌝ }
+pub fn field_marks(job: Job, s: Live, kc: Kc, again: bool) -> u64
+    ensures { λ r. ⌜ r ≡ fieldMarksOf job s kc again ⌝ }
 {
     if !s.fielded {
         return 0;
     }
     let own = own_marks(s.owner.bad, s.owner.ended);
     if s.headed {
-        return own + inside_marks(job, s, kc, said, again);
+        return own + inside_marks(job, s, kc, again);
     }
     own + 8
 }

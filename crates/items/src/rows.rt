@@ -9,11 +9,12 @@ use fields::kinds;
 use fields::kinds::Kind;
 use fields::readings;
 ghost use mathlib.Core.Path.{_≡_};
+ghost use mathlib.Core.Bool.{_&&_};
 ghost use Prim.Native.Nat.{min};
+ghost use lib.ListN.{length};
 ghost use Rattle.laws.specs.Lists.{anyOf};
-ghost use Rattle.text.specs.Characters.{isOdd, answers};
-ghost use Rattle.items.specs.Rows.{sorted};
-ghost use Rattle.items.specs.Kept.{headTold, fieldTold, lowTold, lineTold, lineKept};
+ghost use Rattle.text.specs.Characters.{isInadmissible, answers};
+ghost use Rattle.items.specs.Kept.{headTold, fieldTold, lowTold, lineTold};
 
 fn head_told(first: &[u8], no: u32, bad: bool, ended: bool) -> Head
     ensures { λ r. ⌜ r ≡ headTold no bad ended (now (first .entry)) ⌝ }
@@ -72,11 +73,10 @@ fn told_len(length: usize) -> usize
     if length <= 64 { length } else { 64 }
 }
 
-// What is kept of a whole line; `table` is that of `text::characters`, and `odd` says whether a byte of it is not plain.
+// What is kept of a whole line; `table` is that of `text::characters`, and `odd` says whether a byte of it may be other than plain.
 pub fn line_kept(table: &[bool; 256], line: &[u8], no: u32, odd: bool, ended: bool) -> Line
     requires { ⌜ now table ≡ answers ⌝ }
-    requires { ⌜ odd ≡ anyOf isOdd (now line) ⌝ }
-    ensures { λ r. ⌜ r ≡ lineKept (sorted (record { no = no; bytes = now (line .entry); ended = ended })) ⌝ }
+    ensures { λ r. ⌜ r ≡ lineTold no (odd && anyOf isInadmissible (now (line .entry))) ended (now (line .entry)) (length (now (line .entry))) ⌝ }
 {
     let bad = text::characters::holds_inadmissible(table, line, odd);
     let length = line.len();

@@ -1,12 +1,15 @@
 -- The pass over a body: what is run from here on gives what is declared of the whole.
 use mathlib.Core.Path.{_≡_, refl, sym, ap, _∙_, subst}
-use mathlib.Core.Bool.{Bool, false}
+use mathlib.Core.Bool.{Bool, false, _&&_}
 use mathlib.Core.List.{List, [], _∷_, _++_}
 use Prim.Native.Nat.{ℕ, zero, suc, _+_, _*_, _≤_, _<_, _^_}
 use native.Mathlib.Numerals.{add-one}
 use native.Mathlib.Omega.{arith}
 use lib.Dec.{ltb}
 use lib.ListN.{length, drop, getD, set, replicate, length-append, length-replicate}
+use Rattle.laws.specs.Lists.{anyOf}
+use Rattle.text.specs.Characters.{isInadmissible}
+use Rattle.text.proofs.Admissible.{odd-asked}
 use Rattle.lines.specs.Lines.{lines}
 use Rattle.lines.specs.Reading.{span, IsNext}
 use Rattle.lines.specs.declared.Found.{Found}
@@ -17,7 +20,6 @@ use Rattle.ledger.specs.declared.Ledger.{Ledger}
 use Rattle.ledger.proofs.Marks.{marked-few}
 use Rattle.ledger.proofs.Entries.{putAll, put, put-comm, in-line-order}
 use Rattle.ledger.proofs.Book.{Book, book-start, book-ready, book-more, book-listed}
-use Rattle.fields.specs.declared.readings.Reading.{Reading}
 use Rattle.blocks.specs.declared.Job.{Job}
 use Rattle.blocks.specs.declared.Block.{Block}
 use Rattle.blocks.specs.Model.{jobOf}
@@ -33,14 +35,15 @@ use Rattle.items.specs.declared.Wait.{Wait}
 use Rattle.items.specs.Rows.{Row, FieldRow, LowRow, Sorted, heading, field, low, sorted, rowsFrom}
 use Rattle.items.specs.Tree.{tree}
 use Rattle.items.specs.Faults.{declare, faultsIn}
-use Rattle.items.specs.Kept.{lineKept, headKept, fieldKept, lowKept}
-use Rattle.items.specs.State.{isClaim, quiet, saidOf, lowLive, fieldLive, headLive, noClaims, claimsAfter, lowMarksOf, fieldMarksOf, noWait, closeModel, lastMarks, fieldFaults, itemFaults}
+use Rattle.items.specs.Fields.{rule1}
+use Rattle.items.specs.Kept.{lineTold, lineKept, headKept, fieldKept, lowKept}
+use Rattle.items.specs.State.{isClaim, quiet, lowLive, fieldLive, headLive, noClaims, claimsAfter, lowMarksOf, fieldMarksOf, noWait, closeModel, lastMarks, fieldFaults, itemFaults}
 use Rattle.items.proofs.Ideal.{Open, start, push, out, final}
 use Rattle.items.proofs.Order.{run, emitted}
 use Rattle.items.proofs.Numbers.{lines-rise}
 use Rattle.items.proofs.Opened.{no-claims-is}
 use Rattle.items.proofs.Meant.{Meant, job, low-out, field-out, head-out, final-out, meant-low, meant-field, meant-head, ident-small}
-use Rattle.items.proofs.Told.{head-of, field-of, kept-low, kept-field, kept-head}
+use Rattle.items.proofs.Told.{told-kept, head-of, field-of, kept-low, kept-field, kept-head}
 
 -- what was entered, said in another way
 pub entered-list : {xs ys : List Fault} {g : Ledger} {ls rs : List ℕ} {g′ : Ledger} {ls′ rs′ : List ℕ} → xs ≡ ys → Entered xs g ls rs g′ ls′ rs′ → Entered ys g ls rs g′ ls′ rs′
@@ -48,7 +51,7 @@ entered-list {g} {ls} {rs} {g′} {ls′} {rs′} e E = subst (λ (zs : List Fau
 
 -- what is entered when all that is open closes
 abbrev pub allFaults : Job → Live → Claims → Block → Wait → List ℕ → List Fault
-allFaults j s cl b w stood = fieldFaults j s cl (saidOf s) stood ++ itemFaults j b w s (claimsAfter cl s (saidOf s))
+allFaults j s cl b w stood = fieldFaults j s cl stood ++ itemFaults j b w s (claimsAfter cl s)
 
 module _ (code today : ℕ) (s ls₀ rs₀ : List ℕ) where
   -- at a place of the body, after n lines
@@ -64,13 +67,21 @@ module _ (code today : ℕ) (s ls₀ rs₀ : List ℕ) where
     pub calm : w .marks < 2 ^ 40
     pub rest : run code today put pieces all (rowsFrom (suc n) (lines (drop at s))) ≡ faultsIn code today s
 
--- the code counts n + 1 where the rows count suc n
-pub kept-at : {x : Line} (n : ℕ) (bytes : List ℕ) (e : Bool) → x ≡ lineKept (sorted (record { no = n + 1; bytes = bytes; ended = e })) → x ≡ lineKept (sorted (record { no = suc n; bytes = bytes; ended = e }))
-kept-at n bytes e q = q ∙ ap (λ (m : ℕ). lineKept (sorted (record { no = m; bytes = bytes; ended = e }))) (add-one n)
+-- a line that is told as the code tells it; the code counts n + 1 where the rows count suc n
+pub kept-at : {s : List ℕ} {at : ℕ} {f : Found} → IsNext s at f → {x : Line} (n : ℕ)
+    → x ≡ lineTold (n + 1) (f .odd && anyOf isInadmissible (span at (f .end) s)) (f .ended) (span at (f .end) s) (length (span at (f .end) s))
+    → x ≡ lineKept (sorted (record { no = suc n; bytes = span at (f .end) s; ended = f .ended }))
+unfolding rule1
+kept-at {s} {at} {f} N n q =
+    let bytes : List ℕ = span at (f .end) s in
+    q
+    ∙ (λ i. lineTold (add-one n i) (N .tells i && anyOf isInadmissible bytes) (f .ended) bytes (length bytes))
+    ∙ ap (λ (bad : Bool). lineTold (suc n) bad (f .ended) bytes (length bytes)) (odd-asked bytes)
+    ∙ told-kept (record { no = suc n; bytes = bytes; ended = f .ended })
 
 -- a field that claims nothing leaves the claims as they are
-pub no-claim : (cl : Claims) (v : Live) (r : Reading) → isClaim v ≡ false → cl ≡ claimsAfter cl v r
-no-claim cl v r e = rw e
+pub no-claim : (cl : Claims) (v : Live) → isClaim v ≡ false → cl ≡ claimsAfter cl v
+no-claim cl v e = rw e
 
 meant-as : {code today : ℕ} {c : Open} {n : ℕ} {v v′ : Live} {cl cl′ : Claims} {b b′ : Block} {w w′ : Wait} {stood stood′ : List ℕ} → v′ ≡ v → cl′ ≡ cl → b′ ≡ b → w′ ≡ w → stood′ ≡ stood
     → Meant code today c n v cl b w stood → Meant code today c n v′ cl′ b′ w′ stood′
@@ -119,17 +130,17 @@ module _ {code today : ℕ} {s ls₀ rs₀ : List ℕ} {j : Job} {ls rs stood : 
   pub walk-ident : v .owner .ident < 1296
   walk-ident = ident-small code today (W .pieces) n v cl b w stood (W .meant)
 
-  few-field : (x : Reading) → length (fieldFaults j v cl x stood) ≤ 64
-  few-field x = marked-few (v .owner .no) (fieldMarksOf j v (cl .kc) x (ltb (v .head .no) (getD stood (v .owner .ident) 0)))
+  few-field : length (fieldFaults j v cl stood) ≤ 64
+  few-field = marked-few (v .owner .no) (fieldMarksOf j v (cl .kc) (ltb (v .head .no) (getD stood (v .owner .ident) 0)))
 
   pub few-all : length (allFaults j v cl b w stood) ≤ 192
   few-all =
-      let ca : Claims = claimsAfter cl v (saidOf v) in
+      let ca : Claims = claimsAfter cl v in
       omega (
         arith,
-        length-append (fieldFaults j v cl (saidOf v) stood) (itemFaults j b w v ca),
+        length-append (fieldFaults j v cl stood) (itemFaults j b w v ca),
         length-append (marked (w .line) (closeModel j b w v ca .told)) (marked (v .head .no) (closeModel j b w v ca .marks)),
-        few-field (saidOf v),
+        few-field,
         marked-few (w .line) (closeModel j b w v ca .told),
         marked-few (v .head .no) (closeModel j b w v ca .marks),
       )
@@ -170,22 +181,22 @@ module _ {code today : ℕ} {s ls₀ rs₀ : List ℕ} {j : Job} {ls rs stood : 
           (low-out code today (W .pieces) n v cl b w stood (W .meant) (k .0) (W .all) ∙ (λ i. insertAll (marked (k .2 i .no) (lowMarksOf v (k .2 i))) (W .all)) ∙ ap (λ (t : ℕ). insertAll (marked (l .no) t) (W .all)) (sym em))
           (meant-as (ev ∙ ap (lowLive v) (sym (k .2))) refl refl refl refl (meant-low code today (W .pieces) n v cl b w stood (W .meant) (k .0))) E (omega (arith, marked-few (l .no) m)) (W .calm)
 
-      pub walk-field : (y : Field) → x ≡ OfField y → {said : Reading} → said ≡ saidOf v → {v′ : Live} → v′ ≡ fieldLive v y
-          → {cl′ : Claims} → cl′ ≡ claimsAfter cl v said → {stood′ : List ℕ} → stood′ ≡ set stood (v .owner .ident) (v .owner .no)
-          → {g′ : Ledger} {ls′ rs′ : List ℕ} → Entered (fieldFaults j v cl said stood) g ls rs g′ ls′ rs′
+      pub walk-field : (y : Field) → x ≡ OfField y → {v′ : Live} → v′ ≡ fieldLive v y
+          → {cl′ : Claims} → cl′ ≡ claimsAfter cl v → {stood′ : List ℕ} → stood′ ≡ set stood (v .owner .ident) (v .owner .no)
+          → {g′ : Ledger} {ls′ rs′ : List ℕ} → Entered (fieldFaults j v cl stood) g ls rs g′ ls′ rs′
           → Walking code today s ls₀ rs₀ j ls′ rs′ stood′ g′ v′ cl′ b w (f .next) (n + 1)
-      walk-field y e {said} es {v′} ev {cl′} ec {stood′} et E =
+      walk-field y e {v′} ev {cl′} ec {stood′} et E =
           let k = kept-field (sorted row) y (sym ex ∙ e) in
           let q = field-of row (k .0) (k .1) in
-          walk-on (field (k .0)) (k .1) (fieldFaults j v cl said stood)
-          (field-out code today (W .pieces) n v cl b w stood (W .meant) (k .0) (W .all) ∙ sym (λ i. insertAll (fieldFaults (W .job-is i) v cl (es i) stood) (W .all)))
-          (meant-as (ev ∙ ap (fieldLive v) (sym (k .2))) (ec ∙ ap (claimsAfter cl v) es) refl refl et
-          (meant-field code today (W .pieces) n v cl b w stood (W .meant) (k .0) (q .0) (q .1))) E (omega (arith, few-field said)) (W .calm)
+          walk-on (field (k .0)) (k .1) (fieldFaults j v cl stood)
+          (field-out code today (W .pieces) n v cl b w stood (W .meant) (k .0) (W .all) ∙ sym (λ i. insertAll (fieldFaults (W .job-is i) v cl stood) (W .all)))
+          (meant-as (ev ∙ ap (fieldLive v) (sym (k .2))) ec refl refl et
+          (meant-field code today (W .pieces) n v cl b w stood (W .meant) (k .0) (q .0) (q .1))) E (omega (arith, few-field)) (W .calm)
 
       pub walk-head : (k : Head) → x ≡ OfHead k → {v′ : Live} → v′ ≡ headLive k → {cl′ : Claims} → cl′ ≡ noClaims
           → {stood′ : List ℕ} → stood′ ≡ set stood (v .owner .ident) (v .owner .no)
-          → {b′ : Block} → b′ ≡ closeModel j b w v (claimsAfter cl v (saidOf v)) .block
-          → {w′ : Wait} → w′ ≡ closeModel j b w v (claimsAfter cl v (saidOf v)) .wait → w′ .marks < 2 ^ 40
+          → {b′ : Block} → b′ ≡ closeModel j b w v (claimsAfter cl v) .block
+          → {w′ : Wait} → w′ ≡ closeModel j b w v (claimsAfter cl v) .wait → w′ .marks < 2 ^ 40
           → {g′ : Ledger} {ls′ rs′ : List ℕ} → Entered (allFaults j v cl b w stood) g ls rs g′ ls′ rs′
           → Walking code today s ls₀ rs₀ j ls′ rs′ stood′ g′ v′ cl′ b′ w′ (f .next) (n + 1)
       walk-head k e {v′} ev {cl′} ec {stood′} et {b′} eb {w′} ew calm E =
@@ -193,13 +204,13 @@ module _ {code today : ℕ} {s ls₀ rs₀ : List ℕ} {j : Job} {ls rs stood : 
           walk-on (heading (h .0)) (h .1) (allFaults j v cl b w stood)
           (head-out code today (W .pieces) n v cl b w stood (W .meant) (h .0) (W .all) ∙ sym (λ i. insertAll (allFaults (W .job-is i) v cl b w stood) (W .all)))
           (meant-as (ev ∙ ap headLive (sym (h .2))) ec
-          (eb ∙ (λ i. closeModel (W .job-is i) b w v (claimsAfter cl v (saidOf v)) .block))
-          (ew ∙ (λ i. closeModel (W .job-is i) b w v (claimsAfter cl v (saidOf v)) .wait)) et
+          (eb ∙ (λ i. closeModel (W .job-is i) b w v (claimsAfter cl v) .block))
+          (ew ∙ (λ i. closeModel (W .job-is i) b w v (claimsAfter cl v) .wait)) et
           (meant-head code today (W .pieces) n v cl b w stood (W .meant) (h .0) (head-of row (h .0) (h .1)))) E few-all calm
 
   -- the end
-  pub walk-end : length s ≤ at → {b′ : Block} → b′ ≡ closeModel j b w v (claimsAfter cl v (saidOf v)) .block
-      → {w′ : Wait} → w′ ≡ closeModel j b w v (claimsAfter cl v (saidOf v)) .wait
+  pub walk-end : length s ≤ at → {b′ : Block} → b′ ≡ closeModel j b w v (claimsAfter cl v) .block
+      → {w′ : Wait} → w′ ≡ closeModel j b w v (claimsAfter cl v) .wait
       → {g₁ : Ledger} {ls₁ rs₁ : List ℕ} → Entered (allFaults j v cl b w stood) g ls rs g₁ ls₁ rs₁
       → {m : ℕ} → m ≡ lastMarks b′ w′ → {g₂ : Ledger} {ls₂ rs₂ : List ℕ} → Entered (marked (w′ .line) m) g₁ ls₁ rs₁ g₂ ls₂ rs₂ → Listed (faultsIn code today s) ls₀ rs₀ g₂ ls₂ rs₂
   unfolding rowsFrom
@@ -209,7 +220,7 @@ module _ {code today : ℕ} {s ls₀ rs₀ : List ℕ} {j : Job} {ls rs stood : 
       ap (λ (z : List Sorted). run code today put (W .pieces) (W .all) z) (sym (ap (rowsFrom (suc n)) (lines-past s at h))) ∙ W .rest in
       let ends : putAll put (final code today (W .pieces)) (W .all) ≡ insertAll (marked (w′ .line) m) (insertAll xs (W .all)) =
       final-out code today (W .pieces) n v cl b w stood (W .meant) (W .all)
-      ∙ sym (λ i. let d = closeModel (W .job-is i) b w v (claimsAfter cl v (saidOf v)) in
+      ∙ sym (λ i. let d = closeModel (W .job-is i) b w v (claimsAfter cl v) in
       insertAll (marked (d .wait .line) (lastMarks (d .block) (d .wait))) (insertAll (allFaults (W .job-is i) v cl b w stood) (W .all)))
       ∙ sym (λ i. insertAll (marked (ew i .line) (lastMarks (eb i) (ew i))) (insertAll xs (W .all)))
       ∙ sym (λ i. insertAll (marked (w′ .line) (em i)) (insertAll xs (W .all))) in

@@ -5,7 +5,6 @@
 // `ledger`, the cut in `lines`, the table of characters in `text`.
 use blocks::Block;
 use blocks::Job;
-use fields::readings::Reading;
 use headings::Code;
 use items::Claims;
 use items::Line;
@@ -22,7 +21,7 @@ ghost use Prim.Native.Nat.{_≤_, _<_, _^_};
 ghost use lib.Dec.{ltb};
 ghost use lib.ListN.{length, getD, set, replicate};
 ghost use Rattle.ledger.specs.Slices.{Ready, Entered, Listed};
-ghost use Rattle.items.specs.State.{saidOf, claimsAfter, fieldFaults, itemFaults, closeModel};
+ghost use Rattle.items.specs.State.{claimsAfter, fieldFaults, itemFaults, closeModel};
 ghost use Rattle.items.specs.Faults.{faultsIn};
 
 // No identifier stood.
@@ -52,16 +51,15 @@ fn shut_field(
     job: Job,
     s: Live,
     claims: Claims,
-    said: Reading,
 ) -> Ledger
     requires { ⌜ Ready (g .kept) (now lines) (now rules) ⌝ }
     requires { ⌜ (g .total < 2 ^ 62) × (s .owner .ident < 1296) ⌝ }
-    ensures { λ r. ⌜ Entered (fieldFaults job s claims said (now (stood .entry))) g (now (lines .entry)) (now (rules .entry)) r (now (lines .exit)) (now (rules .exit)) ⌝ }
+    ensures { λ r. ⌜ Entered (fieldFaults job s claims (now (stood .entry))) g (now (lines .entry)) (now (rules .entry)) r (now (lines .exit)) (now (rules .exit)) ⌝ }
     ensures { λ _. ⌜ now (stood .exit) ≡ set (now (stood .entry)) (s .owner .ident) (s .owner .no) ⌝ }
 {
     let stands = again(stood, s.owner.ident, s.owner.no, s.head.no);
     let kc = claims.kc;
-    let marks = marking::field_marks(job, s, kc, said, stands);
+    let marks = marking::field_marks(job, s, kc, stands);
     ledger::enter(lines, rules, g, s.owner.no, marks)
 }
 
@@ -113,13 +111,12 @@ fn shut_all(
 ) -> Closed
     requires { ⌜ Ready (g .kept) (now lines) (now rules) ⌝ }
     requires { ⌜ (g .total < 2 ^ 61) × (s .owner .ident < 1296) × (w .marks < 2 ^ 40) ⌝ }
-    ensures { λ r. ⌜ Entered (fieldFaults job s claims (saidOf s) (now (stood .entry)) ++ itemFaults job b w s (claimsAfter claims s (saidOf s))) g (now (lines .entry)) (now (rules .entry)) (r .ledger) (now (lines .exit)) (now (rules .exit)) ⌝ }
+    ensures { λ r. ⌜ Entered (fieldFaults job s claims (now (stood .entry)) ++ itemFaults job b w s (claimsAfter claims s)) g (now (lines .entry)) (now (rules .entry)) (r .ledger) (now (lines .exit)) (now (rules .exit)) ⌝ }
     ensures { λ _. ⌜ now (stood .exit) ≡ set (now (stood .entry)) (s .owner .ident) (s .owner .no) ⌝ }
-    ensures { λ r. ⌜ (r .block ≡ closeModel job b w s (claimsAfter claims s (saidOf s)) .block) × (r .wait ≡ closeModel job b w s (claimsAfter claims s (saidOf s)) .wait) × (r .wait .marks < 2 ^ 40) ⌝ }
+    ensures { λ r. ⌜ (r .block ≡ closeModel job b w s (claimsAfter claims s) .block) × (r .wait ≡ closeModel job b w s (claimsAfter claims s) .wait) × (r .wait .marks < 2 ^ 40) ⌝ }
 {
-    let said = open::said_of(s);
-    let g1 = shut_field(lines, rules, stood, g, job, s, claims, said);
-    let all = claiming::claims_after(claims, s, said);
+    let g1 = shut_field(lines, rules, stood, g, job, s, claims);
+    let all = claiming::claims_after(claims, s);
     shut_item(lines, rules, g1, job, s, all, b, w)
 }
 
@@ -135,7 +132,7 @@ pub fn enter_faults(s: &[u8], code: u32, day: u32, lines: &mut [u32], rules: &mu
     let mut g = ledger::empty();
     let mut live = open::start();
     let mut claims = claiming::no_claims();
-    let mut block = blocks::account::start();
+    let mut block = account::start();
     let mut wait = closing::no_wait();
     let mut at = 0;
     let mut n: u32 = 0;
@@ -151,10 +148,9 @@ pub fn enter_faults(s: &[u8], code: u32, day: u32, lines: &mut [u32], rules: &mu
                 live = open::with_low(live, l);
             }
             Line::OfField(y) => {
-                let said = open::said_of(live);
-                g = shut_field(lines, rules, &mut stood, g, job, live, claims, said);
+                g = shut_field(lines, rules, &mut stood, g, job, live, claims);
                 if claiming::is_claim(live) {
-                    claims = claiming::claims_after(claims, live, said);
+                    claims = claiming::claims_after(claims, live);
                 }
                 live = open::with_field(live, y);
             }

@@ -1,6 +1,6 @@
 -- The two words of bits and the table of answers say what `isAdmissible` says; a byte that is not odd is not inadmissible.
 use mathlib.Core.Path.{_≡_, refl, sym, ap, _∙_}
-use mathlib.Core.Bool.{Bool, true, false, cond, not, _||_, true≢false}
+use mathlib.Core.Bool.{Bool, true, false, cond, not, _&&_, _||_, true≢false}
 use mathlib.Core.List.{List}
 use Prim.Native.Nat.{ℕ, _+_, _/_, _%_, _^_, _<_, _≤_}
 use native.Mathlib.Nat.{zero-add}
@@ -10,7 +10,8 @@ use lib.ListN.{length, getD, take, set}
 use lib.Seq.{take-suc-set, take-all}
 use lib.Dec.{eqb, ltb}
 use Rattle.laws.specs.Tests.{among}
-use Rattle.laws.specs.Lists.{tabulate}
+use Rattle.laws.specs.Lists.{anyOf, tabulate}
+use Rattle.laws.proofs.Any.{weaker}
 use Rattle.laws.proofs.Finite.{agree, table-at, tabulate-snoc}
 use Rattle.text.specs.Characters.{isPlain, others, isAdmissible, isInadmissible, isOdd, answers}
 
@@ -32,9 +33,17 @@ plain-good : (p : Bool) (b : ℕ) → not p ≡ false → not (p || among b othe
 plain-good true b e = refl
 plain-good false b e = absurd (true≢false e)
 
-pub odd-weaker : (b : ℕ) → isOdd b ≡ false → isInadmissible b ≡ false
+odd-weaker : (b : ℕ) → isOdd b ≡ false → isInadmissible b ≡ false
 unfolding isAdmissible
 odd-weaker b e = plain-good (isPlain b) b e
+
+-- a text without odd bytes need not be asked for inadmissible ones
+pub odd-asked : (s : List ℕ) → (anyOf isOdd s && anyOf isInadmissible s) ≡ anyOf isInadmissible s
+odd-asked s = go (anyOf isOdd s) refl
+  where
+    go : (odd : Bool) → anyOf isOdd s ≡ odd → (odd && anyOf isInadmissible s) ≡ anyOf isInadmissible s
+    go true e = refl
+    go false e = sym (weaker isOdd isInadmissible odd-weaker s e)
 
 -- a table that is filled from the left
 pub fills : (t : List Bool) (b : ℕ) (v : Bool) → b < length t → take b t ≡ tabulate isAdmissible 0 b → v ≡ isAdmissible b → take (b + 1) (set t b v) ≡ tabulate isAdmissible 0 (b + 1)

@@ -1,5 +1,6 @@
 // Admissible bytes (document 01; 000, 2.1): one test, the table of all answers, and the look over a part of a slice.
 ghost use mathlib.Core.Path.{_≡_};
+ghost use mathlib.Core.Bool.{_&&_};
 ghost use Rattle.laws.specs.Lists.{anyOf};
 ghost use Rattle.text.specs.Characters.{isPlain, isAdmissible, isOdd, isInadmissible, answers};
 
@@ -75,11 +76,10 @@ fn holds_bad(t: &[bool; 256], s: &[u8]) -> bool
     bad
 }
 
-// Whether a text holds an inadmissible byte (rule 1). Where it is known that all its bytes are plain, the table is not asked.
+// Whether a text that may hold odd bytes holds an inadmissible one (rule 1): where it is known to hold none, the table is not asked.
 pub fn holds_inadmissible(t: &[bool; 256], s: &[u8], odd: bool) -> bool
     requires { ⌜ now t ≡ answers ⌝ }
-    requires { ⌜ odd ≡ anyOf isOdd (now s) ⌝ }
-    ensures { λ r. ⌜ r ≡ anyOf isInadmissible (now (s .entry)) ⌝ }
+    ensures { λ r. ⌜ r ≡ (odd && anyOf isInadmissible (now (s .entry))) ⌝ }
 {
     if odd {
         return holds_bad(t, s);

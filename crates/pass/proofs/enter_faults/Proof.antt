@@ -22,11 +22,11 @@ next : (c : tie.After-line-from Inv-loop μ-loop) → IsNext (c .before .before 
 next c = is-next _ _ _ (c .line-from .ensures) (c .before .loop-test .taken)
 
 -- the claims are touched only where the open field makes one
-claims-joined : (c : tie.Joined1 Inv-loop μ-loop) → c .if1 .claims ≡ claimsAfter (c .before .before .before .before .before .before .before .before .before .before .before .before .before .before .before .before .before .before .before .loop .claims) (c .before .before .before .before .before .before .before .before .before .before .before .before .before .before .before .before .before .before .before .loop .live) (c .before .before .before .before .before .before .before .before .before .before .said-of .result)
+claims-joined : (c : tie.Joined1 Inv-loop μ-loop) → c .if1 .claims ≡ claimsAfter (c .before .before .before .before .before .before .before .before .before .before .before .before .before .before .before .before .before .before .loop .claims) (c .before .before .before .before .before .before .before .before .before .before .before .before .before .before .before .before .before .before .loop .live)
 claims-joined c =
-    let at-loop = c .before .before .before .before .before .before .before .before .before .before .before .before .before .before .before .before .before .before .before in
+    let at-loop = c .before .before .before .before .before .before .before .before .before .before .before .before .before .before .before .before .before .before in
     ⊎-elim (λ w. w .2 ∙ w .1 .ensures)
-    (λ w. w .1 ∙ no-claim (at-loop .loop .claims) (at-loop .loop .live) _ (sym (c .before .is-claim .ensures) ∙ w .0 .left)) (c .if1 .came)
+    (λ w. w .1 ∙ no-claim (at-loop .loop .claims) (at-loop .loop .live) (sym (c .before .is-claim .ensures) ∙ w .0 .left)) (c .if1 .came)
 
 job-of-requires : tie.Need-job-of-requires Inv-loop μ-loop
 job-of-requires c κs = search needs
@@ -72,7 +72,7 @@ part-line-kept-end : tie.Need-part-line-kept-end Inv-loop μ-loop
 part-line-kept-end c = omega (arith, next (c .before) .starts, next (c .before) .closes, next (c .before) .within)
 
 line-kept-requires : tie.Need-line-kept-requires Inv-loop μ-loop
-line-kept-requires c κs = (c .before .before .before .before .before .before .before .before .before .before .before .table .ensures, next (c .before .before) .tells)
+line-kept-requires c κs = c .before .before .before .before .before .before .before .before .before .before .before .table .ensures
 
 enum-known-x : tie.Need-enum-known-x Inv-loop μ-loop
 enum-known-x c = search needs
@@ -98,17 +98,14 @@ loop-again : tie.Need-loop-again Inv-loop μ-loop
 loop-again c =
     let at-loop = c .before .before .before .before .before .before .before .before .before .before .before .before .before .before .before .before .before in
     let found = c .before .before .before .before .before .before .before .before .before .before .before .before .before .before .before in
-    walk-low (at-loop .loop .inv) (next found) (kept-at _ _ _ (c .before .before .before .before .before .before .before .before .before .before .before .before .line-kept .ensures)) (c .before .before .before .before .before .before .before .before .before .before .x .given .0 .0) (c .before .before .before .before .before .before .before .before .before .before .x .given .1) (c .with-low .ensures) (c .before .before .before .before .before .before .low-marks .ensures) (c .before .before .before .before .before .enter .ensures .0)
+    walk-low (at-loop .loop .inv) (next found) (kept-at (next found) _ (c .before .before .before .before .before .before .before .before .before .before .before .before .line-kept .ensures)) (c .before .before .before .before .before .before .before .before .before .before .x .given .0 .0) (c .before .before .before .before .before .before .before .before .before .before .x .given .1) (c .with-low .ensures) (c .before .before .before .before .before .before .low-marks .ensures) (c .before .before .before .before .before .enter .ensures .0)
 
 enum-known-x-2 : tie.Need-enum-known-x-2 Inv-loop μ-loop
 enum-known-x-2 c = search needs
 
-said-of-requires : tie.Need-said-of-requires Inv-loop μ-loop
-said-of-requires c κs = search needs
-
 shut-field-requires : tie.Need-shut-field-requires Inv-loop μ-loop
 shut-field-requires c κs =
-    let at-loop = c .before .before .before .before .before .before .before .before .before .before .before .before in
+    let at-loop = c .before .before .before .before .before .before .before .before .before .before .before in
     let start = at-loop .before .before .before .before .before .before .before .before .before .before .before .before in
     (walk-ready (at-loop .loop .inv), (omega (arith, walk-room (at-loop .loop .inv) (start .pre .0)), walk-ident (at-loop .loop .inv)))
 
@@ -123,14 +120,15 @@ with-field-requires c κs = search needs
 
 loop-less-2 : tie.Need-loop-less-2 Inv-loop μ-loop
 loop-less-2 c =
-    let found = c .before .before .before .before .before .before .before .before .before .before .before .before .before .before .before .before .before .before in
+    let found = c .before .before .before .before .before .before .before .before .before .before .before .before .before .before .before .before .before in
     omega (arith, next found .moves, next found .within)
 
 loop-again-2 : tie.Need-loop-again-2 Inv-loop μ-loop
 loop-again-2 c =
-    let at-loop = c .before .before .before .before .before .before .before .before .before .before .before .before .before .before .before .before .before .before .before .before in
-    let found = c .before .before .before .before .before .before .before .before .before .before .before .before .before .before .before .before .before .before in
-    walk-field (at-loop .loop .inv) (next found) (kept-at _ _ _ (c .before .before .before .before .before .before .before .before .before .before .before .before .before .before .before .line-kept .ensures)) (c .before .before .before .before .before .before .before .before .before .before .before .before .before .x2 .given .0 .0) (c .before .before .before .before .before .before .before .before .before .before .before .before .before .x2 .given .1) (c .before .before .before .before .before .before .before .before .before .before .before .said-of .ensures) (c .with-field .ensures) (claims-joined (c .before)) (c .before .before .before .before .before .before .before .shut-field .ensures .1) (c .before .before .before .before .before .before .before .shut-field .ensures .0)
+    let at-loop = c .before .before .before .before .before .before .before .before .before .before .before .before .before .before .before .before .before .before .before in
+    let found = c .before .before .before .before .before .before .before .before .before .before .before .before .before .before .before .before .before in
+    let closed = c .before .before .before .before .before .before .before .shut-field .ensures in
+    walk-field (at-loop .loop .inv) (next found) (kept-at (next found) _ (c .before .before .before .before .before .before .before .before .before .before .before .before .before .before .line-kept .ensures)) (c .before .before .before .before .before .before .before .before .before .before .before .before .x2 .given .0 .0) (c .before .before .before .before .before .before .before .before .before .before .before .before .x2 .given .1) (c .with-field .ensures) (claims-joined (c .before)) (closed .1) (closed .0)
 
 enum-known-x-3 : tie.Need-enum-known-x-3 Inv-loop μ-loop
 enum-known-x-3 c = search needs
@@ -156,7 +154,7 @@ loop-again-3 : tie.Need-loop-again-3 Inv-loop μ-loop
 loop-again-3 c =
     let at-loop = c .before .before .before .before .before .before .before .before .before .before .before .before .before .before .before .before .before .before .before .before .before in
     let found = c .before .before .before .before .before .before .before .before .before .before .before .before .before .before .before .before .before .before .before in
-    walk-head (at-loop .loop .inv) (next found) (kept-at _ _ _ (c .before .before .before .before .before .before .before .before .before .before .before .before .before .before .before .before .line-kept .ensures)) (c .before .before .before .before .before .before .before .before .before .before .before .before .before .before .x3 .given .0 .0) (c .before .before .before .before .before .before .before .before .before .before .before .before .before .before .x3 .given .1) (c .with-head .ensures) (c .before .no-claims2 .ensures) (c .before .before .before .before .before .before .before .before .before .shut-all .ensures .1 .0) (c .before .before .before .before .before .before .before .before .before .shut-all .ensures .1 .1 .0) (c .before .before .before .before .before .before .before .before .before .shut-all .ensures .1 .1 .1) (c .before .before .before .before .before .before .before .before .before .shut-all .ensures .1 .1 .2) (c .before .before .before .before .before .before .before .before .before .shut-all .ensures .0)
+    walk-head (at-loop .loop .inv) (next found) (kept-at (next found) _ (c .before .before .before .before .before .before .before .before .before .before .before .before .before .before .before .before .line-kept .ensures)) (c .before .before .before .before .before .before .before .before .before .before .before .before .before .before .x3 .given .0 .0) (c .before .before .before .before .before .before .before .before .before .before .before .before .before .before .x3 .given .1) (c .with-head .ensures) (c .before .no-claims2 .ensures) (c .before .before .before .before .before .before .before .before .before .shut-all .ensures .1 .0) (c .before .before .before .before .before .before .before .before .before .shut-all .ensures .1 .1 .0) (c .before .before .before .before .before .before .before .before .before .shut-all .ensures .1 .1 .1) (c .before .before .before .before .before .before .before .before .before .shut-all .ensures .1 .1 .2) (c .before .before .before .before .before .before .before .before .before .shut-all .ensures .0)
 
 shut-all-requires-2 : tie.Need-shut-all-requires-2 Inv-loop μ-loop
 shut-all-requires-2 c κs =
@@ -215,7 +213,6 @@ enter-faults-spec =
     loop-less
     loop-again
     enum-known-x-2
-    said-of-requires
     shut-field-requires
     is-claim-requires
     claims-after-requires

@@ -1,22 +1,14 @@
-use mathlib.Core.Path.{_≡_, ap, sym, _∙_}
+use mathlib.Core.Path.{_∙_}
 use native.Mathlib.Omega.{arith}
-use Prim.Native.Nat.{ℕ}
-use mathlib.Core.Bool.{Bool}
-use Rattle.ledger.specs.Faults.{marked}
+use lib.Dec.{ltb}
+use lib.ListN.{getD}
 use Rattle.ledger.proofs.Marks.{marked-few}
 use Rattle.ledger.proofs.Entering.{entered-both}
+use Rattle.items.specs.State.{fieldMarksOf, itemFaults, closeModel}
 use Rattle.pass.proofs.Walk.{entered-list}
-use lib.Dec.{ltb}
-use lib.ListN.{getD, length}
-use Rattle.fields.specs.declared.readings.Reading.{Reading}
-use Rattle.items.specs.declared.closing.Shut.{Shut}
-use Rattle.items.specs.State.{saidOf, claimsAfter, fieldMarksOf, fieldFaults, itemFaults, closeModel}
 use borrow.Author.Needs.{needs}
 use Rattle.pass.proofs.shut_all.Statement.{statement}
 use Rattle.pass.proofs.shut_all.Tie as tie
-
-said-of-requires : tie.Need-said-of-requires
-said-of-requires c κs = search needs
 
 shut-field-requires : tie.Need-shut-field-requires
 shut-field-requires c κs = search needs
@@ -26,9 +18,10 @@ claims-after-requires c κs = search needs
 
 shut-item-requires : tie.Need-shut-item-requires
 shut-item-requires c κs =
-    let a = c .before .before .before .before .before .before .before .before .before .before .before .before .before .before .args in
+    let start = c .before .before .before .before .before .before .before .before .before .before .before .before .before in
+    let a = start .args in
     let E = c .before .before .before .before .before .before .before .shut-field .ensures .0 in
-    (E .put .ready, (omega (arith, E .sum, c .before .before .before .before .before .before .before .before .before .before .before .before .before .before .pre .1, marked-few (a .s .owner .no) (fieldMarksOf (a .job) (a .s) (a .claims .kc) (c .before .before .before .before .before .before .before .before .before .before .before .said-of .result) (ltb (a .s .head .no) (getD (a .stood .now) (a .s .owner .ident) 0)))), c .before .before .before .before .before .before .before .before .before .before .before .before .before .before .pre .1 .2))
+    (E .put .ready, (omega (arith, E .sum, start .pre .1, marked-few (a .s .owner .no) (fieldMarksOf (a .job) (a .s) (a .claims .kc) (ltb (a .s .head .no) (getD (a .stood .now) (a .s .owner .ident) 0)))), start .pre .1 .2))
 
 same-length : tie.Need-same-length
 same-length c = search needs
@@ -38,17 +31,18 @@ same-length-2 c = search needs
 
 returns : tie.Need-returns
 returns c =
-    let a = c .before .before .before .before .before .before .before .before .before .before .before .before .before .before .before .before .before .before .before .args in
-    let es = c .before .before .before .before .before .before .before .before .before .before .before .before .before .before .before .before .said-of .ensures in
-    let ec = c .before .before .before .before .before .before .before .claims-after .ensures ∙ ap (claimsAfter (a .claims) (a .s)) es in (
-      entered-both (c .before .before .before .before .before .before .before .before .before .before .before .before .before .before .before .before .before .before .before .pre .0) (entered-list (ap (λ (x : Reading). fieldFaults (a .job) (a .s) (a .claims) x (a .stood .now)) es) (c .before .before .before .before .before .before .before .before .before .before .before .before .shut-field .ensures .0))
-          (entered-list (λ i. itemFaults (a .job) (a .b) (a .w) (a .s) (ec i)) (c .before .before .before .before .shut-item .ensures .0)),
+    let start = c .before .before .before .before .before .before .before .before .before .before .before .before .before .before .before .before .before .before in
+    let a = start .args in
+    let field = c .before .before .before .before .before .before .before .before .before .before .before .before .shut-field .ensures in
+    let item = c .before .before .before .before .shut-item .ensures in
+    let ec = c .before .before .before .before .before .before .before .claims-after .ensures in (
+      entered-both (start .pre .0) (field .0) (entered-list (λ i. itemFaults (a .job) (a .b) (a .w) (a .s) (ec i)) (item .0)),
       (
-        c .before .before .before .before .before .before .before .before .before .before .before .before .shut-field .ensures .1,
+        field .1,
         (
-          c .before .before .before .before .shut-item .ensures .1 .0 ∙ (λ i. closeModel (a .job) (a .b) (a .w) (a .s) (ec i) .block),
-          c .before .before .before .before .shut-item .ensures .1 .1 ∙ (λ i. closeModel (a .job) (a .b) (a .w) (a .s) (ec i) .wait),
-          c .before .before .before .before .shut-item .ensures .1 .2,
+          item .1 .0 ∙ (λ i. closeModel (a .job) (a .b) (a .w) (a .s) (ec i) .block),
+          item .1 .1 ∙ (λ i. closeModel (a .job) (a .b) (a .w) (a .s) (ec i) .wait),
+          item .1 .2,
         ),
       ),
     )
@@ -57,7 +51,6 @@ pub shut-all-spec : {M : Type 1} → statement M
 shut-all-spec =
     tie.close
     (tie.spec
-    said-of-requires
     shut-field-requires
     claims-after-requires
     shut-item-requires

@@ -1,10 +1,5 @@
-use mathlib.Core.Path.{_≡_, ap, sym, _∙_}
-use native.Mathlib.Omega.{arith}
-use Prim.Native.Nat.{ℕ}
-use mathlib.Core.Bool.{Bool}
+use mathlib.Core.Path.{ap, _∙_}
 use Rattle.ledger.specs.Faults.{marked}
-use Rattle.ledger.proofs.Marks.{marked-few}
-use Rattle.ledger.proofs.Entering.{entered-both}
 use Rattle.pass.proofs.Walk.{entered-list}
 use Rattle.items.specs.State.{fieldMarksOf}
 use borrow.Author.Needs.{needs}
@@ -29,7 +24,7 @@ same-length-2 c = search needs
 returns : tie.Need-returns
 returns c =
     let a = c .before .before .before .before .before .before .before .before .before .before .before .before .args in
-    let e = c .before .before .before .before .before .before .before .field-marks .ensures ∙ ap (fieldMarksOf (a .job) (a .s) (a .claims .kc) (a .said)) (c .before .before .before .before .before .before .before .before .again .ensures .0) in
+    let e = c .before .before .before .before .before .before .before .field-marks .ensures ∙ ap (fieldMarksOf (a .job) (a .s) (a .claims .kc)) (c .before .before .before .before .before .before .before .before .again .ensures .0) in
     (entered-list (ap (marked (a .s .owner .no)) e) (c .before .before .before .before .enter .ensures .0), c .before .before .before .before .before .before .before .before .again .ensures .1)
 
 pub shut-field-spec : {M : Type 1} → statement M

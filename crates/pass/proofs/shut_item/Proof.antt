@@ -1,12 +1,8 @@
-use mathlib.Core.Path.{_≡_, ap, sym, _∙_}
-use native.Mathlib.Omega.{arith}
-use Prim.Native.Nat.{ℕ}
-use mathlib.Core.Bool.{Bool}
+use mathlib.Core.Path.{ap}
 use Rattle.ledger.specs.Faults.{marked}
-use Rattle.ledger.proofs.Marks.{marked-few}
 use Rattle.ledger.proofs.Entering.{entered-both}
-use Rattle.pass.proofs.Walk.{entered-list}
 use Rattle.items.specs.declared.closing.Shut.{Shut}
+use Rattle.pass.proofs.Walk.{entered-list}
 use borrow.Author.Needs.{needs}
 use Rattle.pass.proofs.shut_item.Statement.{statement}
 use Rattle.pass.proofs.shut_item.Tie as tie

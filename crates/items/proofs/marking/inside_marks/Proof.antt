@@ -4,6 +4,9 @@ use borrow.Author.Needs.{needs}
 use Rattle.items.proofs.marking.inside_marks.Statement.{statement}
 use Rattle.items.proofs.marking.inside_marks.Tie as tie
 
+said-of-requires : tie.Need-said-of-requires
+said-of-requires c κs = search needs
+
 read-of-requires : tie.Need-read-of-requires
 read-of-requires c κs = search needs
 
@@ -40,7 +43,7 @@ add-result-3 c = search needs
 returns : tie.Need-returns
 unfolding insideMarks
 returns c = (
-  simp (c .kc-marks .ensures .0, c .before .flag3 .ensures .0, c .before .before .fails-check .ensures, c .before .before .before .flag2 .ensures .0, c .before .before .before .before .is-broken .ensures, c .before .before .before .before .before .flag .ensures .0, c .before .before .before .before .before .before .is-first-kc .ensures, c .before .before .before .before .before .before .before .read-of .ensures),
+  simp (c .kc-marks .ensures .0, c .before .flag3 .ensures .0, c .before .before .fails-check .ensures, c .before .before .before .flag2 .ensures .0, c .before .before .before .before .is-broken .ensures, c .before .before .before .before .before .flag .ensures .0, c .before .before .before .before .before .before .is-first-kc .ensures, c .before .before .before .before .before .before .before .read-of .ensures, c .before .before .before .before .before .before .before .before .said-of .ensures),
   omega (arith, c .kc-marks .ensures .1, c .before .flag3 .ensures .1, c .before .before .before .flag2 .ensures .1, c .before .before .before .before .before .flag .ensures .1),
 )
 
@@ -48,6 +51,7 @@ pub inside-marks-spec : {M : Type 1} → statement M
 inside-marks-spec =
     tie.close
     (tie.spec
+    said-of-requires
     read-of-requires
     is-first-kc-requires
     flag-requires

@@ -2,7 +2,6 @@ use mathlib.Core.Path.{sym, _∙_}
 use native.Mathlib.Omega.{arith}
 use lib.ListN.{length, take}
 use lib.Seq.{length-take-le}
-use Rattle.items.specs.Fields.{rule1}
 use Rattle.items.proofs.Told.{told-first}
 use borrow.Author.Needs.{needs}
 use Rattle.items.proofs.rows.line_kept.Statement.{statement}
@@ -21,8 +20,7 @@ line-told-requires : tie.Need-line-told-requires
 line-told-requires c κs = search needs
 
 returns : tie.Need-returns
-unfolding rule1
-returns c = rw (c .line-told .ensures, c .before .before .told-len .ensures, c .before .before .before .holds-inadmissible .ensures) (told-first _)
+returns c = rw (c .line-told .ensures, c .before .before .told-len .ensures, c .before .before .before .holds-inadmissible .ensures) (told-first _ _ _ _)
 
 pub line-kept-spec : {M : Type 1} → statement M
 line-kept-spec =
