@@ -39,7 +39,7 @@ use Rattle.items.specs.Fields.{lineMarks, lowMarks, continuations, says,
 use Rattle.items.specs.Headings.{continued, headOf, is, kcOf, ends, fresh}
 use Rattle.items.specs.Faults.{entry, lowEntry, fieldEntry}
 use Rattle.items.specs.Kept.{headKept, fieldKept, lowKept}
-use Rattle.items.specs.State.{saidOf, readOf, lowLive, fieldLive, headLive, noClaims, claimsAfter, ownMarks, lowMarksOf, firstKc, lateBy, kcMarks, insideMarks, fieldMarksOf, fieldFaults, itemFaults, closeModel, lastMarks, headMarksOf}
+use Rattle.items.specs.State.{saidOf, readOf, lowLive, fieldLive, headLive, noClaims, claimsAfter, ownMarks, lowMarksOf, firstKc, lateBy, kcMarks, insideMarks, fieldMarksOf, fieldFaults, itemFaults, openFaults, lastFaults, closeModel, lastMarks, headMarksOf}
 use Rattle.items.proofs.Ideal.{Open, start, early, atHead, atField, closed, item, push, waits, headsOut, out, lastOut, final}
 use Rattle.items.proofs.Turned.{continued-closed, firstUp, says-closed}
 use Rattle.items.proofs.Opened.{said-is, live, low-is, field-is, head-is, no-kc-is, claimsOf, claims, no-claims-is, claimsThen, claims-is, claims-field}
@@ -245,32 +245,26 @@ module _ (code today : ℕ) where
     closing-is : closing ≡ model c
     closing-is = λ j. closeModel job (M .account-is j) (M .wait-is j) (M .live-is j) (claims-close j)
 
-    abbrev pub fieldEnters : List Fault
-    fieldEnters = fieldFaults job s cl stood
-
-    abbrev pub itemEnters : List Fault
-    itemEnters = itemFaults job b w s (claimsAfter cl s)
-
-    pub field-out : (y : FieldRow) (all : List Fault) → putAll put (out code today c (field y)) all ≡ insertAll fieldEnters all
+    pub field-out : (y : FieldRow) (all : List Fault) → putAll put (out code today c (field y)) all ≡ insertAll (fieldFaults job s cl stood) all
     field-out y all = rw (M .live-is, M .claims-are) (ap (λ (es : List Entry). putAll put es all) (field-puts c y) ∙ field-outs c stood (M .inside) all)
 
-    item-enters : itemEnters ≡ itemFaults job (accountOf (above c)) (wait code today (above c)) (live c) (claimsThen c)
+    item-enters : itemFaults job b w s (claimsAfter cl s) ≡ itemFaults job (accountOf (above c)) (wait code today (above c)) (live c) (claimsThen c)
     item-enters = λ j. itemFaults job (M .account-is j) (M .wait-is j) (M .live-is j) (claims-close j)
 
-    all-enter : (all : List Fault) → putAll put (fieldsOut c ++ itemsOut c) all ≡ insertAll (fieldEnters ++ itemEnters) all
+    all-enter : (all : List Fault) → putAll put (fieldsOut c ++ itemsOut c) all ≡ insertAll (openFaults job s cl b w stood) all
     all-enter all = all-outs c stood (M .inside) all ∙ sym (λ j. insertAll (fieldFaults job (M .live-is j) (M .claims-are j) stood ++ item-enters j) all)
 
-    pub head-out : (k : Row) (all : List Fault) → putAll put (out code today c (heading k)) all ≡ insertAll (fieldEnters ++ itemEnters) all
+    pub head-out : (k : Row) (all : List Fault) → putAll put (out code today c (heading k)) all ≡ insertAll (openFaults job s cl b w stood) all
     head-out k all = ap (λ (es : List Entry). putAll put es all) (head-puts c k) ∙ all-enter all
 
     pub final-out : (all : List Fault)
-        → putAll put (final code today c) all ≡ insertAll (marked (closing .wait .line) (lastMarks (closing .block) (closing .wait))) (insertAll (fieldEnters ++ itemEnters) all)
+        → putAll put (final code today c) all ≡ insertAll (lastFaults job s cl b w) (insertAll (openFaults job s cl b w stood) all)
     final-out all =
         let eb : closing .block ≡ accountOf (aboveThen c) = ap (λ (x : Shut). x .block) closing-is ∙ item-says c all .1 in
         let ew : closing .wait ≡ wait code today (aboveThen c) = ap (λ (x : Shut). x .wait) closing-is ∙ item-says c all .2 in
         ap (λ (es : List Entry). putAll put es all) (final-puts c) ∙ putAll-append put (fieldsOut c ++ itemsOut c) (waits code today (aboveThen c) true) all
-        ∙ ap (putAll put (waits code today (aboveThen c) true)) (all-enter all) ∙ last-out code today (aboveThen c) (insertAll (fieldEnters ++ itemEnters) all)
-        ∙ sym (λ j. insertAll (marked (ew j .line) (lastMarks (eb j) (ew j))) (insertAll (fieldEnters ++ itemEnters) all))
+        ∙ ap (putAll put (waits code today (aboveThen c) true)) (all-enter all) ∙ last-out code today (aboveThen c) (insertAll (openFaults job s cl b w stood) all)
+        ∙ sym (λ j. insertAll (marked (ew j .line) (lastMarks (eb j) (ew j))) (insertAll (openFaults job s cl b w stood) all))
 
     pub meant-low : (l : LowRow) → Meant (push c (low l)) (suc n) (lowLive s (lowKept l)) cl b w stood
     meant-low l = record {

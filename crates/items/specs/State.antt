@@ -191,3 +191,13 @@ fieldFaults j s c stood = marked (s .owner .no) (fieldMarksOf j s (c .kc) (ltb (
 -- the open item: the one who waited, and its own heading
 abbrev pub itemFaults : Job → Block → Wait → Live → Claims → List Fault
 itemFaults j b w s c = marked (w .line) (closeModel j b w s c .told) ++ marked (s .head .no) (closeModel j b w s c .marks)
+
+-- all that is open
+abbrev pub openFaults : Job → Live → Claims → Block → Wait → List ℕ → List Fault
+openFaults j s c b w stood = fieldFaults j s c stood ++ itemFaults j b w s (claimsAfter c s)
+
+-- the one who waits then, where the file ends
+abbrev pub lastFaults : Job → Live → Claims → Block → Wait → List Fault
+lastFaults j s c b w =
+    let closed = closeModel j b w s (claimsAfter c s) in
+    marked (closed .wait .line) (lastMarks (closed .block) (closed .wait))

@@ -18,6 +18,7 @@ use Rattle.ledger.specs.Faults.{Fault, Entry, insertAll, marked}
 use Rattle.ledger.specs.Slices.{Ready, Entered, Listed}
 use Rattle.ledger.specs.declared.Ledger.{Ledger}
 use Rattle.ledger.proofs.Marks.{marked-few}
+use Rattle.ledger.proofs.Insertion.{insertAll-append}
 use Rattle.ledger.proofs.Entries.{putAll, put, put-comm, in-line-order}
 use Rattle.ledger.proofs.Book.{Book, book-start, book-ready, book-more, book-listed}
 use Rattle.blocks.specs.declared.Job.{Job}
@@ -37,7 +38,7 @@ use Rattle.items.specs.Tree.{tree}
 use Rattle.items.specs.Faults.{declare, faultsIn}
 use Rattle.items.specs.Fields.{rule1}
 use Rattle.items.specs.Kept.{lineTold, lineKept, headKept, fieldKept, lowKept}
-use Rattle.items.specs.State.{isClaim, quiet, lowLive, fieldLive, headLive, noClaims, claimsAfter, lowMarksOf, fieldMarksOf, noWait, closeModel, lastMarks, fieldFaults, itemFaults}
+use Rattle.items.specs.State.{isClaim, quiet, lowLive, fieldLive, headLive, noClaims, claimsAfter, lowMarksOf, fieldMarksOf, noWait, closeModel, fieldFaults, itemFaults, openFaults, lastFaults}
 use Rattle.items.proofs.Ideal.{Open, start, push, out, final}
 use Rattle.items.proofs.Order.{run, emitted}
 use Rattle.items.proofs.Numbers.{lines-rise}
@@ -49,9 +50,21 @@ use Rattle.items.proofs.Told.{told-kept, head-of, field-of, kept-low, kept-fiel
 pub entered-list : {xs ys : List Fault} {g : Ledger} {ls rs : List ℕ} {g′ : Ledger} {ls′ rs′ : List ℕ} → xs ≡ ys → Entered xs g ls rs g′ ls′ rs′ → Entered ys g ls rs g′ ls′ rs′
 entered-list {g} {ls} {rs} {g′} {ls′} {rs′} e E = subst (λ (zs : List Fault). Entered zs g ls rs g′ ls′ rs′) e E
 
--- what is entered when all that is open closes
-abbrev pub allFaults : Job → Live → Claims → Block → Wait → List ℕ → List Fault
-allFaults j s cl b w stood = fieldFaults j s cl stood ++ itemFaults j b w s (claimsAfter cl s)
+-- no more is entered at once than leaves room to count on
+field-few : (j : Job) (v : Live) (cl : Claims) (stood : List ℕ) → length (fieldFaults j v cl stood) ≤ 64
+field-few j v cl stood = marked-few (v .owner .no) (fieldMarksOf j v (cl .kc) (ltb (v .head .no) (getD stood (v .owner .ident) 0)))
+
+pub open-few : (j : Job) (v : Live) (cl : Claims) (b : Block) (w : Wait) (stood : List ℕ) → length (openFaults j v cl b w stood) ≤ 192
+open-few j v cl b w stood =
+    let ca : Claims = claimsAfter cl v in
+    omega (
+      arith,
+      length-append (fieldFaults j v cl stood) (itemFaults j b w v ca),
+      length-append (marked (w .line) (closeModel j b w v ca .told)) (marked (v .head .no) (closeModel j b w v ca .marks)),
+      field-few j v cl stood,
+      marked-few (w .line) (closeModel j b w v ca .told),
+      marked-few (v .head .no) (closeModel j b w v ca .marks),
+    )
 
 module _ (code today : ℕ) (s ls₀ rs₀ : List ℕ) where
   -- at a place of the body, after n lines
@@ -130,21 +143,6 @@ module _ {code today : ℕ} {s ls₀ rs₀ : List ℕ} {j : Job} {ls rs stood : 
   pub walk-ident : v .owner .ident < 1296
   walk-ident = ident-small code today (W .pieces) n v cl b w stood (W .meant)
 
-  few-field : length (fieldFaults j v cl stood) ≤ 64
-  few-field = marked-few (v .owner .no) (fieldMarksOf j v (cl .kc) (ltb (v .head .no) (getD stood (v .owner .ident) 0)))
-
-  pub few-all : length (allFaults j v cl b w stood) ≤ 192
-  few-all =
-      let ca : Claims = claimsAfter cl v in
-      omega (
-        arith,
-        length-append (fieldFaults j v cl stood) (itemFaults j b w v ca),
-        length-append (marked (w .line) (closeModel j b w v ca .told)) (marked (v .head .no) (closeModel j b w v ca .marks)),
-        few-field,
-        marked-few (w .line) (closeModel j b w v ca .told),
-        marked-few (v .head .no) (closeModel j b w v ca .marks),
-      )
-
   -- one line, whatever it is
   module _ {f : Found} (N : IsNext s at f) where
     abbrev row : Row
@@ -191,37 +189,31 @@ module _ {code today : ℕ} {s ls₀ rs₀ : List ℕ} {j : Job} {ls rs stood : 
           walk-on (field (k .0)) (k .1) (fieldFaults j v cl stood)
           (field-out code today (W .pieces) n v cl b w stood (W .meant) (k .0) (W .all) ∙ sym (λ i. insertAll (fieldFaults (W .job-is i) v cl stood) (W .all)))
           (meant-as (ev ∙ ap (fieldLive v) (sym (k .2))) ec refl refl et
-          (meant-field code today (W .pieces) n v cl b w stood (W .meant) (k .0) (q .0) (q .1))) E (omega (arith, few-field)) (W .calm)
+          (meant-field code today (W .pieces) n v cl b w stood (W .meant) (k .0) (q .0) (q .1))) E (omega (arith, field-few j v cl stood)) (W .calm)
 
       pub walk-head : (k : Head) → x ≡ OfHead k → {v′ : Live} → v′ ≡ headLive k → {cl′ : Claims} → cl′ ≡ noClaims
           → {stood′ : List ℕ} → stood′ ≡ set stood (v .owner .ident) (v .owner .no)
           → {b′ : Block} → b′ ≡ closeModel j b w v (claimsAfter cl v) .block
           → {w′ : Wait} → w′ ≡ closeModel j b w v (claimsAfter cl v) .wait → w′ .marks < 2 ^ 40
-          → {g′ : Ledger} {ls′ rs′ : List ℕ} → Entered (allFaults j v cl b w stood) g ls rs g′ ls′ rs′
+          → {g′ : Ledger} {ls′ rs′ : List ℕ} → Entered (openFaults j v cl b w stood) g ls rs g′ ls′ rs′
           → Walking code today s ls₀ rs₀ j ls′ rs′ stood′ g′ v′ cl′ b′ w′ (f .next) (n + 1)
       walk-head k e {v′} ev {cl′} ec {stood′} et {b′} eb {w′} ew calm E =
           let h = kept-head (sorted row) k (sym ex ∙ e) in
-          walk-on (heading (h .0)) (h .1) (allFaults j v cl b w stood)
-          (head-out code today (W .pieces) n v cl b w stood (W .meant) (h .0) (W .all) ∙ sym (λ i. insertAll (allFaults (W .job-is i) v cl b w stood) (W .all)))
+          walk-on (heading (h .0)) (h .1) (openFaults j v cl b w stood)
+          (head-out code today (W .pieces) n v cl b w stood (W .meant) (h .0) (W .all) ∙ sym (λ i. insertAll (openFaults (W .job-is i) v cl b w stood) (W .all)))
           (meant-as (ev ∙ ap headLive (sym (h .2))) ec
           (eb ∙ (λ i. closeModel (W .job-is i) b w v (claimsAfter cl v) .block))
           (ew ∙ (λ i. closeModel (W .job-is i) b w v (claimsAfter cl v) .wait)) et
-          (meant-head code today (W .pieces) n v cl b w stood (W .meant) (h .0) (head-of row (h .0) (h .1)))) E few-all calm
+          (meant-head code today (W .pieces) n v cl b w stood (W .meant) (h .0) (head-of row (h .0) (h .1)))) E (open-few j v cl b w stood) calm
 
   -- the end
-  pub walk-end : length s ≤ at → {b′ : Block} → b′ ≡ closeModel j b w v (claimsAfter cl v) .block
-      → {w′ : Wait} → w′ ≡ closeModel j b w v (claimsAfter cl v) .wait
-      → {g₁ : Ledger} {ls₁ rs₁ : List ℕ} → Entered (allFaults j v cl b w stood) g ls rs g₁ ls₁ rs₁
-      → {m : ℕ} → m ≡ lastMarks b′ w′ → {g₂ : Ledger} {ls₂ rs₂ : List ℕ} → Entered (marked (w′ .line) m) g₁ ls₁ rs₁ g₂ ls₂ rs₂ → Listed (faultsIn code today s) ls₀ rs₀ g₂ ls₂ rs₂
+  pub walk-end : length s ≤ at → {g′ : Ledger} {ls′ rs′ : List ℕ} → Entered (openFaults j v cl b w stood ++ lastFaults j v cl b w) g ls rs g′ ls′ rs′ → Listed (faultsIn code today s) ls₀ rs₀ g′ ls′ rs′
   unfolding rowsFrom
-  walk-end h {b′} eb {w′} ew {g₁} {ls₁} {rs₁} E {m} em {g₂} {ls₂} {rs₂} F =
-      let xs : List Fault = allFaults j v cl b w stood in
+  walk-end h {g′} {ls′} {rs′} E =
       let done : putAll put (final code today (W .pieces)) (W .all) ≡ faultsIn code today s =
       ap (λ (z : List Sorted). run code today put (W .pieces) (W .all) z) (sym (ap (rowsFrom (suc n)) (lines-past s at h))) ∙ W .rest in
-      let ends : putAll put (final code today (W .pieces)) (W .all) ≡ insertAll (marked (w′ .line) m) (insertAll xs (W .all)) =
+      let ends : putAll put (final code today (W .pieces)) (W .all) ≡ insertAll (openFaults j v cl b w stood ++ lastFaults j v cl b w) (W .all) =
       final-out code today (W .pieces) n v cl b w stood (W .meant) (W .all)
-      ∙ sym (λ i. let d = closeModel (W .job-is i) b w v (claimsAfter cl v) in
-      insertAll (marked (d .wait .line) (lastMarks (d .block) (d .wait))) (insertAll (allFaults (W .job-is i) v cl b w stood) (W .all)))
-      ∙ sym (λ i. insertAll (marked (ew i .line) (lastMarks (eb i) (ew i))) (insertAll xs (W .all)))
-      ∙ sym (λ i. insertAll (marked (w′ .line) (em i)) (insertAll xs (W .all))) in
-      book-listed (subst (λ (l : List Fault). Book l ls₀ rs₀ g₂ ls₂ rs₂) (sym ends ∙ done) (book-more (book-more (W .book) E) F))
+      ∙ sym (λ i. insertAll (lastFaults (W .job-is i) v cl b w) (insertAll (openFaults (W .job-is i) v cl b w stood) (W .all)))
+      ∙ sym (insertAll-append (openFaults j v cl b w stood) (lastFaults j v cl b w) (W .all)) in
+      book-listed (subst (λ (l : List Fault). Book l ls₀ rs₀ g′ ls′ rs′) (sym ends ∙ done) (book-more (W .book) E))

@@ -21,7 +21,7 @@ ghost use Prim.Native.Nat.{_≤_, _<_, _^_};
 ghost use lib.Dec.{ltb};
 ghost use lib.ListN.{length, getD, set, replicate};
 ghost use Rattle.ledger.specs.Slices.{Ready, Entered, Listed};
-ghost use Rattle.items.specs.State.{claimsAfter, fieldFaults, itemFaults, closeModel};
+ghost use Rattle.items.specs.State.{claimsAfter, fieldFaults, itemFaults, openFaults, lastFaults, closeModel};
 ghost use Rattle.items.specs.Faults.{faultsIn};
 
 // No identifier stood.
@@ -111,13 +111,34 @@ fn shut_all(
 ) -> Closed
     requires { ⌜ Ready (g .kept) (now lines) (now rules) ⌝ }
     requires { ⌜ (g .total < 2 ^ 61) × (s .owner .ident < 1296) × (w .marks < 2 ^ 40) ⌝ }
-    ensures { λ r. ⌜ Entered (fieldFaults job s claims (now (stood .entry)) ++ itemFaults job b w s (claimsAfter claims s)) g (now (lines .entry)) (now (rules .entry)) (r .ledger) (now (lines .exit)) (now (rules .exit)) ⌝ }
+    ensures { λ r. ⌜ Entered (openFaults job s claims b w (now (stood .entry))) g (now (lines .entry)) (now (rules .entry)) (r .ledger) (now (lines .exit)) (now (rules .exit)) ⌝ }
     ensures { λ _. ⌜ now (stood .exit) ≡ set (now (stood .entry)) (s .owner .ident) (s .owner .no) ⌝ }
     ensures { λ r. ⌜ (r .block ≡ closeModel job b w s (claimsAfter claims s) .block) × (r .wait ≡ closeModel job b w s (claimsAfter claims s) .wait) × (r .wait .marks < 2 ^ 40) ⌝ }
 {
     let g1 = shut_field(lines, rules, stood, g, job, s, claims);
     let all = claiming::claims_after(claims, s);
     shut_item(lines, rules, g1, job, s, all, b, w)
+}
+
+// The file ends: all that is open closes, and the heading that waits for rule 16 has it.
+fn shut_file(
+    lines: &mut [u32],
+    rules: &mut [u32],
+    stood: &mut [u32; 1296],
+    g: Ledger,
+    job: Job,
+    s: Live,
+    claims: Claims,
+    b: Block,
+    w: Wait,
+) -> Ledger
+    requires { ⌜ Ready (g .kept) (now lines) (now rules) ⌝ }
+    requires { ⌜ (g .total < 2 ^ 61) × (s .owner .ident < 1296) × (w .marks < 2 ^ 40) ⌝ }
+    ensures { λ r. ⌜ Entered (openFaults job s claims b w (now (stood .entry)) ++ lastFaults job s claims b w) g (now (lines .entry)) (now (rules .entry)) r (now (lines .exit)) (now (rules .exit)) ⌝ }
+{
+    let t = shut_all(lines, rules, stood, g, job, s, claims, b, w);
+    let last = closing::last_marks(t.block, t.wait);
+    ledger::enter(lines, rules, t.ledger, t.wait.line, last)
 }
 
 // Enters the faults of a body, for the submitter's code and the accounting day.
@@ -164,7 +185,5 @@ pub fn enter_faults(s: &[u8], code: u32, day: u32, lines: &mut [u32], rules: &mu
             }
         }
     }
-    let t = shut_all(lines, rules, &mut stood, g, job, live, claims, block, wait);
-    let last = closing::last_marks(t.block, t.wait);
-    ledger::enter(lines, rules, t.ledger, t.wait.line, last)
+    shut_file(lines, rules, &mut stood, g, job, live, claims, block, wait)
 }

@@ -6,7 +6,7 @@ use lib.ListN.{length}
 use Rattle.lines.specs.Reading.{IsNext}
 use Rattle.lines.proofs.Reading.{is-next}
 use Rattle.items.specs.State.{claimsAfter}
-use Rattle.pass.proofs.Walk.{no-claim, Walking, kept-at, walk-start, walk-ready, walk-room, walk-ident, few-all, walk-low, walk-field, walk-head, walk-end}
+use Rattle.pass.proofs.Walk.{no-claim, Walking, kept-at, walk-start, walk-ready, walk-room, walk-ident, walk-low, walk-field, walk-head, walk-end}
 use borrow.Author.Needs.{needs}
 use Rattle.pass.proofs.enter_faults.Statement.{statement}
 use Rattle.pass.proofs.enter_faults.Tie as tie
@@ -156,34 +156,20 @@ loop-again-3 c =
     let found = c .before .before .before .before .before .before .before .before .before .before .before .before .before .before .before .before .before .before .before in
     walk-head (at-loop .loop .inv) (next found) (kept-at (next found) _ (c .before .before .before .before .before .before .before .before .before .before .before .before .before .before .before .before .line-kept .ensures)) (c .before .before .before .before .before .before .before .before .before .before .before .before .before .before .x3 .given .0 .0) (c .before .before .before .before .before .before .before .before .before .before .before .before .before .before .x3 .given .1) (c .with-head .ensures) (c .before .no-claims2 .ensures) (c .before .before .before .before .before .before .before .before .before .shut-all .ensures .1 .0) (c .before .before .before .before .before .before .before .before .before .shut-all .ensures .1 .1 .0) (c .before .before .before .before .before .before .before .before .before .shut-all .ensures .1 .1 .1) (c .before .before .before .before .before .before .before .before .before .shut-all .ensures .1 .1 .2) (c .before .before .before .before .before .before .before .before .before .shut-all .ensures .0)
 
-shut-all-requires-2 : tie.Need-shut-all-requires-2 Inv-loop μ-loop
-shut-all-requires-2 c κs =
+shut-file-requires : tie.Need-shut-file-requires Inv-loop μ-loop
+shut-file-requires c κs =
     let at-loop = c .before .before .before .before in
     let start = at-loop .before .before .before .before .before .before .before .before .before .before .before .before in
     (walk-ready (at-loop .loop .inv), (omega (arith, walk-room (at-loop .loop .inv) (start .pre .0)), walk-ident (at-loop .loop .inv), at-loop .loop .inv .calm))
 
-last-marks-requires : tie.Need-last-marks-requires Inv-loop μ-loop
-last-marks-requires c κs = c .before .before .before .before .shut-all2 .ensures .1 .1 .2
-
-enter-requires-2 : tie.Need-enter-requires-2 Inv-loop μ-loop
-enter-requires-2 c κs =
-    let at-loop = c .before .before .before .before .before .before .before .before .before .before .before .before in
-    let start = at-loop .before .before .before .before .before .before .before .before .before .before .before .before in
-    let E = c .before .before .before .before .before .before .before .shut-all2 .ensures .0 in
-    (E .put .ready, omega (arith, walk-room (at-loop .loop .inv) (start .pre .0), E .sum, few-all (at-loop .loop .inv)))
-
 same-length : tie.Need-same-length Inv-loop μ-loop
-same-length c =
-    let at-loop = c .before .before .before .before .before .before .before .before .before .before .before .before .before .before .before .before .before in
-    c .before .before .before .before .enter2 .kept .0 ∙ c .before .before .before .before .before .before .before .before .before .before .before .before .shut-all2 .kept .0 ∙ at-loop .loop .inv .book .entered .put .lines-long
+same-length c = c .before .before .before .before .shut-file .kept .0 ∙ c .before .before .before .before .before .before .before .before .before .loop .inv .book .entered .put .lines-long
 
 same-length-2 : tie.Need-same-length-2 Inv-loop μ-loop
-same-length-2 c =
-    let at-loop = c .before .before .before .before .before .before .before .before .before .before .before .before .before .before .before .before .before in
-    c .before .before .before .before .enter2 .kept .1 .0 ∙ c .before .before .before .before .before .before .before .before .before .before .before .before .shut-all2 .kept .1 .0 ∙ at-loop .loop .inv .book .entered .put .rules-long
+same-length-2 c = c .before .before .before .before .shut-file .kept .1 .0 ∙ c .before .before .before .before .before .before .before .before .before .loop .inv .book .entered .put .rules-long
 
 returns : tie.Need-returns Inv-loop μ-loop
-returns c = walk-end (c .before .before .before .before .before .before .before .before .before .before .before .before .before .before .before .before .before .loop .inv) (omega (arith, c .before .before .before .before .before .before .before .before .before .before .before .before .before .before .before .before .loop-test)) (c .before .before .before .before .before .before .before .before .before .before .before .before .shut-all2 .ensures .1 .1 .0) (c .before .before .before .before .before .before .before .before .before .before .before .before .shut-all2 .ensures .1 .1 .1) (c .before .before .before .before .before .before .before .before .before .before .before .before .shut-all2 .ensures .0) (c .before .before .before .before .before .before .before .last-marks .ensures .0) (c .before .before .before .before .enter2 .ensures .0)
+returns c = walk-end (c .before .before .before .before .before .before .before .before .before .loop .inv) (omega (arith, c .before .before .before .before .before .before .before .before .loop-test)) (c .before .before .before .before .shut-file .ensures)
 
 pub enter-faults-spec : {M : Type 1} → statement M
 enter-faults-spec =
@@ -225,9 +211,7 @@ enter-faults-spec =
     with-head-requires
     loop-less-3
     loop-again-3
-    shut-all-requires-2
-    last-marks-requires
-    enter-requires-2
+    shut-file-requires
     same-length
     same-length-2
     returns)

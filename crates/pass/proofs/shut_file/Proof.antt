@@ -1,0 +1,49 @@
+use mathlib.Core.Path.{ap, _∙_}
+use native.Mathlib.Omega.{arith}
+use Rattle.ledger.specs.Faults.{marked}
+use Rattle.ledger.proofs.Entering.{entered-both}
+use Rattle.items.specs.State.{lastMarks}
+use Rattle.pass.proofs.Walk.{entered-list, open-few}
+use borrow.Author.Needs.{needs}
+use Rattle.pass.proofs.shut_file.Statement.{statement}
+use Rattle.pass.proofs.shut_file.Tie as tie
+
+shut-all-requires : tie.Need-shut-all-requires
+shut-all-requires c κs = search needs
+
+last-marks-requires : tie.Need-last-marks-requires
+last-marks-requires c κs = c .before .before .before .before .shut-all .ensures .1 .1 .2
+
+enter-requires : tie.Need-enter-requires
+enter-requires c κs =
+    let start = c .before .before .before .before .before .before .before .before .before .before .before .before .before in
+    let a = start .args in
+    let E = c .before .before .before .before .before .before .before .shut-all .ensures .0 in
+    (E .put .ready, omega (arith, E .sum, start .pre .1 .0, open-few (a .job) (a .s) (a .claims) (a .b) (a .w) (a .stood .now)))
+
+same-length : tie.Need-same-length
+same-length c = search needs
+
+same-length-2 : tie.Need-same-length-2
+same-length-2 c = search needs
+
+returns : tie.Need-returns
+returns c =
+    let start = c .before .before .before .before .before .before .before .before .before .before .before .before .before .before .before .before .before .before in
+    let all = c .before .before .before .before .before .before .before .before .before .before .before .before .shut-all .ensures in
+    let last = c .before .before .before .before .before .before .before .last-marks .ensures .0 in
+    let eb = all .1 .1 .0 in
+    let ew = all .1 .1 .1 in
+    entered-both (start .pre .0) (all .0)
+    (entered-list (ap (marked _) last ∙ (λ i. marked (ew i .line) (lastMarks (eb i) (ew i)))) (c .before .before .before .before .enter .ensures .0))
+
+pub shut-file-spec : {M : Type 1} → statement M
+shut-file-spec =
+    tie.close
+    (tie.spec
+    shut-all-requires
+    last-marks-requires
+    enter-requires
+    same-length
+    same-length-2
+    returns)
