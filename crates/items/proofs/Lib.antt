@@ -6,5 +6,4 @@ pub mod Opened
 pub mod Shutting
 pub mod Meant
 pub mod Told
-pub mod Cases
 pub mod Demand

@@ -32,7 +32,7 @@ use Rattle.blocks.proofs.Accounting.{same-eight}
 use Rattle.items.specs.declared.Live.{Live}
 use Rattle.items.specs.declared.Claims.{Claims}
 use Rattle.items.specs.declared.Wait.{Wait}
-use Rattle.items.specs.declared.closing.Shut.{Shut}
+use Rattle.items.specs.declared.Shut.{Shut}
 use Rattle.items.specs.Rows.{Row, FieldRow, LowRow, Sorted, heading, field, low}
 use Rattle.items.specs.Tree.{Group, Item}
 use Rattle.items.specs.Fields.{lineMarks, lowMarks, continuations, says, stands, rule6, failsCheck, isFirstKc, late, large, fieldMarks, looseMarks}

@@ -37,7 +37,7 @@ use Rattle.items.specs.declared.Low.{Low}
 use Rattle.items.specs.declared.Live.{Live}
 use Rattle.items.specs.declared.Claims.{Claims}
 use Rattle.items.specs.declared.Wait.{Wait}
-use Rattle.items.specs.declared.closing.Shut.{Shut}
+use Rattle.items.specs.declared.Shut.{Shut}
 use Rattle.items.specs.Fields.{failsCheck, large}
 use Rattle.items.specs.Headings.{isUnreadable, kcBy, spanBy, statedBy}
 

@@ -1,7 +1,9 @@
-// Items: the lines of a file as groups and items, the rules at each line (1 to 9; those at headings come from `blocks`), and the
-// state of one forward pass over the lines. `specs/Faults.antt` says which faults a file has; every function promises its result
-// by a definition, for every input. The laws say that what the pass enters is what is declared, in whichever order it is entered.
+// Items: the lines of a file as groups and items, the rules at each line (1 to 9; those at headings come from `blocks`), and what
+// one forward pass keeps of the lines and has open (its marks: `judging`). `specs/Faults.antt` says which faults a file has; every
+// function promises its result by a definition, for every input. The laws say that what the pass enters is what is declared, in
+// whichever order it is entered.
 // Stands on the promises of `fields`, `headings`, `blocks`, `lines`, `ledger` and `text`.
+use blocks::Block;
 use blocks::Kc;
 use blocks::Span;
 use blocks::Sums;
@@ -10,9 +12,6 @@ use fields::readings::Reading;
 use fields::tails::Tail;
 use headings::Read;
 
-pub mod claiming;
-pub mod closing;
-pub mod marking;
 pub mod open;
 pub mod rows;
 
@@ -73,5 +72,14 @@ pub struct Claims {
 // The first heading of the open block with its marks, which waits for rule 16.
 pub struct Wait {
     pub line: u32,
+    pub marks: u64,
+}
+
+// The account after an item, and who waits then; the marks of the one who waited, where the block ends; the heading's own marks,
+// where they are complete.
+pub struct Shut {
+    pub block: Block,
+    pub wait: Wait,
+    pub told: u64,
     pub marks: u64,
 }

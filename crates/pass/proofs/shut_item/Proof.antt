@@ -1,7 +1,7 @@
 use mathlib.Core.Path.{ap}
 use Rattle.ledger.specs.Faults.{marked}
 use Rattle.ledger.proofs.Entering.{entered-both}
-use Rattle.items.specs.declared.closing.Shut.{Shut}
+use Rattle.items.specs.declared.Shut.{Shut}
 use Rattle.pass.proofs.Walk.{entered-list}
 use borrow.Author.Needs.{needs}
 use Rattle.pass.proofs.shut_item.Statement.{statement}
