@@ -2,7 +2,7 @@
 // parts hold, else `-`. The verdicts are those of python-stdnum 1.18 (Debian python3-stdnum 1.18-1), `is_valid` of
 // stdnum.cz.bankaccount with a bank's code after the account. No number there is zero, which stdnum lets pass and document 01 does not.
 // Writes how many accounts it agrees on, and every line that it does not.
-use fields::accounts::Account;
+use figures::accounts::Account;
 ghost use Prim.Native.Nat.{_≤_};
 
 // Whether the check holds with a line's verdict, and whether it says that the account holds.
@@ -39,7 +39,7 @@ fn judged(line: &[u8]) -> Found {
         return compared(Account::NotDigits, 0);
     }
     compared(
-        fields::accounts::check(&line[0..dash], &line[dash + 1..gap]),
+        figures::accounts::check(&line[0..dash], &line[dash + 1..gap]),
         line[gap + 1],
     )
 }

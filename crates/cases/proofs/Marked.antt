@@ -15,10 +15,10 @@ use Rattle.headings.specs.Reading.{headingOf}
 use Rattle.headings.specs.Writing.{headingText}
 use Rattle.outcomes.specs.Outcomes.{outgoing, codes, inClass}
 use Rattle.outcomes.specs.Deriving.{barred, turned, deriveRefusals, derivedTarget}
-use Rattle.fields.specs.Layouts.{run, isEmpty, headIs, fits, part}
+use Rattle.figures.specs.Layouts.{run, isEmpty, headIs, fits, part}
 use Rattle.fields.specs.Kinds.{place, kindOf}
 use Rattle.fields.specs.Classes.{classOf, groupOf}
-use Rattle.fields.specs.Accounts.{weights, weighed, passes, accountHolds, accountOf}
+use Rattle.figures.specs.Accounts.{weights, weighed, passes, accountHolds, accountOf}
 use Rattle.fields.specs.Readings.{textOf, readingOf}
 use Rattle.fields.specs.Tails.{takes, reads, saysOf}
 use Rattle.blocks.specs.Marks.{readableMarks, marksAt}

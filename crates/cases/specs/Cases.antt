@@ -12,7 +12,7 @@ use Rattle.text.specs.Characters.{isAdmissible}
 use Rattle.days.specs.Days.{isReal}
 use Rattle.text.specs.Strings.{begins}
 use Rattle.outcomes.specs.Deriving.{deriveRefusals, derivedTarget}
-use Rattle.fields.specs.Accounts.{weighed, accountOf, accountValue}
+use Rattle.figures.specs.Accounts.{weighed, accountOf, accountValue}
 use Rattle.ledger.specs.Faults.{Fault, fault}
 use Rattle.items.specs.Faults.{faults}
 

@@ -10,10 +10,10 @@ use borrow.Author.Tests.{le-leb, lt-leb, leb-true, leb-false, eq-eqb, ne-eqb, eq
 use Rattle.fields.specs.declared.classes.Class.{Class}
 use Rattle.fields.specs.declared.classes.Class.the-variants.{Money, Number, Range, Group, Account, Text, Free}
 use Rattle.fields.specs.declared.tails.Tail.{Tail}
-use Rattle.fields.specs.Layouts.{bytes, noMore, fits, part}
+use Rattle.figures.specs.Layouts.{bytes, noMore, fits, part}
 use Rattle.fields.specs.Readings.{textOf, layoutOf, saidBy, ifFits, readingOf}
 use Rattle.fields.specs.Tails.{allFit, takes, reads, saysOf, isBroken, tailOf, tailMore, takesBy}
-use Rattle.fields.proofs.Endings.{bytes-are}
+use Rattle.figures.proofs.Endings.{bytes-are}
 
 -- two comparisons that hold and fail together
 same-leb : (a b c d : ℕ) → (a ≤ b → c ≤ d) → (b < a → d < c) → leb a b ≡ leb c d

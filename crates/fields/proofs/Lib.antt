@@ -1,14 +1,6 @@
-pub mod Tests
-pub mod Runs
-pub mod Scanning
-pub mod Pairs
-pub mod Told
-pub mod Endings
 pub mod Reach
 pub mod Meaning
 pub mod Says
-pub mod Weights
-pub mod Judged
 pub mod Places
 pub mod LineKinds
 pub mod Kept

@@ -15,7 +15,7 @@ use Rattle.text.specs.Strings.{begins}
 use Rattle.fields.specs.declared.kinds.Kind.{Kind}
 use Rattle.fields.specs.declared.kinds.Kind.the-variants.{Heading, Continuation, Field, Other}
 use Rattle.fields.specs.Kinds.{symbols, place, identOf, isField, kindBy, kindOf}
-use Rattle.fields.proofs.Tests.{and-parts}
+use Rattle.figures.proofs.Tests.{and-parts}
 use Rattle.fields.proofs.Places.{place-in}
 
 begins-length : (s x : List ℕ) → begins s x ≡ true → length x ≤ length s

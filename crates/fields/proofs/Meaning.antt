@@ -11,12 +11,12 @@ use lib.Dec.{leb, eqb}
 use borrow.Author.Tests.{leb-true, le-leb, eqb-true, eq-eqb, not-true}
 use Rattle.fields.specs.declared.classes.Class.{Class}
 use Rattle.fields.specs.declared.classes.Class.the-variants.{Money, Number, Range, Group, Account, Text, Free}
-use Rattle.fields.specs.Layouts.{Part, some, lit, mayEnd, rest, run, isEmpty, headIs, fits, part}
-use Rattle.fields.specs.Described.{allOf, Described, whole, stretch, stands, stops, goes-on, left}
+use Rattle.figures.specs.Layouts.{Part, some, lit, mayEnd, rest, run, isEmpty, headIs, fits, part}
+use Rattle.figures.specs.Described.{allOf, Described, whole, stretch, stands, stops, goes-on, left}
 use Rattle.fields.specs.Readings.{textOf, layoutOf}
 use Rattle.fields.specs.Tails.{takes, reads}
-use Rattle.fields.proofs.Tests.{and-parts}
-use Rattle.fields.proofs.Runs.{run-le, run-length, run-all}
+use Rattle.figures.proofs.Tests.{and-parts}
+use Rattle.figures.proofs.Runs.{run-le, run-length, run-all}
 
 -- the stretches that reading finds
 abbrev pub found : List Part → List ℕ → List (List ℕ)

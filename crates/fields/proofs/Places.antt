@@ -12,7 +12,7 @@ use borrow.Author.Tests.{ne-eqb, le-leb, lt-ltb, leb-true, ltb-true, eqb-true, e
 use Rattle.laws.specs.Tests.{among}
 use Rattle.laws.proofs.Finite.{at}
 use Rattle.laws.proofs.OneOf.{one-of}
-use Rattle.fields.proofs.Tests.{and-parts}
+use Rattle.figures.proofs.Tests.{and-parts}
 use Rattle.fields.specs.declared.classes.Class.{Class}
 use Rattle.fields.specs.declared.classes.Class.the-variants.{Money, Number, Range, Group, Account, Text, Free}
 use Rattle.fields.specs.Kinds.{symbols, place, named}

@@ -9,11 +9,11 @@ use lib.Seq.{take-take, take-nil}
 use lib.Dec.{lit≤}
 use Rattle.fields.specs.declared.classes.Class.{Class}
 use Rattle.fields.specs.declared.classes.Class.the-variants.{Money, Number, Range, Group, Account, Text, Free}
-use Rattle.fields.specs.Layouts.{Part, some, lit, mayEnd, rest, run, isEmpty, headIs, fits, part, reach}
+use Rattle.figures.specs.Layouts.{Part, some, lit, mayEnd, rest, run, isEmpty, headIs, fits, part, reach}
 use Rattle.fields.specs.Kinds.{kindOf}
 use Rattle.fields.specs.Readings.{textOf, layoutOf, readingOf}
 use Rattle.fields.proofs.LineKinds.{kind-take}
-use Rattle.fields.proofs.Runs.{run-le, run-take}
+use Rattle.figures.proofs.Runs.{run-le, run-take}
 
 drop-take : (n k : ℕ) (s : List ℕ) → n ≤ k → drop n (take k s) ≡ take (k - n) (drop n s)
 drop-take zero k s l = let e : k - 0 ≡ k = omega arith in rw e

@@ -8,21 +8,23 @@ use native.Mathlib.Omega.{arith}
 use lib.ListN.{length, take, drop, length-drop, drop-of-length-le}
 use lib.Seq.{drop-drop, length-take-le, take-all}
 use lib.Dec.{leb}
+use Rattle.laws.specs.Refusals.{first}
 use Rattle.text.specs.Digits.{isDigit, value}
-use Rattle.fields.specs.declared.numbers.Run.{Run}
-use Rattle.fields.specs.declared.numbers.Two.the-variants.{Found, NotTwo}
+use Rattle.figures.specs.declared.numbers.Run.{Run}
+use Rattle.figures.specs.declared.numbers.Two.the-variants.{Found, NotTwo}
 use Rattle.fields.specs.declared.classes.Class.{Class}
 use Rattle.fields.specs.declared.classes.Class.the-variants.{Number, Account, Text}
 use Rattle.fields.specs.declared.readings.Reading.{Reading}
 use Rattle.fields.specs.declared.readings.Reading.the-variants.{Broken, Plain, Party}
-use Rattle.fields.specs.Layouts.{Part, num, space, run, headIs, fits, part, maybeName}
-use Rattle.fields.specs.Numbers.{numberAt, twoOf}
-use Rattle.fields.specs.Accounts.{accountHolds, areDigits}
+use Rattle.figures.specs.Layouts.{Part, num, space, run, headIs, fits, part, maybeName}
+use Rattle.figures.specs.Numbers.{numberAt, twoOf}
+use Rattle.figures.specs.Accounts.{accountHolds, areDigits, accountOf, accountRefusals, accountValue}
 use Rattle.fields.specs.Readings.{textOf, layoutOf, saidBy, ifFits, readingOf}
-use Rattle.fields.proofs.Tests.{and-parts}
-use Rattle.fields.proofs.Runs.{run-length, run-again}
-use Rattle.fields.proofs.Told.{tests, not-found, known, size, first-is, second-is}
-use Rattle.fields.proofs.Endings.{bytes-are, empty-past}
+use Rattle.figures.proofs.Tests.{and-parts}
+use Rattle.figures.proofs.Runs.{run-length, run-again}
+use Rattle.figures.proofs.Told.{tests, not-found, known, size, first-is, second-is}
+use Rattle.figures.proofs.Endings.{bytes-are, empty-past}
+use Rattle.figures.proofs.Judged.{value-is}
 
 module _ (k : Class) (l₁ h₁ l₂ h₂ : ℕ) (ps : List Part) (t : List ℕ) (lay : layoutOf k .own ≡ num l₁ h₁ ∷ space ∷ num l₂ h₂ ∷ ps) where
   abbrev n₁ : ℕ
@@ -111,3 +113,14 @@ account-line t e =
       rw e,
       rw (first-part Account 0 6 1 10 maybeName t refl, second-part Account 0 6 1 10 maybeName t refl, alone 0 6 t, alone 1 10 (drop (run isDigit 6 t + 1) t), b .0, c .1),
     )
+
+-- where a line's account fits, the open check of its two parts refuses nothing and answers what the line says
+pub line-check : (t : List ℕ) → fits (layoutOf Account .own) t ≡ true
+    → (first (accountRefusals (part 0 (layoutOf Account .own) t) (part 1 (layoutOf Account .own) t)) ≡ 0)
+    × ((old : Bool) → readingOf Account t ≡ Party (accountValue (accountOf (part 0 (layoutOf Account .own) t) (part 1 (layoutOf Account .own) t)) old))
+line-check t e =
+    let p = part 0 (layoutOf Account .own) t in
+    let q = part 1 (layoutOf Account .own) t in
+    let l = account-line t e in
+    let z : first (accountRefusals p q) ≡ 0 = rw (l .1) in
+    (z, λ old. l .0 ∙ ap Party (sym (value-is p q old ∙ rw z)))

@@ -8,8 +8,8 @@ use Rattle.fields.specs.declared.classes.Class.{Class}
 use Rattle.fields.specs.declared.classes.Class.the-variants.{Money, Number, Range, Group, Account, Text, Free}
 use Rattle.fields.specs.declared.readings.Reading.{Reading}
 use Rattle.fields.specs.declared.readings.Reading.the-variants.{Broken, Plain, Paid, Span, Stated, Party}
-use Rattle.fields.specs.Layouts.{Layout, none, upTo, unread, num, bytes, space, rest, noMore, maybeRest, maybeName, fits, part}
-use Rattle.fields.specs.Accounts.{accountHolds}
+use Rattle.figures.specs.Layouts.{Layout, none, upTo, unread, num, bytes, space, rest, noMore, maybeRest, maybeName, fits, part}
+use Rattle.figures.specs.Accounts.{accountHolds}
 
 -- a line after its first three bytes: identifier and colon, or three spaces
 unfoldable pub textOf : List ℕ → List ℕ

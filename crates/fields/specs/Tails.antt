@@ -9,7 +9,7 @@ use Rattle.fields.specs.declared.classes.Class.{Class}
 use Rattle.fields.specs.declared.readings.Reading.{Reading}
 use Rattle.fields.specs.declared.readings.Reading.the-variants.{Broken, Plain, Paid, Span, Stated, Party}
 use Rattle.fields.specs.declared.tails.Tail.{Tail}
-use Rattle.fields.specs.Layouts.{Part, More, none, upTo, unread, bytes, noMore, fits}
+use Rattle.figures.specs.Layouts.{Part, More, none, upTo, unread, bytes, noMore, fits}
 use Rattle.fields.specs.Readings.{textOf, layoutOf, readingOf, ifFits}
 
 unfoldable pub allFit : List Part → List (List ℕ) → Bool

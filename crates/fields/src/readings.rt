@@ -1,13 +1,13 @@
 // What a field's own text says, class by class.
 use crate::classes::Class;
-use crate::numbers;
-use crate::numbers::Two;
-use crate::parts;
+use figures::numbers;
+use figures::numbers::Two;
+use figures::parts;
 use headings::Amount;
 use headings::ItemNo;
 ghost use mathlib.Core.Path.{_≡_};
 ghost use lib.ListN.{drop};
-ghost use Rattle.fields.specs.Layouts.{fits, noMore, maybeRest, maybeName};
+ghost use Rattle.figures.specs.Layouts.{fits, noMore, maybeRest, maybeName};
 ghost use Rattle.fields.specs.Readings.{textOf, readingOf, ifFits};
 
 // `Broken` where the text has not its layout. An amount and its day; the first and the last number; a group's count and sum;

@@ -1,7 +1,7 @@
 // The C face: numbers and bytes only. Each function answers 0, or the number of the refusal by document 01, and a refusal leaves
 // everything behind the pointers as it was. The promises are those of the jobs below, said with numbers: `listing` for checking,
-// `outcomes` for deriving, `fields` for the account check.
-use fields::accounts;
+// `outcomes` for deriving, `figures` for the account check.
+use figures::accounts;
 use listing::checking;
 ghost use mathlib.Core.Path.{_≡_};
 ghost use mathlib.Core.Bool.{cond};
@@ -10,7 +10,7 @@ ghost use lib.ListN.{length};
 ghost use mathlib.Core.List.{[]};
 ghost use Rattle.laws.specs.Refusals.{first};
 ghost use Rattle.outcomes.specs.Deriving.{deriveRefusals, derivedTarget};
-ghost use Rattle.fields.specs.Accounts.{accountRefusals, accountHolds};
+ghost use Rattle.figures.specs.Accounts.{accountRefusals, accountHolds};
 ghost use Rattle.items.specs.Faults.{faults};
 ghost use Rattle.listing.specs.Checking.{checkRefusals};
 ghost use Rattle.host.specs.Face.{totalAfter, ListedAt};

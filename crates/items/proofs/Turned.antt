@@ -9,7 +9,7 @@ use native.Mathlib.Omega.{arith}
 use lib.Dec.{eqb}
 use lib.ListN.{length}
 use Rattle.fields.specs.declared.readings.Reading.{Reading}
-use Rattle.fields.specs.Layouts.{Part, fits}
+use Rattle.figures.specs.Layouts.{Part, fits}
 use Rattle.fields.specs.Classes.{classOf}
 use Rattle.fields.specs.Readings.{textOf, readingOf, ifFits}
 use Rattle.fields.specs.Tails.{allFit, tailOf, takesBy, saysOf}

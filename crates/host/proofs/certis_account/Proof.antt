@@ -1,7 +1,7 @@
 use mathlib.Core.Path.{ap, _∙_}
-use Rattle.fields.specs.declared.accounts.Account.{Account}
-use Rattle.fields.specs.Accounts.{accountValue}
-use Rattle.fields.proofs.Judged.{value-is}
+use Rattle.figures.specs.declared.accounts.Account.{Account}
+use Rattle.figures.specs.Accounts.{accountValue}
+use Rattle.figures.proofs.Judged.{value-is}
 use borrow.Author.Needs.{needs}
 use Rattle.host.proofs.certis_account.Statement.{statement}
 use Rattle.host.proofs.certis_account.Tie as tie

@@ -1,6 +1,6 @@
 use native.Mathlib.Omega.{arith}
 use borrow.Author.Needs.{needs}
-use Rattle.fields.proofs.Tests.{between}
+use Rattle.figures.proofs.Tests.{between}
 use Rattle.fields.proofs.Places.{symbol-at}
 use Rattle.fields.proofs.kinds.place_of.Statement.{statement}
 use Rattle.fields.proofs.kinds.place_of.Tie as tie

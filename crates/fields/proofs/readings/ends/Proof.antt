@@ -1,6 +1,6 @@
 use Rattle.fields.proofs.readings.ends.Statement.{statement}
 use Rattle.fields.proofs.readings.ends.Tie as tie
-use Rattle.fields.proofs.Endings.{no-more}
+use Rattle.figures.proofs.Endings.{no-more}
 
 returns : tie.Need-returns
 returns c = no-more (c .args .t .now) (c .args .at)

@@ -1,7 +1,7 @@
 use borrow.Author.Needs.{needs}
 use Rattle.fields.proofs.readings.ends_or_name.Statement.{statement}
 use Rattle.fields.proofs.readings.ends_or_name.Tie as tie
-use Rattle.fields.proofs.Endings.{name-past, name-other, name-at}
+use Rattle.figures.proofs.Endings.{name-past, name-other, name-at}
 
 returns : tie.Need-returns
 returns c = name-past _ _ (c .if1 .taken)

@@ -1,7 +1,7 @@
 use borrow.Author.Needs.{needs}
 use Rattle.fields.proofs.readings.ends_or_rest.Statement.{statement}
 use Rattle.fields.proofs.readings.ends_or_rest.Tie as tie
-use Rattle.fields.proofs.Endings.{rest-past, rest-at}
+use Rattle.figures.proofs.Endings.{rest-past, rest-at}
 
 returns : tie.Need-returns
 returns c = rest-past _ _ (c .if1 .taken)

@@ -8,8 +8,8 @@ use Prim.Native.Nat.{ℕ}
 use lib.Seq.{length-take-le}
 use Rattle.fields.specs.declared.classes.Class.the-variants.{Account}
 use Rattle.fields.specs.declared.readings.Reading.the-variants.{Party}
-use Rattle.fields.specs.Layouts.{maybeName}
-use Rattle.fields.proofs.Told.{placed, digits-of}
+use Rattle.figures.specs.Layouts.{maybeName}
+use Rattle.figures.proofs.Told.{placed, digits-of}
 use Rattle.fields.proofs.Says.{not-two, made}
 
 abbrev T : tie.After-read-two → List ℕ

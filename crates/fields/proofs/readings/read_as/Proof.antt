@@ -2,7 +2,7 @@ use borrow.Author.Needs.{needs}
 use Rattle.fields.proofs.readings.read_as.Statement.{statement}
 use Rattle.fields.proofs.readings.read_as.Tie as tie
 use mathlib.Core.Path.{refl}
-use Rattle.fields.specs.Layouts.{fits}
+use Rattle.figures.specs.Layouts.{fits}
 use Rattle.fields.specs.Readings.{readingOf}
 
 enum-told : tie.Need-enum-told

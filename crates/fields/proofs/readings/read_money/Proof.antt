@@ -7,8 +7,8 @@ use mathlib.Core.List.{List}
 use Prim.Native.Nat.{ℕ}
 use Rattle.fields.specs.declared.classes.Class.the-variants.{Money}
 use Rattle.fields.specs.declared.readings.Reading.the-variants.{Paid}
-use Rattle.fields.specs.Layouts.{maybeRest}
-use Rattle.fields.proofs.Told.{second-lt}
+use Rattle.figures.specs.Layouts.{maybeRest}
+use Rattle.figures.proofs.Told.{second-lt}
 use Rattle.fields.proofs.Says.{not-two, made-by}
 
 abbrev T : tie.After-read-two → List ℕ

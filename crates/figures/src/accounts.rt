@@ -1,0 +1,63 @@
+// The account check, an open job, and its answer as document 01's number and value.
+use crate::numbers;
+use crate::parts;
+ghost use mathlib.Core.Path.{_≡_};
+ghost use Rattle.laws.specs.Refusals.{first};
+ghost use Rattle.figures.specs.Accounts.{accountBy, accountOf, accountRefusals, accountNumber, accountValue};
+
+// Both parts hold; one does not; they are no 0 to 6 and 1 to 10 digits.
+pub enum Account {
+    Holds,
+    Fails,
+    NotDigits,
+}
+
+fn account_by(digits: bool, hold: bool) -> Account
+    ensures { λ r. ⌜ r ≡ accountBy digits hold ⌝ }
+{
+    if digits {
+        if hold {
+            return Account::Holds;
+        }
+        return Account::Fails;
+    }
+    Account::NotDigits
+}
+
+// Whether the two parts of an account hold. Any bytes may be given.
+pub fn check(prefix: &[u8], number: &[u8]) -> Account
+    ensures answer { λ r. ⌜ r ≡ accountOf (now (prefix .entry)) (now (number .entry)) ⌝ }
+    ensures refusal { λ r. ⌜ accountNumber r ≡ first (accountRefusals (now (prefix .entry)) (now (number .entry))) ⌝ }
+{
+    let a = numbers::number_at(prefix, 0, 6);
+    let b = numbers::number_at(number, 0, 10);
+    if a.end < prefix.len() {
+        return Account::NotDigits;
+    }
+    if b.end < number.len() {
+        return Account::NotDigits;
+    }
+    account_by(1 <= b.end, parts::parts_hold(prefix, number, b.value))
+}
+
+// Document 01's number of an answer, 0 for none.
+pub fn number_of(a: Account) -> u32
+    ensures { λ r. ⌜ r ≡ accountNumber a ⌝ }
+{
+    match a {
+        Account::Holds => 0,
+        Account::Fails => 0,
+        Account::NotDigits => 10,
+    }
+}
+
+// Whether both parts hold; on a refusal what stood there before.
+pub fn value_of(a: Account, old: bool) -> bool
+    ensures { λ r. ⌜ r ≡ accountValue a old ⌝ }
+{
+    match a {
+        Account::Holds => true,
+        Account::Fails => false,
+        Account::NotDigits => old,
+    }
+}
