@@ -1,6 +1,6 @@
 -- 'The rules broken at one line form one set of marks': bit r for rule r. Here the marks of a heading, of which 16 is not one:
 -- it needs the items below.
-use Prim.Native.Nat.{ℕ, _+_, _-_, _^_}
+use Prim.Native.Nat.{ℕ, _+_, _-_}
 use mathlib.Core.Bool.{Bool, cond, _&&_}
 use mathlib.Core.List.{List}
 use Rattle.laws.specs.Tests.{mark}

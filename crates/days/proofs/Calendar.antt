@@ -1,17 +1,16 @@
 -- Laws of the rows of month lengths and of the running day number.
-use mathlib.Core.Path.{_≡_, refl, ap, _∙_, sym}
+use mathlib.Core.Path.{_≡_, refl, ap, _∙_}
 use mathlib.Core.Bool.{Bool, true, false, not, _&&_, _||_, and-true}
 use mathlib.Core.List.{List, [], _∷_}
 use Prim.Native.Nat.{ℕ, zero, suc, _+_, _-_, _*_, _/_, _%_, _≤_, _<_, zero-le}
-use native.Mathlib.Nat.{add-zero, zero-add, add-assoc, le-of-suc-le-suc, not-suc-le-zero}
 use native.Mathlib.Omega.{arith}
-use lib.ListN.{length, getD, take, List·getD-eq-default}
-use lib.Dec.{T, leb, ltb, eqb, leb→le}
+use lib.ListN.{getD, take, List·getD-eq-default}
+use lib.Dec.{leb, ltb, eqb, leb→le}
 use mathlib.Core.Logic.{_⊎_, inl, inr, ⊎-elim}
 use borrow.Author.Tests.{le-leb, ltb-true, ltb-false, eqb-true, eqb-false}
 use Rattle.laws.proofs.Entries.{at}
 use Rattle.laws.proofs.Every.{one-fails}
-use Rattle.days.specs.Days.{isLeap, row, sum, daysBefore, dayNumber, yearOf, monthOf, dateOf, isReal, realTests, monthLength}
+use Rattle.days.specs.Days.{isLeap, row, sum, daysBefore, yearOf, monthOf, dateOf, isReal, realTests, monthLength}
 
 pub row-past : (b : Bool) (k : ℕ) → 12 ≤ k → getD (row b) k 0 ≡ 0
 unfolding row

@@ -3,13 +3,13 @@ use mathlib.Core.Path.{_≡_, refl, ap, _∙_, sym}
 use mathlib.Core.Bool.{Bool, true, false, cond}
 use mathlib.Core.List.{List, [], _∷_}
 use mathlib.Core.Logic.{⊎-elim}
-use Prim.Native.Nat.{ℕ, zero, suc, _+_, _-_, _*_, _/_, _%_, _≤_, _<_, zero-le}
+use Prim.Native.Nat.{ℕ, zero, suc, _+_, _-_, _*_, _≤_, _<_, zero-le}
 use native.Mathlib.Nat.{add-zero, le-antisymm, eq-or-lt-of-le, le-refl, le-trans, le-add-right, add-suc, add-sub-cancel, le-of-suc-le-suc, not-suc-le-zero}
 use native.Mathlib.Omega.{arith}
-use lib.ListN.{length, getD, take}
+use lib.ListN.{getD, take}
 use native.Mathlib.Numerals.{add-one}
 use lib.Arith.{lt-of-le-ne}
-use lib.Dec.{T, leb, ltb, eqb, leb→le}
+use lib.Dec.{leb, ltb, eqb, leb→le}
 use borrow.Author.Tests.{leb-true, ltb-true, ltb-false, le-leb, eqb-true, eqb-false}
 use Rattle.laws.proofs.Every.{each-holds}
 use Rattle.laws.proofs.Entries.{at}

@@ -7,7 +7,6 @@ ghost use mathlib.Core.Path.{_≡_};
 ghost use mathlib.Core.Bool.{cond};
 ghost use lib.Dec.{eqb};
 ghost use lib.ListN.{length};
-ghost use mathlib.Core.List.{[]};
 ghost use Rattle.laws.specs.Refusals.{first};
 ghost use Rattle.outcomes.specs.Deriving.{deriveRefusals, derivedTarget};
 ghost use Rattle.figures.specs.Accounts.{accountRefusals, accountHolds};

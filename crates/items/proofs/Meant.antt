@@ -1,9 +1,9 @@
 -- All that the code holds, against what is open: the flat state, the claims, the account, who waits, and the lines at which identifiers
 -- last stood. What each line enters is what the pass puts out.
 use mathlib.Core.Path.{_≡_, refl, sym, ap, _∙_}
-use mathlib.Core.Bool.{Bool, true, false, cond, not, _&&_, _||_}
+use mathlib.Core.Bool.{Bool, true, false, not, _&&_, _||_}
 use mathlib.Core.Option.{none, some}
-use mathlib.Core.List.{List, [], _∷_, _++_, map}
+use mathlib.Core.List.{List, [], _∷_, _++_}
 use Prim.Native.Nat.{ℕ, zero, suc, _+_, _≤_, _<_}
 use native.Mathlib.Nat.{add-assoc}
 use native.Mathlib.Omega.{arith}
@@ -15,35 +15,34 @@ use Rattle.laws.specs.Tests.{mark}
 use Rattle.ledger.specs.Faults.{Fault, Entry, insertAll, marked}
 use Rattle.ledger.proofs.Insertion.{insertAll-append}
 use Rattle.ledger.proofs.Entries.{putAll, putAll-append, put}
-use Rattle.headings.specs.declared.Code.{Code}
 use Rattle.headings.specs.declared.Read.{Read}
 use Rattle.headings.specs.declared.Read.the-variants.{Reads, Unreadable}
 use Rattle.fields.specs.declared.readings.Reading.{Reading}
 use Rattle.fields.specs.declared.readings.Reading.the-variants.{Broken, Plain, Paid, Span, Stated, Party}
 use Rattle.fields.specs.Kinds.{named}
 use Rattle.fields.specs.Classes.{classOf}
-use Rattle.fields.specs.Tails.{isBroken, reads}
+use Rattle.fields.specs.Tails.{isBroken}
 use Rattle.fields.proofs.Kept.{broken}
 use Rattle.blocks.specs.declared.Job.{Job}
 use Rattle.blocks.specs.declared.Block.{Block}
 use Rattle.blocks.specs.OwnRules.{noKc}
-use Rattle.blocks.specs.Model.{jobOf, breaks8}
+use Rattle.blocks.specs.Model.{jobOf}
 use Rattle.blocks.proofs.Accounting.{same-eight}
 use Rattle.items.specs.declared.Live.{Live}
 use Rattle.items.specs.declared.Claims.{Claims}
 use Rattle.items.specs.declared.Wait.{Wait}
 use Rattle.items.specs.declared.Shut.{Shut}
-use Rattle.items.specs.Rows.{Row, FieldRow, LowRow, Sorted, heading, field, low}
+use Rattle.items.specs.Rows.{Row, FieldRow, LowRow, heading, field, low}
 use Rattle.items.specs.Tree.{Group, Item}
 use Rattle.items.specs.Fields.{lineMarks, lowMarks, continuations, says, stands, rule6, failsCheck, isFirstKc, late, large, fieldMarks, looseMarks}
-use Rattle.items.specs.Headings.{continued, headOf, is, kcOf, ends, fresh}
+use Rattle.items.specs.Headings.{headOf, is, kcOf, ends, fresh}
 use Rattle.items.specs.Faults.{entry, lowEntry, fieldEntry}
 use Rattle.items.specs.Kept.{headKept, fieldKept, lowKept}
-use Rattle.items.specs.State.{saidOf, readOf, lowLive, fieldLive, headLive, noClaims, claimsAfter, ownMarks, lowMarksOf, firstKc, lateBy, kcMarks, insideMarks, fieldMarksOf, fieldFaults, itemFaults, openFaults, lastFaults, closeModel, lastMarks, headMarksOf}
-use Rattle.items.proofs.Ideal.{Open, start, early, atHead, atField, closed, item, push, waits, headsOut, out, lastOut, final}
-use Rattle.items.proofs.Turned.{continued-closed, firstUp, says-closed}
+use Rattle.items.specs.State.{saidOf, readOf, lowLive, fieldLive, headLive, noClaims, claimsAfter, lowMarksOf, lateBy, kcMarks, insideMarks, fieldMarksOf, fieldFaults, itemFaults, openFaults, lastFaults, closeModel, lastMarks, headMarksOf}
+use Rattle.items.proofs.Ideal.{Open, start, early, atHead, atField, closed, item, push, waits, headsOut, out, final}
+use Rattle.items.proofs.Turned.{firstUp}
 use Rattle.items.proofs.Opened.{said-is, live, low-is, field-is, head-is, no-kc-is, claimsOf, claims, no-claims-is, claimsThen, claims-is, claims-field}
-use Rattle.items.proofs.Shutting.{put-none, accountOf, wait, last-out, read-is, shut-is, closesAs, account-of, wait-of, item-out}
+use Rattle.items.proofs.Shutting.{put-none, accountOf, wait, last-out, read-is, shut-is, account-of, wait-of, item-out}
 
 -- ---- the lines at which identifiers last stood
 

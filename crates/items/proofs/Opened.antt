@@ -1,19 +1,19 @@
 -- The code's state is a function of the open pieces: what is open, what is claimed, and how each line changes both.
 use mathlib.Core.Path.{_≡_, refl, sym, ap, _∙_}
-use mathlib.Core.Bool.{Bool, true, false, cond, not, _&&_, _||_}
+use mathlib.Core.Bool.{Bool, true, false, cond, not, _||_}
 use mathlib.Core.Option.{Option, none, some}
-use mathlib.Core.List.{List, [], _∷_, reverseAux}
+use mathlib.Core.List.{List, [], _∷_}
 use Prim.Native.Nat.{ℕ, zero, suc, _≤_, _<_}
 use native.Mathlib.Omega.{arith}
-use lib.Dec.{eqb, leb, ltb}
-use lib.ListN.{length, getD, set}
-use borrow.Author.Tests.{le-leb, ne-eqb, eqb-true, eqb-false, ltb-true, ltb-false, lt-ltb, le-ltb}
+use lib.Dec.{eqb, ltb}
+use lib.ListN.{length}
+use borrow.Author.Tests.{le-leb, ne-eqb, eqb-true, ltb-false}
 use Rattle.fields.specs.declared.readings.Reading.{Reading}
 use Rattle.fields.specs.declared.readings.Reading.the-variants.{Broken, Plain, Paid, Span, Stated, Party}
 use Rattle.fields.specs.declared.tails.Tail.{Tail}
 use Rattle.fields.specs.Kinds.{named, place}
 use Rattle.fields.specs.Classes.{groupOf}
-use Rattle.fields.specs.Tails.{tailOf, tailMore}
+use Rattle.fields.specs.Tails.{tailOf}
 use Rattle.laws.proofs.Any.{or-left, or-right}
 use Rattle.fields.proofs.Kept.{tail-more}
 use Rattle.blocks.specs.declared.Kc.{Kc}
@@ -23,12 +23,12 @@ use Rattle.blocks.specs.declared.Sum.{Sum}
 use Rattle.blocks.specs.OwnRules.{noKc}
 use Rattle.items.specs.declared.Live.{Live}
 use Rattle.items.specs.declared.Claims.{Claims}
-use Rattle.items.specs.Rows.{Row, FieldRow, LowRow, Sorted, heading, field, low}
-use Rattle.items.specs.Tree.{Group, Item}
+use Rattle.items.specs.Rows.{Row, FieldRow, LowRow, heading, field, low}
+use Rattle.items.specs.Tree.{Group}
 use Rattle.items.specs.Fields.{continuations, says, stands}
-use Rattle.items.specs.Headings.{continued, orElse, ifThere, firstSaid, is, isGroup, kcBy, kcOf, spanBy, spanOf, statedBy, statedOf, nine}
+use Rattle.items.specs.Headings.{continued, orElse, ifThere, is, isGroup, kcBy, kcOf, spanBy, spanOf, statedBy, statedOf, nine}
 use Rattle.items.specs.Kept.{headKept, fieldKept, lowKept}
-use Rattle.items.specs.State.{noHead, noField, quiet, saidOf, tailAfter, lowLive, kcKept, fieldLive, headLive, noSum, noClaims, isClaim, spanKept, statedKept, groupClaims, claimsWith, claimsAfter}
+use Rattle.items.specs.State.{noHead, noField, quiet, saidOf, tailAfter, lowLive, kcKept, fieldLive, headLive, noClaims, spanKept, statedKept, groupClaims, claimsWith, claimsAfter}
 use Rattle.items.proofs.Ideal.{Open, start, early, atHead, atField, closed, push}
 use Rattle.items.proofs.Turned.{firstUp, says-closed}
 

@@ -1,17 +1,16 @@
 -- An item closes: the account, the heading that waits for 16, and what is entered, against the tree.
 use mathlib.Core.Path.{_≡_, refl, sym, ap, _∙_}
-use mathlib.Core.Bool.{Bool, true, false, cond, not, _&&_, _||_}
-use mathlib.Core.List.{List, [], _∷_, _++_, map, reverseAux}
+use mathlib.Core.Bool.{Bool, true, false, cond, not}
+use mathlib.Core.List.{List, [], _∷_, map}
 use Prim.Native.Nat.{ℕ, _+_, _^_}
 use native.Mathlib.Nat.{add-zero}
 use Rattle.laws.specs.Tests.{mark}
-use Rattle.ledger.specs.Faults.{Fault, Entry, insertAll, marked}
+use Rattle.ledger.specs.Faults.{Fault, Entry, insertAll}
 use Rattle.ledger.proofs.Marks.{no-rules}
 use Rattle.ledger.proofs.Entries.{putAll, put}
 use Rattle.headings.specs.declared.Code.{Code}
 use Rattle.headings.specs.declared.Read.{Read}
-use Rattle.headings.specs.declared.Read.the-variants.{Reads, Unreadable}
-use Rattle.headings.specs.Reading.{headingOf}
+use Rattle.headings.specs.declared.Read.the-variants.{Unreadable}
 use Rattle.fields.specs.Kinds.{named}
 use Rattle.blocks.specs.declared.Block.{Block}
 use Rattle.blocks.specs.declared.Item.{Item as Digest}
@@ -21,19 +20,18 @@ use Rattle.blocks.specs.Model.{jobOf}
 use Rattle.blocks.specs.Model.{closeModel as blockModel}
 use Rattle.blocks.specs.Summary.{summary}
 use Rattle.blocks.proofs.Accounting.{account}
-use Rattle.items.specs.declared.Live.{Live}
 use Rattle.items.specs.declared.Claims.{Claims}
 use Rattle.items.specs.declared.Wait.{Wait}
 use Rattle.items.specs.declared.Shut.{Shut}
 use Rattle.items.specs.Rows.{Row, FieldRow, LowRow}
 use Rattle.items.specs.Tree.{Group, Item}
-use Rattle.items.specs.Fields.{lineMarks, stands}
-use Rattle.items.specs.Headings.{continued, headOf, isUnreadable, firstSaid, is, isGroup, kcOf, spanOf, statedOf, nine, digest, ends, fresh, headMarks}
+use Rattle.items.specs.Fields.{lineMarks}
+use Rattle.items.specs.Headings.{continued, headOf, isUnreadable, is, isGroup, kcOf, spanOf, statedOf, nine, digest, ends, fresh, headMarks}
 use Rattle.items.specs.Faults.{entry, headEntry}
 use Rattle.items.specs.Kept.{headKept}
-use Rattle.items.specs.State.{ownMarks, noWait, headMarksOf, shut, shutAs, lastMarks}
+use Rattle.items.specs.State.{ownMarks, noWait, shut, shutAs, lastMarks}
 use Rattle.items.proofs.Ideal.{closed, item, waitsAt, outAt, waits, headsOut}
-use Rattle.items.proofs.Turned.{continued-closed, stands-closed, firstUp, first-closed}
+use Rattle.items.proofs.Turned.{continued-closed, stands-closed, first-closed}
 use Rattle.items.proofs.Opened.{claimsOf}
 
 -- no marks, nothing entered

@@ -1,18 +1,18 @@
 -- A line that is told by its first 64 bytes, its length and two flags is told whole.
 use mathlib.Core.Path.{_≡_, refl, sym, ap, _∙_}
-use mathlib.Core.Bool.{Bool, true, false, cond}
-use mathlib.Core.List.{List, [], _∷_}
+use mathlib.Core.Bool.{Bool, true, false}
+use mathlib.Core.List.{List}
 use Prim.Native.Nat.{ℕ, _≤_, _<_, min}
 use native.Mathlib.Omega.{arith}
 use lib.Dec.{leb}
 use lib.ListN.{length, take}
 use lib.Seq.{take-all, length-take-le}
 use borrow.Author.Tests.{leb-true, leb-false}
-use Rattle.text.specs.Forms.{template, hasForm}
+use Rattle.text.specs.Forms.{template}
 use Rattle.text.proofs.Matching.{unequal}
 use Rattle.headings.specs.declared.Read.{Read}
-use Rattle.headings.specs.declared.Read.the-variants.{Reads, Unreadable}
-use Rattle.headings.specs.Reading.{layout, headingFrom, headingOf}
+use Rattle.headings.specs.declared.Read.the-variants.{Unreadable}
+use Rattle.headings.specs.Reading.{layout, headingOf}
 use Rattle.fields.specs.declared.kinds.Kind.{Kind}
 use Rattle.fields.specs.declared.kinds.Kind.the-variants.{Heading, Continuation, Field, Other}
 use Rattle.fields.specs.declared.readings.Reading.{Reading}
@@ -20,14 +20,13 @@ use Rattle.fields.specs.Kinds.{kindOf}
 use Rattle.fields.specs.Classes.{classOf}
 use Rattle.fields.proofs.Reach.{first-64}
 use Rattle.fields.proofs.LineKinds.{field-is}
-use Rattle.items.specs.declared.Line.{Line}
 use Rattle.items.specs.declared.Line.the-variants.{OfHead, OfField, OfLow}
 use Rattle.items.specs.declared.Head.{Head}
 use Rattle.items.specs.declared.Field.{Field as FieldKept}
 use Rattle.items.specs.declared.Low.{Low}
 use Rattle.items.specs.Rows.{Row, FieldRow, LowRow, Sorted, heading, field, low, sortedAs, sorted}
 use Rattle.items.specs.Fields.{rule1}
-use Rattle.items.specs.Kept.{headTold, fieldTold, toldAs, lineTold, headKept, fieldKept, lowKept, lineKept}
+use Rattle.items.specs.Kept.{toldAs, lineTold, headKept, fieldKept, lowKept, lineKept}
 
 -- a text of another length than 54 is no heading
 other-length : (s : List ℕ) → (length s ≡ 54 → ⊥) → headingOf s ≡ Unreadable

@@ -1,9 +1,9 @@
 -- What is read in line order, taken from the open pieces, which have the nearest first.
-use mathlib.Core.Path.{_≡_, refl, sym, ap, _∙_}
-use mathlib.Core.Bool.{Bool, true, false, cond, not, _&&_, _||_, or-false}
+use mathlib.Core.Path.{_≡_, refl, sym, _∙_}
+use mathlib.Core.Bool.{Bool, true, false, cond, _&&_, _||_, or-false}
 use mathlib.Core.Option.{Option, none, some}
 use mathlib.Core.List.{List, [], _∷_, reverseAux}
-use Prim.Native.Nat.{ℕ, suc, _+_}
+use Prim.Native.Nat.{ℕ, _+_}
 use native.Mathlib.Nat.{zero-add, add-zero}
 use native.Mathlib.Omega.{arith}
 use lib.Dec.{eqb}
@@ -12,7 +12,7 @@ use Rattle.fields.specs.declared.readings.Reading.{Reading}
 use Rattle.figures.specs.Layouts.{Part, fits}
 use Rattle.fields.specs.Classes.{classOf}
 use Rattle.fields.specs.Readings.{textOf, readingOf, ifFits}
-use Rattle.fields.specs.Tails.{allFit, tailOf, takesBy, saysOf}
+use Rattle.fields.specs.Tails.{allFit, tailOf, takesBy}
 use Rattle.fields.proofs.Kept.{same-tail}
 use Rattle.fields.proofs.Kept.{says as said-with}
 use Rattle.items.specs.Rows.{FieldRow, LowRow}

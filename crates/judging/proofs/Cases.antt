@@ -14,7 +14,7 @@ use Rattle.blocks.specs.Model.{closeModel as blockModel}
 use Rattle.items.specs.declared.Live.{Live}
 use Rattle.items.specs.declared.Claims.{Claims}
 use Rattle.items.specs.declared.Wait.{Wait}
-use Rattle.items.specs.State.{ownMarks, insideMarks, fieldMarksOf, readOf, noWait, itemModel, headMarksOf, shut, shutAs, closeModel}
+use Rattle.items.specs.State.{ownMarks, insideMarks, fieldMarksOf, noWait, itemModel, headMarksOf, shut, shutAs, closeModel}
 
 -- 8 and 9 at a field that pays nothing
 pub neither : (first : Bool) → _≡_ {A = ℕ} 0 (mark 8 (first && false) + mark 9 (first && false))

@@ -9,7 +9,7 @@ use items::Live;
 use items::Shut;
 use items::Wait;
 ghost use mathlib.Core.Path.{_≡_};
-ghost use Prim.Native.Nat.{_≤_, _<_, _+_, _^_};
+ghost use Prim.Native.Nat.{_<_, _+_, _^_};
 ghost use Rattle.items.specs.Headings.{isUnreadable};
 ghost use Rattle.items.specs.State.{noWait, itemModel, headMarksOf, closeModel, lastMarks};
 

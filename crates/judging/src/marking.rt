@@ -8,7 +8,7 @@ use headings::Read;
 use items::Live;
 use items::Low;
 ghost use mathlib.Core.Path.{_≡_};
-ghost use Prim.Native.Nat.{_<_, _≤_, _^_};
+ghost use Prim.Native.Nat.{_<_, _≤_};
 ghost use Rattle.fields.specs.Tails.{isBroken};
 ghost use Rattle.items.specs.Fields.{failsCheck};
 ghost use Rattle.items.specs.State.{ownMarks, lowMarksOf, kcMarks, firstKc, insideMarks, fieldMarksOf};

@@ -2,7 +2,7 @@
 use Prim.Native.Nat.{ℕ}
 use mathlib.Core.List.{List, [], _∷_}
 use Prim.Native.String.{String, [] as []ˢ, _∷_ as _∷ˢ_}
-use Prim.Native.Char.{Char, code}
+use Prim.Native.Char.{code}
 
 abbrev pub ascii : String → List ℕ
 ascii []ˢ = []

@@ -1,23 +1,21 @@
 -- What checking answers, by the tests in their order; and that two answers that meet its statement are equal.
-use Prim.Native.Nat.{ℕ, zero, suc, _≤_, _<_}
-use native.Mathlib.Nat.{not-suc-le-zero}
+use Prim.Native.Nat.{ℕ, _≤_, _<_}
 use native.Mathlib.Omega.{arith}
 use mathlib.Core.Path.{_≡_, refl, sym, ap, _∙_}
-use mathlib.Core.Bool.{Bool, true, false, cond, not, _&&_}
-use mathlib.Core.List.{List, [], _∷_}
-use lib.Dec.{leb, ltb, eqb}
+use mathlib.Core.Bool.{true, false, not}
+use mathlib.Core.List.{List}
+use lib.Dec.{ltb, eqb}
 use lib.ListN.{length, take}
-use borrow.Author.Tests.{not-true, not-false, lt-ltb, le-ltb, eq-eqb, ne-eqb}
-use Rattle.laws.specs.Refusals.{_if_, first}
+use borrow.Author.Tests.{lt-ltb, le-ltb, eq-eqb, ne-eqb}
+use Rattle.laws.specs.Refusals.{first}
 use Rattle.lines.specs.Lines.{body, hasMark, startsWithMark}
 use Rattle.lines.proofs.Body.{body-take, body-shorter, body-empty}
-use Rattle.ledger.specs.Faults.{Fault}
 use Rattle.ledger.specs.Slices.{Listed}
 use Rattle.ledger.specs.declared.Ledger.{Ledger}
 use Rattle.items.specs.Faults.{faults, faultsIn}
 use Rattle.listing.specs.declared.checking.Checked.{Checked}
 use Rattle.listing.specs.declared.checking.Checked.the-variants.{Total, BadCode, BadDay, TooLong, UnequalRooms, NoMark, StartsWithMark}
-use Rattle.listing.specs.Checking.{isCode, isAccountingDay, checkRefusals, checkedNumber, checkedOr, slicesAfter, Checks}
+use Rattle.listing.specs.Checking.{isCode, isAccountingDay, checkRefusals, checkedNumber, checkedOr, Checks}
 
 module _ (file : List ℕ) (code day : ℕ) (ls rs : List ℕ) where
   abbrev refusal : ℕ

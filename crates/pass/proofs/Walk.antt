@@ -14,7 +14,7 @@ use Rattle.lines.specs.Lines.{lines}
 use Rattle.lines.specs.Reading.{span, IsNext}
 use Rattle.lines.specs.declared.Found.{Found}
 use Rattle.lines.proofs.Lines.{lines-past}
-use Rattle.ledger.specs.Faults.{Fault, Entry, insertAll, marked}
+use Rattle.ledger.specs.Faults.{Fault, insertAll, marked}
 use Rattle.ledger.specs.Slices.{Ready, Entered, Listed}
 use Rattle.ledger.specs.declared.Ledger.{Ledger}
 use Rattle.ledger.proofs.Marks.{marked-few}
@@ -23,7 +23,6 @@ use Rattle.ledger.proofs.Entries.{putAll, put, put-comm, in-line-order}
 use Rattle.ledger.proofs.Book.{Book, book-start, book-ready, book-more, book-listed}
 use Rattle.blocks.specs.declared.Job.{Job}
 use Rattle.blocks.specs.declared.Block.{Block}
-use Rattle.blocks.specs.Model.{jobOf}
 use Rattle.blocks.specs.Summary.{summary}
 use Rattle.items.specs.declared.Head.{Head}
 use Rattle.items.specs.declared.Field.{Field}
@@ -33,11 +32,11 @@ use Rattle.items.specs.declared.Line.the-variants.{OfHead, OfField, OfLow}
 use Rattle.items.specs.declared.Live.{Live}
 use Rattle.items.specs.declared.Claims.{Claims}
 use Rattle.items.specs.declared.Wait.{Wait}
-use Rattle.items.specs.Rows.{Row, FieldRow, LowRow, Sorted, heading, field, low, sorted, rowsFrom}
+use Rattle.items.specs.Rows.{Row, Sorted, heading, field, low, sorted, rowsFrom}
 use Rattle.items.specs.Tree.{tree}
 use Rattle.items.specs.Faults.{declare, faultsIn}
 use Rattle.items.specs.Fields.{rule1}
-use Rattle.items.specs.Kept.{lineTold, lineKept, headKept, fieldKept, lowKept}
+use Rattle.items.specs.Kept.{lineTold, lineKept}
 use Rattle.items.specs.State.{isClaim, quiet, lowLive, fieldLive, headLive, noClaims, claimsAfter, lowMarksOf, fieldMarksOf, noWait, closeModel, fieldFaults, itemFaults, openFaults, lastFaults}
 use Rattle.items.proofs.Ideal.{Open, start, push, out, final}
 use Rattle.items.proofs.Order.{run, emitted}

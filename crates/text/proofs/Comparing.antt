@@ -1,6 +1,6 @@
 -- A loop that compares a text's start with a string: at place i, what is left of the one begins with what is left of the other
 -- just where the whole does.
-use mathlib.Core.Path.{_≡_, sym, _∙_}
+use mathlib.Core.Path.{_≡_}
 use mathlib.Core.Bool.{true, false}
 use mathlib.Core.List.{List}
 use Prim.Native.Nat.{ℕ, _+_, _<_, _≤_}

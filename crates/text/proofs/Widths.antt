@@ -1,12 +1,12 @@
 -- Digits at every width: reading what was written gives the number, writing what was read gives the digits, and n digits stay below 10 ^ n.
-use mathlib.Core.Path.{_≡_, refl, ap, _∙_, sym}
+use mathlib.Core.Path.{_≡_, refl, ap, _∙_}
 use mathlib.Core.Bool.{Bool, true, false, cond, _&&_, false≢true}
-use mathlib.Core.List.{List, [], _∷_, _++_, append-assoc}
-use Prim.Native.Nat.{ℕ, zero, suc, _+_, _-_, _*_, _/_, _%_, _^_, _≤_, _<_, zero-le}
-use native.Mathlib.Nat.{pow-suc, pow-succ', mul-assoc, mul-comm, add-mul, add-assoc, add-zero, zero-add, zero-mul, mul-add-div-right, mod-lt, mod-eq-of-lt, one-le-pow, add-mul-mod-self-left, mul-add-mod-self-right, add-sub-cancel-left, not-suc-le-zero, le-of-suc-le-suc}
+use mathlib.Core.List.{List, [], _∷_}
+use Prim.Native.Nat.{ℕ, zero, suc, _+_, _-_, _*_, _/_, _%_, _^_, _≤_, _<_}
+use native.Mathlib.Nat.{pow-succ', mul-assoc, add-mul, add-assoc, zero-add, zero-mul, mul-add-div-right, mod-lt, mod-eq-of-lt, one-le-pow, mul-add-mod-self-right, add-sub-cancel-left, not-suc-le-zero, le-of-suc-le-suc}
 use native.Mathlib.Omega.{arith}
-use lib.Arith.{mod-mul, digits-lt, digits-div, digits-mod}
-use lib.ListN.{length, take, drop, getD}
+use lib.Arith.{mod-mul, digits-lt, digits-div}
+use lib.ListN.{length, getD}
 use lib.Dec.{leb}
 use borrow.Author.Tests.{leb-true, le-leb}
 use Rattle.text.specs.declared.digits.Number.the-variants.{Value, NotDigits}

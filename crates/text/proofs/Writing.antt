@@ -1,10 +1,10 @@
 -- A loop that writes digits from the right: before place p the list is as it was, from p to e stand the last digits, and then the rest.
-use mathlib.Core.Path.{_≡_, refl, ap, _∙_, sym}
-use mathlib.Core.List.{List, [], _∷_, _++_, append-assoc}
-use Prim.Native.Nat.{ℕ, zero, suc, _+_, _-_, _*_, _/_, _%_, _^_, _≤_, _<_}
-use native.Mathlib.Nat.{pow-suc, div-div-eq-div-mul, add-sub-cancel-left, sub-self, not-suc-le-zero, div-one, pow-zero}
+use mathlib.Core.Path.{_≡_, sym}
+use mathlib.Core.List.{List, _++_}
+use Prim.Native.Nat.{ℕ, zero, suc, _+_, _-_, _/_, _%_, _^_, _≤_, _<_}
+use native.Mathlib.Nat.{pow-suc, div-div-eq-div-mul, add-sub-cancel-left, sub-self, not-suc-le-zero}
 use native.Mathlib.Omega.{arith}
-use lib.ListN.{length, take, drop, getD, set, take-append-drop}
+use lib.ListN.{length, take, drop, set, take-append-drop}
 use lib.Seq.{take-suc, set-at, length-take-le, append-snoc}
 use Rattle.laws.specs.Lists.{put}
 use Rattle.text.specs.Digits.{digits}

@@ -4,7 +4,6 @@ use mathlib.Core.List.{List, _++_, append-assoc}
 use Prim.Native.Nat.{ℕ, _+_, _≤_}
 use native.Mathlib.Omega.{arith}
 use lib.ListN.{length, length-append}
-use Rattle.laws.specs.Lists.{put}
 use lib.Seq.{paste, take-length}
 use Rattle.laws.proofs.Put.{put-is, length-put, put-both}
 use Rattle.text.specs.Strings.{Wrote}

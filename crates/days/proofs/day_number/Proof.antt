@@ -3,11 +3,11 @@ use native.Mathlib.Omega.{arith}
 use Rattle.days.proofs.day_number.Statement.{statement}
 use Rattle.days.proofs.day_number.Tie as tie
 use native.Mathlib.Numerals.{add-one}
-use Prim.Native.Nat.{ℕ, _+_, _-_, _*_, _≤_}
+use Prim.Native.Nat.{_+_, _-_, _*_, _≤_}
 use mathlib.Core.Path.{_≡_, _∙_}
 use native.Mathlib.Nat.{add-right-comm}
 use lib.ListN.{take}
-use Rattle.days.specs.Days.{isLeap, row, sum, dayNumber, monthOf}
+use Rattle.days.specs.Days.{row, sum, dayNumber, monthOf}
 use Rattle.days.proofs.Calendar.{years, sum-more, month-le}
 
 abbrev Inv-loop : tie.InvT-loop

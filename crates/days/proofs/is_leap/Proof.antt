@@ -1,9 +1,6 @@
 use borrow.Author.Needs.{needs}
 use Rattle.days.proofs.is_leap.Statement.{statement}
 use Rattle.days.proofs.is_leap.Tie as tie
-use Prim.Native.Nat.{_%_}
-use native.Mathlib.Omega.{arith}
-use borrow.Author.Tests.{eq-eqb, ne-eqb}
 use Rattle.days.specs.Days.{isLeap}
 
 returns : tie.Need-returns

@@ -2,7 +2,7 @@ use borrow.Author.Needs.{needs}
 use Rattle.days.proofs.is_real.Statement.{statement}
 use Rattle.days.proofs.is_real.Tie as tie
 use Rattle.days.proofs.Calendar.{not-real, real-by-last}
-use borrow.Author.Tests.{le-leb, lt-leb}
+use borrow.Author.Tests.{lt-leb}
 use Rattle.days.specs.Days.{monthLength}
 
 returns : tie.Need-returns

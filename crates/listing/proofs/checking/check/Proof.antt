@@ -1,7 +1,6 @@
-use mathlib.Core.Path.{_≡_, sym, ap, _∙_}
+use mathlib.Core.Path.{sym, ap, _∙_}
 use mathlib.Core.Bool.{not}
 use native.Mathlib.Omega.{arith}
-use lib.ListN.{length}
 use lib.Seq.{length-take-le}
 use Rattle.listing.proofs.Answers.{bad-code, bad-day, too-long, unequal-rooms, no-mark, starts-with-mark, checked}
 use borrow.Author.Needs.{needs}

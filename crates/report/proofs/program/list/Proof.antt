@@ -1,8 +1,8 @@
 use native.Mathlib.Omega.{arith}
 use mathlib.Core.Path.{_≡_, sym, _∙_}
-use Prim.Native.Nat.{ℕ, _≤_}
+use Prim.Native.Nat.{_≤_}
 use lib.ListN.{length}
-use Rattle.report.specs.declared.job.Job.the-variants.{Of, Broken}
+use Rattle.report.specs.declared.job.Job.the-variants.{Of}
 use Rattle.report.specs.Job.{jobOf}
 use Rattle.report.proofs.Jobs.{whole}
 use Rattle.report.proofs.Listings.{begins-same}

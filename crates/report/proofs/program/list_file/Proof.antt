@@ -1,4 +1,4 @@
-use mathlib.Core.Path.{refl, sym, _∙_}
+use mathlib.Core.Path.{refl}
 use Rattle.report.proofs.Listings.{begins-same}
 use Rattle.report.proofs.Lists.{shown}
 use borrow.Author.Needs.{needs}

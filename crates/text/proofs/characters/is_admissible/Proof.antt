@@ -2,7 +2,6 @@ use borrow.Author.Tests.{lt-ltb, le-ltb}
 use Rattle.text.proofs.Admissible.{asked-is}
 use mathlib.Core.Path.{_∙_}
 use mathlib.Core.Logic.{⊎-elim}
-use native.Mathlib.Omega.{arith}
 use borrow.Author.Needs.{needs}
 use Rattle.text.proofs.characters.is_admissible.Statement.{statement}
 use Rattle.text.proofs.characters.is_admissible.Tie as tie
