@@ -2,7 +2,7 @@
 -- more, and the marks of its heading are those that the rules say.
 use Prim.Native.Nat.{ℕ, _+_, _<_, _≤_, min}
 use mathlib.Core.Path.{_≡_, refl, ap, sym, subst}
-use mathlib.Core.Bool.{Bool, true, false, cond, not, _&&_, _||_, or-false, Bool·not-not}
+use mathlib.Core.Bool.{Bool, true, false, cond, not, _&&_, _||_, or-false, and-false, Bool·not-not}
 use mathlib.Core.List.{List, [], _∷_}
 use native.Mathlib.Omega.{arith}
 use lib.Dec.{eqb, ltb}
@@ -11,6 +11,7 @@ use borrow.Author.Tests.{eqb-true, eq-eqb, ne-eqb, ltb-true, ltb-false, le-ltb}
 use Rattle.laws.specs.Tests.{among}
 use Rattle.days.specs.Days.{isReal, dayNumber, later, sum}
 use Rattle.headings.specs.declared.Code.{Code}
+use Rattle.headings.specs.declared.Amount.{Amount}
 use Rattle.headings.specs.declared.ItemNo.{ItemNo}
 use Rattle.headings.specs.declared.Heading.{Heading}
 use Rattle.headings.specs.declared.Read.{Read}
@@ -27,10 +28,10 @@ use Rattle.blocks.specs.declared.Item.{Item}
 use Rattle.blocks.specs.Items.{empty, oldest, blockAbove, readable, payments, amounts, withAmount}
 use Rattle.headings.specs.HeadRules.{rule10, rule13, rule14}
 use Rattle.blocks.specs.OwnRules.{untilToday, untilThirty, rule8, rule11, rule12, rule15}
-use Rattle.blocks.specs.BlockRules.{skips, unlike, spanWrong, tells, misstated, statedIn}
+use Rattle.blocks.specs.BlockRules.{skips, unlike, spanWrong, misstated, statedIn}
 use Rattle.laws.specs.Tests.{mark}
-use Rattle.blocks.specs.Marks.{readableMarks, marksAt, headMarks}
-use Rattle.blocks.specs.Model.{jobOf, breaks8, breaks11, ownMarks, breaks18, skipsTo, breaks20, breaks21, groupBreaks, groupMarks, openMarks, closingMarks, countCap, sumCap, plusAt, countsAfter, sumsAfter, kcBlock, headingBlock, touchedBlock, emptyBlock, readBlock, readMarks, closeAt, closeModel}
+use Rattle.blocks.specs.Marks.{readableMarks, marksAt, blockMarks}
+use Rattle.blocks.specs.Model.{jobOf, breaks8, breaks11, ownMarks, breaks18, skipsTo, breaks20, breaks21, tellsCapped, misstatedCapped, groupBreaks, groupMarks, openMarks, closingMarks, countCap, sumCap, plusAt, countsAfter, sumsAfter, kcBlock, headingBlock, touchedBlock, emptyBlock, readBlock, readMarks, closeAt, closeModel}
 use Rattle.blocks.specs.Summary.{priorityFirst, dayFirst, numberFirst, numberLast, nine, summary}
 use Rattle.blocks.proofs.Nine.{cap-cap, get-nine, set-nine, same-nine}
 
@@ -88,25 +89,44 @@ same-class : (ts : List ℕ) (k : ℕ)
 same-class [] k = ap (λ (b : Bool). isPayment k && b) (sym (alike (isPriority k)))
 same-class (u ∷ us) k = refl
 
--- a capped count and sum are told just as the true ones are
+-- ---- an Sd has 7 digits for the count and 17 for the sum, so caps there change nothing
+abbrev pub Within : Stated → Type 0
+Within NoSum = Unit {0}
+Within BrokenSum = Unit {0}
+Within (Says c s) = (c < countCap) × (s .0 < sumCap)
+
+-- each of the nine does
+abbrev pub AllWithin : Sums → Type 0
+AllWithin stated = (d : ℕ) → Within (statedIn (stated .groups) d)
+
+-- 'a true sum of 10^17 or more equals no Sd', nor does a count of 10^7 or more
+pub large-sum : (n t c : ℕ) (s : Amount) → Within (Says c s) → sumCap ≤ t → misstated n t (Says c s) ≡ true
+large-sum n t c s w h = rw (ne-eqb (s .0) t (λ e. omega (arith, w .1)), and-false (eqb c n))
+
+pub large-count : (n t c : ℕ) (s : Amount) → Within (Says c s) → countCap ≤ n → misstated n t (Says c s) ≡ true
+large-count n t c s w h = rw (ne-eqb c n (λ e. omega (arith, w .0)))
+
 below-cap : (c n : ℕ) → n < c → min c n ≡ n
 below-cap c n h = omega arith
 
 past-cap : (c n : ℕ) → c ≤ n → ltb (min c n) c ≡ false
 past-cap c n h = le-ltb (min c n) c (omega arith)
 
-same-told : (n t c s : ℕ) → tells (min countCap n) (min sumCap t) c s ≡ tells n t c s
-same-told n t c s = go (ltb n countCap) refl (ltb t sumCap) refl
+-- a capped count and sum are told just as the true ones are
+same-told : (n t c s : ℕ) → c < countCap → s < sumCap → tellsCapped (min countCap n) (min sumCap t) c s ≡ (eqb c n && eqb s t)
+same-told n t c s hc hs = go (ltb n countCap) refl (ltb t sumCap) refl
   where
-    go : (p : Bool) → ltb n countCap ≡ p → (q : Bool) → ltb t sumCap ≡ q → tells (min countCap n) (min sumCap t) c s ≡ tells n t c s
-    go false e q f = rw (past-cap countCap n (ltb-false n countCap e), e)
-    go true e false f = rw (below-cap countCap n (ltb-true n countCap e), e, past-cap sumCap t (ltb-false t sumCap f), f)
-    go true e true f = rw (below-cap countCap n (ltb-true n countCap e), below-cap sumCap t (ltb-true t sumCap f))
+    go : (p : Bool) → ltb n countCap ≡ p → (q : Bool) → ltb t sumCap ≡ q → tellsCapped (min countCap n) (min sumCap t) c s ≡ (eqb c n && eqb s t)
+    go false e q f = rw (past-cap countCap n (ltb-false n countCap e), ne-eqb c n (λ z. omega (arith, ltb-false n countCap e)))
+    go true e false f =
+        rw (below-cap countCap n (ltb-true n countCap e), e, past-cap sumCap t (ltb-false t sumCap f), ne-eqb s t (λ z. omega (arith, ltb-false t sumCap f)))
+        (sym (and-false (eqb c n)))
+    go true e true f = rw (below-cap countCap n (ltb-true n countCap e), below-cap sumCap t (ltb-true t sumCap f), e, f)
 
-same-group : (n t : ℕ) (s : Stated) → misstated (min countCap n) (min sumCap t) s ≡ misstated n t s
-same-group n t NoSum = ap not (same-told n t 0 0)
-same-group n t BrokenSum = refl
-same-group n t (Says c s) = ap not (same-told n t c (s .0))
+same-group : (n t : ℕ) (s : Stated) → Within s → misstatedCapped (min countCap n) (min sumCap t) s ≡ misstated n t s
+same-group n t NoSum w = ap not (same-told n t 0 0 (omega arith) (omega arith))
+same-group n t BrokenSum w = refl
+same-group n t (Says c s) w = ap not (same-told n t c (s .0) (w .0) (w .1))
 
 -- ---- the account after one heading more
 same-classed-after : (ts : List ℕ) (k : ℕ) (p : Bool) → (not (empty ts) || p) ≡ not (empty (cond p (k ∷ ts) ts))
@@ -175,7 +195,7 @@ same-sums is k BrokenKc = refl
 same-sums is k (Paid a day) = amount-nine sumCap (a .0) (a .0) sum (λ ns. omega arith) is (groupOf k) (isPayment k)
 
 -- ---- the account after an item, and its marks
-module _ (code : Code) (today : ℕ) (above : List Item) (line : ℕ) (kc : Kc) (span : Span) (sums : Sums) (s9 : Bool) where
+module _ (code : Code) (today : ℕ) (above : List Item) (line : ℕ) (kc : Kc) (span : Span) (sums : Sums) (s9 : Bool) (within : AllWithin sums) where
   abbrev item : Read → Item
   item hd = record { line = line; head = hd; kc = kc; span = span; sums = sums; s9 = s9 }
 
@@ -247,9 +267,9 @@ module _ (code : Code) (today : ℕ) (above : List Item) (line : ℕ) (kc : Kc) 
       (omega arith)
     where
       group : (d : ℕ)
-          → misstated (min countCap (length (amounts d blk))) (min sumCap (sum (amounts d blk))) (statedIn (sums .groups) d)
+          → misstatedCapped (min countCap (length (amounts d blk))) (min sumCap (sum (amounts d blk))) (statedIn (sums .groups) d)
           ≡ misstated (length (amounts d blk)) (sum (amounts d blk)) (statedIn (sums .groups) d)
-      group d = same-group (length (amounts d blk)) (sum (amounts d blk)) (statedIn (sums .groups) d)
+      group d = same-group (length (amounts d blk)) (sum (amounts d blk)) (statedIn (sums .groups) d) (within d)
 
   abbrev Holds : Read → Type 0
   Holds hd =
@@ -287,6 +307,6 @@ module _ (code : Code) (today : ℕ) (above : List Item) (line : ℕ) (kc : Kc) 
   holds (Reads h) = holds-read h (eqb (h .kind) 51) refl
 
 -- the theorem: from the account of the items above, the step makes the account with the item, and the marks that the rules say
-pub account : (code : Code) (today : ℕ) (above : List Item) (it : Item)
-    → closeModel (jobOf code today) (summary above) it ≡ record { block = summary (it ∷ above); marks = headMarks (code .0) today above it }
-account code today above it = holds code today above (it .line) (it .kc) (it .span) (it .sums) (it .s9) (it .head)
+pub account : (code : Code) (today : ℕ) (above : List Item) (it : Item) → AllWithin (it .sums)
+    → closeModel (jobOf code today) (summary above) it ≡ record { block = summary (it ∷ above); marks = blockMarks (code .0) today above it }
+account code today above it within = holds code today above (it .line) (it .kc) (it .span) (it .sums) (it .s9) within (it .head)

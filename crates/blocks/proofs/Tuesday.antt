@@ -15,7 +15,7 @@ use Rattle.blocks.specs.declared.Span.the-variants.{NoIn, Runs}
 use Rattle.blocks.specs.declared.Stated.the-variants.{NoSum, Says}
 use Rattle.blocks.specs.declared.Sum.{Sum}
 use Rattle.blocks.specs.declared.Item.{Item}
-use Rattle.blocks.specs.Marks.{readableMarks, marksAt, headMarks}
+use Rattle.blocks.specs.Marks.{readableMarks, marksAt, blockMarks}
 
 abbrev noSum : Sum
 noSum = record { stated = NoSum }
@@ -50,7 +50,7 @@ abbrev closing : (c s : ℕ) → Item
 closing c s = item 51 0 NoKc (Runs (record { 0 = 1 }) (record { 0 = 2 })) c s
 
 abbrev marks : List Item → Item → ℕ
-marks above it = headMarks 300 20240304 above it
+marks above it = blockMarks 300 20240304 above it
 
 -- a 51 that adds both as they stand has no fault
 pub added : marks block (closing 2 15000) ≡ 0

@@ -1,9 +1,9 @@
 -- The rules of blocks, 16 to 22 and 30 to 38, said over the items above a heading, nearest first, and for 16 those below it.
 -- No account is named here, and no order of discovery.
-use Prim.Native.Nat.{ℕ, _+_, _^_}
+use Prim.Native.Nat.{ℕ, _+_}
 use mathlib.Core.Bool.{Bool, true, false, cond, not, _&&_, _||_}
 use mathlib.Core.List.{List, [], _∷_}
-use lib.Dec.{eqb, ltb}
+use lib.Dec.{eqb}
 use lib.ListN.{length, getD}
 use Rattle.days.specs.Days.{sum}
 use Rattle.headings.specs.declared.Heading.{Heading}
@@ -63,16 +63,12 @@ rule21 above h span = isClosing (h .kind) && spanWrong (readable (blockAbove abo
 abbrev pub rule22 : Heading → Bool → Bool
 rule22 h s9 = isClosing (h .kind) && s9
 
--- c and s are the count n and the sum t. 'A true sum of 10^17 or more equals no Sd', nor does a count of 10^7 or more: an Sd has
--- 17 and 7 digits for them
-abbrev pub tells : (n t c s : ℕ) → Bool
-tells n t c s = ltb n (10 ^ 7) && (ltb t (10 ^ 17) && (eqb c n && eqb s t))
-
--- what reads and isn't the count and the sum; absent means 0 and 0
+-- what reads and isn't the count n and the sum t; absent means 0 and 0. 'A true sum of 10^17 or more equals no Sd': it has 17 digits
+-- (`large-sum`, `large-count` of proofs/Accounting.antt)
 abbrev pub misstated : ℕ → ℕ → Stated → Bool
-misstated n t NoSum = not (tells n t 0 0)
+misstated n t NoSum = not (eqb 0 n && eqb 0 t)
 misstated n t BrokenSum = false
-misstated n t (Says c s) = not (tells n t c (s .0))
+misstated n t (Says c s) = not (eqb c n && eqb (s .0) t)
 
 abbrev pub statedIn : List Sum → ℕ → Stated
 statedIn groups d = getD groups d (record { stated = NoSum }) .stated

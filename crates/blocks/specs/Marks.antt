@@ -1,10 +1,8 @@
--- 'The rules broken at one line form one set of marks': bit r for rule r. Here the marks of a heading, of which 16 is not one:
--- it needs the items below.
-use Prim.Native.Nat.{ℕ, _+_, _-_}
-use mathlib.Core.Bool.{Bool, cond, _&&_}
+-- What the account is to give of a heading: the sum of the marks of its rules, bit r for rule r. 16 is not one: it needs the items
+-- below. (The tests of a heading, in their order, are `items`' Headings.antt.)
+use Prim.Native.Nat.{ℕ, _+_}
 use mathlib.Core.List.{List}
 use Rattle.laws.specs.Tests.{mark}
-use lib.Dec.{eqb, leb}
 use Rattle.headings.specs.declared.Heading.{Heading}
 use Rattle.headings.specs.declared.Read.{Read}
 use Rattle.headings.specs.declared.Read.the-variants.{Reads, Unreadable}
@@ -27,13 +25,5 @@ unfoldable pub marksAt : ℕ → ℕ → List Item → Item → Read → ℕ
 marksAt code today above it (Reads h) = readableMarks code today above it h
 marksAt code today above it Unreadable = 0
 
-abbrev pub headMarks : ℕ → ℕ → List Item → Item → ℕ
-headMarks code today above it = marksAt code today above it (it .head)
-
--- the rules by number, at a readable heading h: rule r is broken
-abbrev pub broken : ℕ → ℕ → List Item → Item → Heading → ℕ → Bool
-broken code today above it h r =
-    cond (eqb r 10) (rule10 h) (cond (eqb r 11) (rule11 today h) (cond (eqb r 12) (rule12 code h) (cond (eqb r 13) (rule13 h)
-    (cond (eqb r 14) (rule14 h) (cond (eqb r 15) (rule15 h (it .kc)) (cond (eqb r 17) (rule17 above h) (cond (eqb r 18) (rule18 above h)
-    (cond (eqb r 19) (rule19 above h) (cond (eqb r 20) (rule20 above h) (cond (eqb r 21) (rule21 above h (it .span))
-    (cond (eqb r 22) (rule22 h (it .s9)) (leb 30 r && (leb r 38 && rule30 (r - 30) above h (it .sums))))))))))))))
+abbrev pub blockMarks : ℕ → ℕ → List Item → Item → ℕ
+blockMarks code today above it = marksAt code today above it (it .head)

@@ -17,13 +17,15 @@ use Rattle.blocks.specs.declared.Kc.{Kc}
 use Rattle.blocks.specs.declared.Kc.the-variants.{NoKc, BrokenKc, Paid}
 use Rattle.blocks.specs.declared.Span.{Span}
 use Rattle.blocks.specs.declared.Span.the-variants.{NoIn, BrokenIn, Runs}
+use Rattle.blocks.specs.declared.Stated.{Stated}
+use Rattle.blocks.specs.declared.Stated.the-variants.{NoSum, BrokenSum, Says}
 use Rattle.blocks.specs.declared.Sum.{Sum}
 use Rattle.blocks.specs.declared.Sums.{Sums}
 use Rattle.blocks.specs.declared.Item.{Item}
 use Rattle.blocks.specs.declared.Block.{Block}
 use Rattle.blocks.specs.declared.Closed.{Closed}
 use Rattle.blocks.specs.OwnRules.{untilToday, untilThirty, noKc}
-use Rattle.blocks.specs.BlockRules.{unlike, misstated, statedIn}
+use Rattle.blocks.specs.BlockRules.{unlike, statedIn}
 use Rattle.laws.specs.Tests.{mark}
 
 -- ---- the rules of one item
@@ -76,8 +78,24 @@ breaks21 some first last NoIn = true
 breaks21 some first last BrokenIn = false
 breaks21 some first last (Runs a b) = some && not (eqb (a .0) first && eqb (b .0) last)
 
+-- the caps: a true count or sum that reaches its cap equals no Sd
+abbrev pub countCap : ℕ
+countCap = 10 ^ 7
+
+abbrev pub sumCap : ℕ
+sumCap = 10 ^ 17
+
+-- c and s are the count n and the sum t, neither of which has reached its cap
+abbrev pub tellsCapped : (n t c s : ℕ) → Bool
+tellsCapped n t c s = ltb n countCap && (ltb t sumCap && (eqb c n && eqb s t))
+
+abbrev pub misstatedCapped : ℕ → ℕ → Stated → Bool
+misstatedCapped n t NoSum = not (tellsCapped n t 0 0)
+misstatedCapped n t BrokenSum = false
+misstatedCapped n t (Says c s) = not (tellsCapped n t c (s .0))
+
 unfoldable pub groupBreaks : List ℕ → List ℕ → List Sum → ℕ → Bool
-groupBreaks counts sums groups d = misstated (getD counts d 0) (getD sums d 0) (statedIn groups d)
+groupBreaks counts sums groups d = misstatedCapped (getD counts d 0) (getD sums d 0) (statedIn groups d)
 
 unfoldable pub groupMarks : List ℕ → List ℕ → List Sum → ℕ
 groupMarks counts sums groups =
@@ -101,13 +119,6 @@ closingMarks b h span s9 stated =
     + groupMarks (b .counts) (b .sums) (stated .groups)
 
 -- ---- the account after an item
--- the caps: a true count or sum that reaches its cap equals no Sd
-abbrev pub countCap : ℕ
-countCap = 10 ^ 7
-
-abbrev pub sumCap : ℕ
-sumCap = 10 ^ 17
-
 unfoldable pub plusAt : ℕ → List ℕ → ℕ → ℕ → List ℕ
 plusAt cap xs d a = cond (ltb d 9) (set xs d (min cap (getD xs d 0 + a))) xs
 

@@ -5,17 +5,16 @@ use crate::marks::flag;
 ghost use mathlib.Core.Path.{_≡_};
 ghost use mathlib.Core.Bool.{cond};
 ghost use Prim.Native.Nat.{_+_, _-_, _<_, _≤_, _^_, min};
-ghost use Rattle.blocks.specs.BlockRules.{tells, misstated};
-ghost use Rattle.blocks.specs.Model.{groupBreaks, groupMarks};
+ghost use Rattle.blocks.specs.Model.{tellsCapped, misstatedCapped, groupBreaks, groupMarks};
 
 fn tells_true(count: u64, sum: u64, c: u64, s: u64) -> bool
-    ensures { λ r. ⌜ r ≡ tells count sum c s ⌝ }
+    ensures { λ r. ⌜ r ≡ tellsCapped count sum c s ⌝ }
 {
     (count < 10000000) & ((sum < 100000000000000000) & ((c == count) & (s == sum)))
 }
 
 fn misstates(count: u64, sum: u64, stated: Stated) -> bool
-    ensures { λ r. ⌜ r ≡ misstated count sum stated ⌝ }
+    ensures { λ r. ⌜ r ≡ misstatedCapped count sum stated ⌝ }
 {
     match stated {
         Stated::NoSum => !tells_true(count, sum, 0, 0),

@@ -21,16 +21,14 @@ use Rattle.fields.specs.Classes.{classOf, groupOf}
 use Rattle.figures.specs.Accounts.{weights, weighed, passes, accountHolds, accountOf}
 use Rattle.fields.specs.Readings.{textOf, readingOf}
 use Rattle.fields.specs.Tails.{takes, reads, saysOf}
-use Rattle.blocks.specs.Marks.{readableMarks, marksAt}
 use Rattle.lines.specs.Lines.{body, crlf, onto, lines}
-use Rattle.ledger.specs.Marks.{rulesFrom}
 use Rattle.ledger.specs.Faults.{faultsOf}
 use Rattle.items.specs.Rows.{sorted, rowsFrom}
-use Rattle.items.specs.Fields.{rule1, lineMarks, continuations, says, stands, fieldMarks}
-use Rattle.items.specs.Headings.{continued, headOf, firstSaid, digest, headMarks}
-use Rattle.items.specs.Faults.{fieldEntry, faultsIn, faults}
+use Rattle.items.specs.Fields.{rule1, continuations, says, stands, fieldTests}
+use Rattle.items.specs.Headings.{continued, headOf, firstSaid, digest, ownTests, blockTests, headTests}
+use Rattle.items.specs.Faults.{fieldSpot, faultsIn, faults}
 use Rattle.cases.specs.Cases.{holds, marked}
 
 pub every-marked : every (map holds marked) ≡ true
-unfolding anyOf isAdmissible valueAfter digits isLeap row monthLength isReal dayNumber begins template hasForm numbers formText isInput isTrilateral isPriority isPayment rule10 rule13 rule14 headingOf headingText outgoing codes inClass barred turned deriveRefusals derivedTarget run isEmpty headIs fits part place kindOf classOf groupOf weights weighed passes accountHolds accountOf textOf readingOf takes reads saysOf readableMarks marksAt body crlf onto lines rulesFrom faultsOf sorted rowsFrom rule1 lineMarks continuations says stands fieldMarks continued headOf firstSaid digest headMarks fieldEntry faultsIn faults
+unfolding anyOf isAdmissible valueAfter digits isLeap row monthLength isReal dayNumber begins template hasForm numbers formText isInput isTrilateral isPriority isPayment rule10 rule13 rule14 headingOf headingText outgoing codes inClass barred turned deriveRefusals derivedTarget run isEmpty headIs fits part place kindOf classOf groupOf weights weighed passes accountHolds accountOf textOf readingOf takes reads saysOf body crlf onto lines faultsOf sorted rowsFrom rule1 continuations says stands fieldTests continued headOf firstSaid digest ownTests blockTests headTests fieldSpot faultsIn faults
 every-marked = refl

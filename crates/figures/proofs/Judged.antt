@@ -1,68 +1,55 @@
 -- The open account check: its answer in each case of the code, its refusal and value.
 use mathlib.Core.Path.{_≡_, refl, ap, _∙_, sym}
-use mathlib.Core.Bool.{Bool, true, false, not, cond, and-false, and-true, true≢false}
+use mathlib.Core.Bool.{Bool, true, false, not, cond, _&&_, and-false, true≢false}
 use mathlib.Core.List.{List, [], _∷_}
-use Prim.Native.Nat.{ℕ, _≤_, _<_}
-use native.Mathlib.Nat.{zero-add}
+use Prim.Native.Nat.{ℕ}
+use native.Mathlib.Nat.{le-antisymm}
 use native.Mathlib.Omega.{arith}
-use lib.ListN.{length, take}
-use lib.Seq.{take-all}
+use lib.ListN.{length, drop}
 use lib.Dec.{leb, eqb, leb·zero}
+use borrow.Author.Tests.{leb-true, leb-false}
 use Rattle.laws.specs.Refusals.{_if_, first}
-use Rattle.text.specs.Digits.{isDigit, allDigits, value}
-use Rattle.figures.specs.declared.numbers.Run.{Run}
+use Rattle.text.specs.Digits.{isDigit, value}
+use Rattle.figures.specs.declared.parts.Part.{Part}
 use Rattle.figures.specs.declared.accounts.Account.{Account}
 use Rattle.figures.specs.declared.accounts.Account.the-variants.{Holds, Fails, NotDigits}
-use Rattle.figures.specs.Layouts.{num, run, fits}
-use Rattle.figures.specs.Numbers.{numberAt}
-use Rattle.figures.specs.Accounts.{accountHolds, areDigits, accountBy, accountOf, accountRefusals, accountNumber, accountValue}
-use Rattle.figures.proofs.Runs.{run-le, run-digits}
-use Rattle.figures.proofs.Endings.{empty-past, empty-before}
+use Rattle.figures.specs.Layouts.{num, run, isEmpty, fits}
+use Rattle.figures.specs.Accounts.{passes, accountHolds, noPart, partOf, areDigits, accountBy, accountOf, accountRefusals, accountNumber, accountValue}
+use Rattle.figures.proofs.Runs.{run-length}
+use Rattle.figures.proofs.Endings.{empty-before}
 
--- a part that the code read from its start
-module _ (h : ℕ) (t : List ℕ) (a : Run) (e : a ≡ numberAt h t 0) where
-  ends-at : run isDigit h t ≡ a .end
-  ends-at = sym (ap (λ (r : Run). r .end) e ∙ zero-add _)
+-- a part of one digit at least
+some-digits : (h : ℕ) (t : List ℕ) → fits (num 1 h ∷ []) t ≡ (leb 1 (length t) && fits (num 0 h ∷ []) t)
+unfolding fits
+some-digits h t = go (leb (length t) (run isDigit h t)) refl
+  where
+    go : (b : Bool) → leb (length t) (run isDigit h t) ≡ b → (leb 1 (run isDigit h t) && isEmpty (drop (run isDigit h t) t)) ≡ (leb 1 (length t) && (leb 0 (run isDigit h t) && isEmpty (drop (run isDigit h t) t)))
+    go true e =
+        let k : run isDigit h t ≡ length t = le-antisymm (run-length isDigit h t) (leb-true (length t) (run isDigit h t) e) in
+        rw (leb·zero (run isDigit h t), k)
+    go false e = rw (empty-before t (run isDigit h t) (leb-false (length t) (run isDigit h t) e), and-false, and-false, and-false)
 
-  pub unfinished : (lo : ℕ) → a .end < length t → fits (num lo h ∷ []) t ≡ false
-  unfolding fits
-  unfinished lo l = rw (ends-at, empty-before t (a .end) l, and-false)
+abbrev told : Bool → List ℕ → Part
+told t bs = cond t (record { digits = true; some = not (eqb (value bs) 0); passes = passes bs }) noPart
 
-  module _ (l : length t ≤ a .end) where
-    all-taken : take (run isDigit h t) t ≡ t
-    all-taken = take-all (run isDigit h t) t (rw ends-at l)
-
-    pub finished : (lo : ℕ) → fits (num lo h ∷ []) t ≡ leb lo (a .end)
-    unfolding fits
-    finished lo = rw (ends-at, empty-past t (a .end) l, and-true)
-
-    pub digits-all : (length t ≤ h) × (allDigits t ≡ true) × (a .value ≡ value t)
-    digits-all = (
-      omega (arith, ends-at, run-le isDigit h t),
-      rw all-taken at (run-digits h t),
-      rw all-taken at (ap (λ (r : Run). r .value) e),
-    )
-
--- the open check, in the cases of the code
-module _ (p n : List ℕ) (a b : Run) (ea : a ≡ numberAt 6 p 0) (eb : b ≡ numberAt 10 n 0) where
-  pub odd-prefix : a .end < length p → NotDigits ≡ accountOf p n
-  unfolding accountOf
-  odd-prefix h = rw (unfinished 6 p a ea 0 h)
-
-  pub odd-number : b .end < length n → NotDigits ≡ accountOf p n
-  unfolding accountOf
-  odd-number h = rw (unfinished 10 n b eb 1 h, and-false)
-
-  pub asked : length p ≤ a .end → length n ≤ b .end
-      → (length p ≤ 10) × (allDigits p ≡ true) × (length n ≤ 10) × (allDigits n ≡ true) × (b .value ≡ value n)
-  asked h k =
-      let x = digits-all 6 p a ea h in
-      let y = digits-all 10 n b eb k in
-      (omega (arith, x .0), x .1, y .0, y .1, y .2)
-
-  pub decided : length p ≤ a .end → length n ≤ b .end → accountBy (leb 1 (b .end)) (accountHolds p n) ≡ accountOf p n
-  unfolding accountOf
-  decided h k = rw (finished 6 p a ea h 0, finished 10 n b eb k 1, leb·zero (a .end))
+-- the open check, from what was told of its parts
+pub judged : (p n : List ℕ) {a b : Part} → a ≡ partOf 6 p → b ≡ partOf 10 n
+    → accountBy (leb 1 (length n) && (a .digits && b .digits)) (b .some && (a .passes && b .passes)) ≡ accountOf p n
+unfolding partOf accountOf accountHolds
+judged p n ea eb =
+    (λ i. accountBy (leb 1 (length n) && (ea i .digits && eb i .digits)) (eb i .some && (ea i .passes && eb i .passes)))
+    ∙ go (leb 1 (length n)) (fits (num 0 6 ∷ []) p) (fits (num 0 10 ∷ []) n)
+    ∙ ap (λ (t : Bool). accountBy (fits (num 0 6 ∷ []) p && t) (accountHolds p n)) (sym (some-digits 10 n))
+  where
+    go : (t x y : Bool) → accountBy (t && (told x p .digits && told y n .digits)) (told y n .some && (told x p .passes && told y n .passes)) ≡ accountBy (x && (t && y)) (not (eqb (value n) 0) && (passes p && passes n))
+    go true true true = refl
+    go true true false = refl
+    go true false true = refl
+    go true false false = refl
+    go false true true = refl
+    go false true false = refl
+    go false false true = refl
+    go false false false = refl
 
 -- the answer by document 01's number and value
 pub refusal-is : (p n : List ℕ) → accountNumber (accountOf p n) ≡ first (accountRefusals p n)

@@ -5,4 +5,5 @@ pub mod Pairs
 pub mod Told
 pub mod Endings
 pub mod Weights
+pub mod Reading
 pub mod Judged

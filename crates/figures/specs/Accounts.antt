@@ -8,6 +8,7 @@ use Rattle.laws.specs.Refusals.{Refusal, _if_}
 use Rattle.text.specs.Digits.{value}
 use Rattle.figures.specs.declared.accounts.Account.{Account}
 use Rattle.figures.specs.declared.accounts.Account.the-variants.{Holds, Fails, NotDigits}
+use Rattle.figures.specs.declared.parts.Part.{Part}
 use Rattle.figures.specs.Layouts.{num, fits}
 
 -- the weights of digits, counted from the right
@@ -26,6 +27,13 @@ passes bs = eqb (weighed bs % 11) 0
 -- both parts hold; 'the second part must not be zero'
 unfoldable pub accountHolds : List ℕ → List ℕ → Bool
 accountHolds prefix number = not (eqb (value number) 0) && (passes prefix && passes number)
+
+-- what is told of a part of at most so many digits, and of what is none
+abbrev pub noPart : Part
+noPart = record { digits = false; some = false; passes = false }
+
+unfoldable pub partOf : ℕ → List ℕ → Part
+partOf most bs = cond (fits (num 0 most ∷ []) bs) (record { digits = true; some = not (eqb (value bs) 0); passes = passes bs }) noPart
 
 -- a first part of 0 to 6 digits and a second of 1 to 10
 abbrev pub areDigits : List ℕ → List ℕ → Bool

@@ -1,5 +1,4 @@
 // The account check, an open job, and its answer as document 01's number and value.
-use crate::numbers;
 use crate::parts;
 ghost use mathlib.Core.Path.{_≡_};
 ghost use Rattle.laws.specs.Refusals.{first};
@@ -29,15 +28,12 @@ pub fn check(prefix: &[u8], number: &[u8]) -> Account
     ensures answer { λ r. ⌜ r ≡ accountOf (now (prefix .entry)) (now (number .entry)) ⌝ }
     ensures refusal { λ r. ⌜ accountNumber r ≡ first (accountRefusals (now (prefix .entry)) (now (number .entry))) ⌝ }
 {
-    let a = numbers::number_at(prefix, 0, 6);
-    let b = numbers::number_at(number, 0, 10);
-    if a.end < prefix.len() {
-        return Account::NotDigits;
-    }
-    if b.end < number.len() {
-        return Account::NotDigits;
-    }
-    account_by(1 <= b.end, parts::parts_hold(prefix, number, b.value))
+    let a = parts::part_of(prefix, 6);
+    let b = parts::part_of(number, 10);
+    account_by(
+        (1 <= number.len()) & (a.digits & b.digits),
+        b.some & (a.passes & b.passes),
+    )
 }
 
 // Document 01's number of an answer, 0 for none.

@@ -5,7 +5,7 @@ ghost use mathlib.Core.Bool.{true};
 ghost use Prim.Native.Nat.{_-_, _≤_, _<_};
 ghost use lib.ListN.{length, getD};
 ghost use Rattle.text.specs.Digits.{allDigits, value};
-ghost use Rattle.figures.specs.Accounts.{passes, accountHolds};
+ghost use Rattle.figures.specs.Accounts.{passes, accountHolds, noPart, partOf};
 
 fn digit_at(s: &[u8], i: usize) -> u64
     requires { ⌜ (allDigits (now s) ≡ true) × (i < length (now s)) ⌝ }
@@ -14,20 +14,64 @@ fn digit_at(s: &[u8], i: usize) -> u64
     numbers::wide(s[i] - 48)
 }
 
-// Whether the digits of a part, weighed from the right, divide by 11.
+// Whether the digits of a part, weighed from the right, divide by 11: a weight is twice the one to its right, but for elevens, so each
+// digit is added to twice the sum of those to its left.
 fn part_passes(s: &[u8]) -> bool
     requires { ⌜ (length (now s) ≤ 10) × (allDigits (now s) ≡ true) ⌝ }
     ensures { λ r. ⌜ r ≡ passes (now (s .entry)) ⌝ }
 {
-    let weights: [u64; 10] = [1, 2, 4, 8, 5, 10, 9, 7, 3, 6];
     let mut sum: u64 = 0;
     let mut i = 0;
     while i < s.len() {
-        let at = s.len() - 1 - i;
-        sum += weights[i] * digit_at(s, at);
+        sum = 2 * sum + digit_at(s, i);
         i += 1;
     }
     sum % 11 == 0
+}
+
+// A part that may not be digits: whether it is at most so many of them; if so, whether one is not 0, and whether it passes.
+pub struct Part {
+    pub digits: bool,
+    pub some: bool,
+    pub passes: bool,
+}
+
+fn no_part() -> Part
+    ensures { λ r. ⌜ r ≡ noPart ⌝ }
+{
+    Part {
+        digits: false,
+        some: false,
+        passes: false,
+    }
+}
+
+// Reads a part: one loop for its digits, their sum, and whether one is not 0.
+pub fn part_of(s: &[u8], most: usize) -> Part
+    requires { ⌜ most ≤ 10 ⌝ }
+    ensures { λ r. ⌜ r ≡ partOf most (now (s .entry)) ⌝ }
+{
+    if most < s.len() {
+        return no_part();
+    }
+    let mut sum: u64 = 0;
+    let mut any: u64 = 0;
+    let mut i = 0;
+    while i < s.len() {
+        let e = std::num::wrapping_sub_u8(s[i], 48);
+        if 9 < e {
+            return no_part();
+        }
+        let d = numbers::wide(e);
+        sum = 2 * sum + d;
+        any = any | d;
+        i += 1;
+    }
+    Part {
+        digits: true,
+        some: any != 0,
+        passes: sum % 11 == 0,
+    }
 }
 
 // Whether a prefix and a number of the value v hold.

@@ -1,15 +1,27 @@
--- One forward pass whose state is the open pieces of the tree themselves, nearest first, and what is then left of the declared list.
--- No mark function is opened here.
+-- One forward pass whose state is the open pieces of the tree themselves, nearest first, and what is then left of the file's
+-- spots. No test is opened here.
 use Prim.Native.Nat.{ℕ}
 use mathlib.Core.Bool.{Bool, true, false}
 use mathlib.Core.Option.{none, some}
-use mathlib.Core.List.{List, [], _∷_, _++_, reverseAux}
-use Rattle.ledger.specs.Faults.{Entry}
+use mathlib.Core.List.{List, [], _∷_, _++_, map, reverseAux}
+use Rattle.ledger.specs.Faults.{Spot}
 use Rattle.items.specs.Rows.{Row, FieldRow, LowRow, Sorted, heading, field, low}
 use Rattle.items.specs.Tree.{Group, Item, File}
 use Rattle.items.specs.Fields.{nowhere, prelude, inside}
-use Rattle.items.specs.Headings.{ends, fresh, noneEnds}
-use Rattle.items.specs.Faults.{lowEntry, lows, fieldEntry, fields, headEntry, items, declare}
+use Rattle.blocks.specs.Items.{empty, closes, noneCloses, blockAbove}
+use Rattle.items.specs.Headings.{digest}
+use Rattle.items.specs.Faults.{lowSpot, lows, fieldSpot, fields, items, spots}
+use Rattle.items.proofs.Sets.{headAs}
+
+-- an item ends a block; no item of the open block stands above; no block ends from here on
+abbrev pub ends : Item → Bool
+ends i = closes (digest i)
+
+abbrev pub fresh : List Item → Bool
+fresh above = empty (blockAbove (map digest above))
+
+abbrev pub noneEnds : List Item → Bool
+noneEnds is = noneCloses (map digest is)
 
 -- what is open: in each, first the items above that are complete
 pub data Open : Type 0 where
@@ -39,13 +51,13 @@ push (atField b h hl ups x ls) (field y) = atField b h hl (closed x ls ∷ ups) 
 push (atField b h hl ups x ls) (heading k) = atHead (item (closed h hl) (closed x ls ∷ ups) ∷ b) k []
 
 -- the heading that waits for 16 after an item, by whether the item ends its block and is the first of it
-abbrev pub waitsAt : (ends first : Bool) → List Entry → Entry → List Entry
+abbrev pub waitsAt : (ends first : Bool) → List Spot → Spot → List Spot
 waitsAt true b r e = []
 waitsAt false true r e = e ∷ []
 waitsAt false false r e = r
 
 -- what is complete when an item closes
-abbrev pub outAt : (ends first : Bool) → List Entry → Entry → List Entry
+abbrev pub outAt : (ends first : Bool) → List Spot → Spot → List Spot
 outAt true b r e = r ++ (e ∷ [])
 outAt false true r e = []
 outAt false false r e = e ∷ []
@@ -55,58 +67,58 @@ under a ls f = record { owner = a; below = reverseAux ls (f .top) }
 
 module _ (code today : ℕ) where
   -- the first heading of the open block, with its 16 decided
-  abbrev pub waits : List Item → Bool → List Entry
+  abbrev pub waits : List Item → Bool → List Spot
   waits [] z = []
-  waits (i ∷ ups) z = waitsAt (ends i) (fresh ups) (waits ups z) (headEntry code today z ups i)
+  waits (i ∷ ups) z = waitsAt (ends i) (fresh ups) (waits ups z) (headAs code today z ups i)
 
-  abbrev pub headsOut : List Item → Item → List Entry
-  headsOut ups i = outAt (ends i) (fresh ups) (waits ups false) (headEntry code today false ups i)
+  abbrev pub headsOut : List Item → Item → List Spot
+  headsOut ups i = outAt (ends i) (fresh ups) (waits ups false) (headAs code today false ups i)
 
   -- what a line completes
-  abbrev pub out : Open → Sorted → List Entry
-  out start (low l) = lowEntry nowhere l ∷ []
+  abbrev pub out : Open → Sorted → List Spot
+  out start (low l) = lowSpot nowhere l ∷ []
   out start (field y) = []
   out start (heading k) = []
-  out (early ups x ls) (low l) = lowEntry prelude l ∷ []
-  out (early ups x ls) (field y) = fieldEntry code today none ups (closed x ls) ∷ []
-  out (early ups x ls) (heading k) = fieldEntry code today none ups (closed x ls) ∷ []
-  out (atHead b h ls) (low l) = lowEntry inside l ∷ []
+  out (early ups x ls) (low l) = lowSpot prelude l ∷ []
+  out (early ups x ls) (field y) = fieldSpot code today none ups (closed x ls) ∷ []
+  out (early ups x ls) (heading k) = fieldSpot code today none ups (closed x ls) ∷ []
+  out (atHead b h ls) (low l) = lowSpot inside l ∷ []
   out (atHead b h ls) (field y) = []
   out (atHead b h ls) (heading k) = headsOut b (item (closed h ls) [])
-  out (atField b h hl ups x ls) (low l) = lowEntry inside l ∷ []
-  out (atField b h hl ups x ls) (field y) = fieldEntry code today (some (closed h hl)) ups (closed x ls) ∷ []
+  out (atField b h hl ups x ls) (low l) = lowSpot inside l ∷ []
+  out (atField b h hl ups x ls) (field y) = fieldSpot code today (some (closed h hl)) ups (closed x ls) ∷ []
   out (atField b h hl ups x ls) (heading k) =
-      fieldEntry code today (some (closed h hl)) ups (closed x ls) ∷ headsOut b (item (closed h hl) (closed x ls ∷ ups))
+      fieldSpot code today (some (closed h hl)) ups (closed x ls) ∷ headsOut b (item (closed h hl) (closed x ls ∷ ups))
 
   -- the file ends: the item closes, and who waits has 16
-  abbrev pub lastOut : List Item → Item → List Entry
+  abbrev pub lastOut : List Item → Item → List Spot
   lastOut b i = headsOut b i ++ waits (i ∷ b) true
 
-  abbrev pub final : Open → List Entry
+  abbrev pub final : Open → List Spot
   final start = []
-  final (early ups x ls) = fieldEntry code today none ups (closed x ls) ∷ []
+  final (early ups x ls) = fieldSpot code today none ups (closed x ls) ∷ []
   final (atHead b h ls) = lastOut b (item (closed h ls) [])
   final (atField b h hl ups x ls) =
-      fieldEntry code today (some (closed h hl)) ups (closed x ls) ∷ lastOut b (item (closed h hl) (closed x ls ∷ ups))
+      fieldSpot code today (some (closed h hl)) ups (closed x ls) ∷ lastOut b (item (closed h hl) (closed x ls ∷ ups))
 
   -- what is declared and not yet out: of complete items with items below them, of an open item too, of all that is open
-  abbrev pub pending : List Item → List Item → List Entry
+  abbrev pub pending : List Item → List Item → List Spot
   pending b is = waits b (noneEnds is) ++ items code today b is
 
-  abbrev pub heads : List Item → Item → List Item → List Entry
+  abbrev pub heads : List Item → Item → List Item → List Spot
   heads b i is = headsOut b i ++ pending (i ∷ b) is
 
-  abbrev pub left : Open → File → List Entry
-  left start f = declare code today f
+  abbrev pub left : Open → File → List Spot
+  left start f = spots code today f
   left (early ups x ls) f =
       let g = under x ls f in
-      fieldEntry code today none ups g ∷ (lows prelude (f .top) ++ (fields code today none (g ∷ ups) (f .loose) ++ items code today [] (f .items)))
+      fieldSpot code today none ups g ∷ (lows prelude (f .top) ++ (fields code today none (g ∷ ups) (f .loose) ++ items code today [] (f .items)))
   left (atHead b h ls) f =
       let g = under h ls f in
       lows inside (f .top) ++ (fields code today (some g) [] (f .loose) ++ heads b (record { head = g; fields = f .loose }) (f .items))
   left (atField b h hl ups x ls) f =
       let g = under x ls f in
-      fieldEntry code today (some (closed h hl)) ups g
+      fieldSpot code today (some (closed h hl)) ups g
       ∷ (lows inside (f .top)
       ++ (fields code today (some (closed h hl)) (g ∷ ups) (f .loose)
       ++ heads b (record { head = closed h hl; fields = reverseAux (g ∷ ups) (f .loose) }) (f .items)))

@@ -12,7 +12,8 @@ use lib.ListN.{length, getD, set, length-set}
 use lib.Seq.{getD-set-same, getD-set-other}
 use borrow.Author.Tests.{le-ltb, lt-ltb, eqb-true, eqb-false}
 use Rattle.laws.specs.Tests.{mark}
-use Rattle.ledger.specs.Faults.{Fault, Entry, insertAll, marked}
+use Rattle.ledger.specs.Faults.{Fault, Spot}
+use Rattle.ledger.specs.Marks.{insertAll, marked}
 use Rattle.ledger.proofs.Insertion.{insertAll-append}
 use Rattle.ledger.proofs.Entries.{putAll, putAll-append, put}
 use Rattle.headings.specs.declared.Read.{Read}
@@ -34,12 +35,14 @@ use Rattle.items.specs.declared.Wait.{Wait}
 use Rattle.items.specs.declared.Shut.{Shut}
 use Rattle.items.specs.Rows.{Row, FieldRow, LowRow, heading, field, low}
 use Rattle.items.specs.Tree.{Group, Item}
-use Rattle.items.specs.Fields.{lineMarks, lowMarks, continuations, says, stands, rule6, failsCheck, isFirstKc, late, large, fieldMarks, looseMarks}
-use Rattle.items.specs.Headings.{headOf, is, kcOf, ends, fresh}
-use Rattle.items.specs.Faults.{entry, lowEntry, fieldEntry}
+use Rattle.items.specs.Fields.{nowhere, prelude, continuations, says, stands, rule6, failsCheck, isFirstKc, late, large}
+use Rattle.items.specs.Fields.{inside as within}
+use Rattle.items.specs.Headings.{headOf, is, kcOf}
+use Rattle.items.specs.Faults.{lowSpot, fieldSpot}
 use Rattle.items.specs.Kept.{headKept, fieldKept, lowKept}
-use Rattle.items.specs.State.{saidOf, readOf, lowLive, fieldLive, headLive, noClaims, claimsAfter, lowMarksOf, lateBy, kcMarks, insideMarks, fieldMarksOf, fieldFaults, itemFaults, openFaults, lastFaults, closeModel, lastMarks, headMarksOf}
-use Rattle.items.proofs.Ideal.{Open, start, early, atHead, atField, closed, item, push, waits, headsOut, out, final}
+use Rattle.items.specs.State.{saidOf, readOf, lowLive, fieldLive, headLive, noClaims, claimsAfter, lowMarksOf, lateBy, kcMarks, insideMarks, fieldMarksOf, fieldFaults, itemFaults, openFaults, lastFaults, shutModel, lastMarks, headMarksOf}
+use Rattle.items.proofs.Sets.{lineMarks, lowMarks, low-set, fieldMarks, field-set, looseMarks, loose-set}
+use Rattle.items.proofs.Ideal.{ends, fresh, Open, start, early, atHead, atField, closed, item, push, waits, headsOut, out, final}
 use Rattle.items.proofs.Turned.{firstUp}
 use Rattle.items.proofs.Opened.{said-is, live, low-is, field-is, head-is, no-kc-is, claimsOf, claims, no-claims-is, claimsThen, claims-is, claims-field}
 use Rattle.items.proofs.Shutting.{put-none, accountOf, wait, last-out, read-is, shut-is, account-of, wait-of, item-out}
@@ -109,11 +112,11 @@ module _ (code today : ℕ) where
   unfolding says
   broken-is x ls = broken (classOf (x .ident)) (x .row .bytes) (continuations (closed x ls .below))
 
-  abbrev pub fieldsOut : Open → List Entry
+  abbrev pub fieldsOut : Open → List Spot
   fieldsOut start = []
-  fieldsOut (early ups x ls) = fieldEntry code today none ups (closed x ls) ∷ []
+  fieldsOut (early ups x ls) = fieldSpot code today none ups (closed x ls) ∷ []
   fieldsOut (atHead b h ls) = []
-  fieldsOut (atField b h hl ups x ls) = fieldEntry code today (some (closed h hl)) ups (closed x ls) ∷ []
+  fieldsOut (atField b h hl ups x ls) = fieldSpot code today (some (closed h hl)) ups (closed x ls) ∷ []
 
   -- 5 to 9 of the open field
   inside-is : (b : List Item) (h : Row) (hl : List LowRow) (ups : List (Group FieldRow)) (x : FieldRow) (ls : List LowRow) (again : Bool) → again ≡ stands (x .ident) ups
@@ -133,29 +136,30 @@ module _ (code today : ℕ) where
       + mark 8 (isFirstKc ups (closed x ls) && late-is (headOf (closed h hl)) (says (closed x ls)) j) + mark 9 (isFirstKc ups (closed x ls) && large (headOf (closed h hl)) (says (closed x ls))))
 
   field-outs : (c : Open) (a : List ℕ) → Inside c a → (l : List Fault) → putAll put (fieldsOut c) l ≡ insertAll (fieldFaults job (live c) (claims c) a) l
-  unfolding fieldMarksOf fieldEntry looseMarks fieldMarks lineMarks fieldKept headKept
+  unfolding fieldMarksOf fieldSpot looseMarks fieldMarks lineMarks fieldKept headKept
   field-outs start a I l = sym (put-none 0 l)
-  field-outs (early ups x ls) a I l = refl
+  field-outs (early ups x ls) a I l = ap (λ (m : ℕ). insertAll (marked (x .row .no) m) l) (loose-set (closed x ls))
   field-outs (atHead b h ls) a I l = sym (put-none 0 l)
   field-outs (atField b h hl ups x ls) a I l =
-      ap (λ (m : ℕ). insertAll (marked (x .row .no) (lineMarks (x .row) + m)) l) (sym (inside-is b h hl ups x ls (ltb (h .no) (getD a (x .ident) 0)) (I (x .ident))))
+      ap (λ (m : ℕ). insertAll (marked (x .row .no) m) l)
+      (field-set today (headOf (closed h hl)) ups (closed x ls) ∙ ap (λ (m : ℕ). lineMarks (x .row) + m) (sym (inside-is b h hl ups x ls (ltb (h .no) (getD a (x .ident) 0)) (I (x .ident)))))
 
   -- ---- an item closes
-  abbrev itemsOut : Open → List Entry
+  abbrev itemsOut : Open → List Spot
   itemsOut start = []
   itemsOut (early ups x ls) = []
   itemsOut (atHead b h ls) = headsOut code today b (item (closed h ls) [])
   itemsOut (atField b h hl ups x ls) = headsOut code today b (item (closed h hl) (closed x ls ∷ ups))
 
   abbrev model : Open → Shut
-  model c = closeModel job (accountOf (above c)) (wait code today (above c)) (live c) (claimsThen c)
+  model c = shutModel job (accountOf (above c)) (wait code today (above c)) (live c) (claimsThen c)
 
   item-says : (c : Open) (l : List Fault)
-      → (putAll put (itemsOut c) l ≡ put (entry (live c .head .no) (model c .marks)) (put (entry (wait code today (above c) .line) (model c .told)) l))
+      → (putAll put (itemsOut c) l ≡ insertAll (marked (live c .head .no) (model c .marks)) (insertAll (marked (wait code today (above c) .line) (model c .told)) l))
       × (model c .block ≡ accountOf (aboveThen c)) × (model c .wait ≡ wait code today (aboveThen c))
-  unfolding closeModel headMarksOf firstUp headKept
-  item-says start l = (sym (put-none 0 (put (entry 0 0) l) ∙ put-none 0 l), refl, refl)
-  item-says (early ups x ls) l = (sym (put-none 0 (put (entry 0 0) l) ∙ put-none 0 l), refl, refl)
+  unfolding shutModel headMarksOf firstUp headKept
+  item-says start l = (sym (put-none 0 (insertAll (marked 0 0) l) ∙ put-none 0 l), refl, refl)
+  item-says (early ups x ls) l = (sym (put-none 0 (insertAll (marked 0 0) l) ∙ put-none 0 l), refl, refl)
   item-says (atHead b h ls) l =
       let e = shut-is code today b h ls [] in
       let i = item (closed h ls) [] in
@@ -177,11 +181,11 @@ module _ (code today : ℕ) where
 
   -- ---- what each line puts out
   low-enters : (c : Open) (l : LowRow) (all : List Fault) → putAll put (out code today c (low l)) all ≡ insertAll (marked (lowKept l .no) (lowMarksOf (live c) (lowKept l))) all
-  unfolding lowEntry lowMarks lineMarks lowKept
-  low-enters start l all = refl
-  low-enters (early ups x ls) l all = refl
-  low-enters (atHead b h ls) l all = refl
-  low-enters (atField b h hl ups x ls) l all = refl
+  unfolding lowSpot lowMarks lineMarks lowKept
+  low-enters start l all = ap (λ (m : ℕ). insertAll (marked (l .row .no) m) all) (low-set nowhere l)
+  low-enters (early ups x ls) l all = ap (λ (m : ℕ). insertAll (marked (l .row .no) m) all) (low-set prelude l)
+  low-enters (atHead b h ls) l all = ap (λ (m : ℕ). insertAll (marked (l .row .no) m) all) (low-set within l)
+  low-enters (atField b h hl ups x ls) l all = ap (λ (m : ℕ). insertAll (marked (l .row .no) m) all) (low-set within l)
 
   field-puts : (c : Open) (y : FieldRow) → out code today c (field y) ≡ fieldsOut c
   field-puts start y = refl
@@ -239,13 +243,13 @@ module _ (code today : ℕ) where
     low-out l all = rw (M .live-is) (low-enters c l all)
 
     abbrev pub closing : Shut
-    closing = closeModel job b w s (claimsAfter cl s)
+    closing = shutModel job b w s (claimsAfter cl s)
 
     closing-is : closing ≡ model c
-    closing-is = λ j. closeModel job (M .account-is j) (M .wait-is j) (M .live-is j) (claims-close j)
+    closing-is = λ j. shutModel job (M .account-is j) (M .wait-is j) (M .live-is j) (claims-close j)
 
     pub field-out : (y : FieldRow) (all : List Fault) → putAll put (out code today c (field y)) all ≡ insertAll (fieldFaults job s cl stood) all
-    field-out y all = rw (M .live-is, M .claims-are) (ap (λ (es : List Entry). putAll put es all) (field-puts c y) ∙ field-outs c stood (M .inside) all)
+    field-out y all = rw (M .live-is, M .claims-are) (ap (λ (es : List Spot). putAll put es all) (field-puts c y) ∙ field-outs c stood (M .inside) all)
 
     item-enters : itemFaults job b w s (claimsAfter cl s) ≡ itemFaults job (accountOf (above c)) (wait code today (above c)) (live c) (claimsThen c)
     item-enters = λ j. itemFaults job (M .account-is j) (M .wait-is j) (M .live-is j) (claims-close j)
@@ -254,14 +258,14 @@ module _ (code today : ℕ) where
     all-enter all = all-outs c stood (M .inside) all ∙ sym (λ j. insertAll (fieldFaults job (M .live-is j) (M .claims-are j) stood ++ item-enters j) all)
 
     pub head-out : (k : Row) (all : List Fault) → putAll put (out code today c (heading k)) all ≡ insertAll (openFaults job s cl b w stood) all
-    head-out k all = ap (λ (es : List Entry). putAll put es all) (head-puts c k) ∙ all-enter all
+    head-out k all = ap (λ (es : List Spot). putAll put es all) (head-puts c k) ∙ all-enter all
 
     pub final-out : (all : List Fault)
         → putAll put (final code today c) all ≡ insertAll (lastFaults job s cl b w) (insertAll (openFaults job s cl b w stood) all)
     final-out all =
         let eb : closing .block ≡ accountOf (aboveThen c) = ap (λ (x : Shut). x .block) closing-is ∙ item-says c all .1 in
         let ew : closing .wait ≡ wait code today (aboveThen c) = ap (λ (x : Shut). x .wait) closing-is ∙ item-says c all .2 in
-        ap (λ (es : List Entry). putAll put es all) (final-puts c) ∙ putAll-append put (fieldsOut c ++ itemsOut c) (waits code today (aboveThen c) true) all
+        ap (λ (es : List Spot). putAll put es all) (final-puts c) ∙ putAll-append put (fieldsOut c ++ itemsOut c) (waits code today (aboveThen c) true) all
         ∙ ap (putAll put (waits code today (aboveThen c) true)) (all-enter all) ∙ last-out code today (aboveThen c) (insertAll (openFaults job s cl b w stood) all)
         ∙ sym (λ j. insertAll (marked (ew j .line) (lastMarks (eb j) (ew j))) (insertAll (openFaults job s cl b w stood) all))
 

@@ -1,40 +1,51 @@
--- The declared list has each line once, in line order.
-use Prim.Native.Nat.{ℕ, suc}
+-- Each line of a file has one spot, in line order.
+use Prim.Native.Nat.{ℕ, zero, suc}
 use native.Mathlib.Nat.{le-refl}
 use mathlib.Core.Path.{_≡_, refl, ap, _∙_}
 use mathlib.Core.Option.{Option, none, some}
 use mathlib.Core.List.{List, [], _∷_, _++_, map, append-assoc}
+use lib.ListN.{length}
 use Rattle.lines.specs.Lines.{Line}
 use Rattle.fields.specs.declared.kinds.Kind.{Kind}
 use Rattle.fields.specs.declared.kinds.Kind.the-variants.{Heading, Continuation, Field, Other}
 use Rattle.fields.specs.Kinds.{kindOf}
-use Rattle.ledger.specs.Faults.{Entry, Rising}
+use Rattle.ledger.specs.Faults.{Spot}
+use Rattle.ledger.proofs.Rising.{Rising}
 use Rattle.items.specs.Rows.{Row, FieldRow, LowRow, Sorted, heading, field, low, sortedAs, sorted, rowsFrom}
 use Rattle.items.specs.Tree.{Group, Item, File, _▹_, itemOf, tree}
 use Rattle.items.specs.Fields.{Place, nowhere, prelude, inside}
-use Rattle.items.specs.Faults.{lowEntry, lows, fieldEntry, fields, inner, items, declare, placeIn}
+use Rattle.items.specs.Faults.{lowSpot, lows, fieldSpot, fields, inner, items, spots, placeIn}
 
 abbrev pub number : Sorted → ℕ
 number (heading h) = h .no
 number (field x) = x .row .no
 number (low l) = l .row .no
 
-abbrev pub numbers : List Entry → List ℕ
-numbers es = map (λ (e : Entry). e .line) es
+abbrev pub numbers : List Spot → List ℕ
+numbers es = map (λ (e : Spot). e .line) es
 
-numbers-append : (xs ys : List Entry) → numbers (xs ++ ys) ≡ numbers xs ++ numbers ys
+-- n, n + 1, .., k in all
+abbrev pub countFrom : ℕ → ℕ → List ℕ
+countFrom n zero = []
+countFrom n (suc k) = n ∷ countFrom (suc n) k
+
+count-rises : (n k : ℕ) → Rising n (countFrom n k)
+count-rises n zero = tt
+count-rises n (suc k) = (le-refl n, count-rises (suc n) k)
+
+numbers-append : (xs ys : List Spot) → numbers (xs ++ ys) ≡ numbers xs ++ numbers ys
 numbers-append [] ys = refl
 numbers-append (x ∷ xs) ys = rw (numbers-append xs ys)
 
 module _ (code today : ℕ) where
   -- whatever stands above
   lows-numbers : (p q : Place) (ls : List LowRow) → numbers (lows p ls) ≡ numbers (lows q ls)
-  unfolding lowEntry
+  unfolding lowSpot
   lows-numbers p q [] = refl
   lows-numbers p q (l ∷ ls) = rw (lows-numbers p q ls)
 
-  field-line : (h : Option (Group Row)) (ups : List (Group FieldRow)) (g : Group FieldRow) → (fieldEntry code today h ups g) .line ≡ g .owner .row .no
-  unfolding fieldEntry
+  field-line : (h : Option (Group Row)) (ups : List (Group FieldRow)) (g : Group FieldRow) → (fieldSpot code today h ups g) .line ≡ g .owner .row .no
+  unfolding fieldSpot
   field-line h ups g = refl
 
   fields-numbers : (h k : Option (Group Row)) (ups vps gs : List (Group FieldRow)) → numbers (fields code today h ups gs) ≡ numbers (fields code today k vps gs)
@@ -51,8 +62,8 @@ module _ (code today : ℕ) where
   items-numbers b [] = refl
   items-numbers b (i ∷ is) = rw (numbers-append, items-numbers (i ∷ b) is)
 
-  declare-numbers : (f : File) → numbers (declare code today f) ≡ numbers (lows prelude (f .top)) ++ (numbers (fields code today none [] (f .loose)) ++ itemNumbers (f .items))
-  declare-numbers f = rw (numbers-append (lows nowhere (f .top)), lows-numbers nowhere prelude (f .top), numbers-append (fields code today none [] (f .loose)), items-numbers)
+  spots-numbers : (f : File) → numbers (spots code today f) ≡ numbers (lows prelude (f .top)) ++ (numbers (fields code today none [] (f .loose)) ++ itemNumbers (f .items))
+  spots-numbers f = rw (numbers-append (lows nowhere (f .top)), lows-numbers nowhere prelude (f .top), numbers-append (fields code today none [] (f .loose)), items-numbers)
 
   inner-numbers : (i : Item) → numbers (inner code today i) ≡ numbers (lows prelude (i .head .below)) ++ numbers (fields code today none [] (i .fields))
   inner-numbers i =
@@ -61,20 +72,20 @@ module _ (code today : ℕ) where
 
   fields-cons : (g : Group FieldRow) (gs : List (Group FieldRow))
       → numbers (fields code today none [] (g ∷ gs)) ≡ g .owner .row .no ∷ (numbers (lows prelude (g .below)) ++ numbers (fields code today none [] gs))
-  unfolding fieldEntry
+  unfolding fieldSpot
   fields-cons g gs =
       ap {B = List ℕ} (λ r. g .owner .row .no ∷ r)
       (numbers-append (lows prelude (g .below)) (fields code today none (g ∷ []) gs) ∙ rw (fields-numbers none none (g ∷ []) [] gs))
 
-  top-number : (x : Sorted) (f : File) → numbers (declare code today (x ▹ f)) ≡ number x ∷ numbers (declare code today f)
-  unfolding lowEntry fieldEntry
+  top-number : (x : Sorted) (f : File) → numbers (spots code today (x ▹ f)) ≡ number x ∷ numbers (spots code today f)
+  unfolding lowSpot fieldSpot
   top-number (low l) f = refl
   top-number (field x) f =
-      rw (declare-numbers f)
-      (declare-numbers (field x ▹ f) ∙ ap (λ (r : List ℕ). r ++ itemNumbers (f .items)) (fields-cons (record { owner = x; below = f .top }) (f .loose)) ∙ rw append-assoc)
-  top-number (heading h) f = rw (declare-numbers f) (declare-numbers (heading h ▹ f) ∙ rw (inner-numbers (itemOf h f), append-assoc))
+      rw (spots-numbers f)
+      (spots-numbers (field x ▹ f) ∙ ap (λ (r : List ℕ). r ++ itemNumbers (f .items)) (fields-cons (record { owner = x; below = f .top }) (f .loose)) ∙ rw append-assoc)
+  top-number (heading h) f = rw (spots-numbers f) (spots-numbers (heading h ▹ f) ∙ rw (inner-numbers (itemOf h f), append-assoc))
 
-  tree-numbers : (xs : List Sorted) → numbers (declare code today (tree xs)) ≡ map number xs
+  tree-numbers : (xs : List Sorted) → numbers (spots code today (tree xs)) ≡ map number xs
   tree-numbers [] = refl
   tree-numbers (x ∷ xs) = top-number x (tree xs) ∙ rw (tree-numbers xs)
 
@@ -89,10 +100,14 @@ module _ (code today : ℕ) where
       go (Field i) = refl
       go Other = refl
 
-  rows-rise : (n : ℕ) (ls : List Line) → Rising n (map number (rowsFrom n ls))
+  rows-count : (n : ℕ) (ls : List Line) → map number (rowsFrom n ls) ≡ countFrom n (length ls)
   unfolding rowsFrom
-  rows-rise n [] = tt
-  rows-rise n (l ∷ ls) = rw (sorted-number (record { no = n; bytes = l .bytes; ended = l .ended })) (le-refl n, rows-rise (suc n) ls)
+  rows-count n [] = refl
+  rows-count n (l ∷ ls) = λ i. sorted-number (record { no = n; bytes = l .bytes; ended = l .ended }) i ∷ rows-count (suc n) ls i
 
-  pub lines-rise : (n : ℕ) (ls : List Line) → Rising n (numbers (declare code today (tree (rowsFrom n ls))))
-  lines-rise n ls = rw (tree-numbers (rowsFrom n ls)) (rows-rise n ls)
+  -- the numbers of a file's spots are those of its lines
+  pub every-number : (n : ℕ) (ls : List Line) → numbers (spots code today (tree (rowsFrom n ls))) ≡ countFrom n (length ls)
+  every-number n ls = tree-numbers (rowsFrom n ls) ∙ rows-count n ls
+
+  pub lines-rise : (n : ℕ) (ls : List Line) → Rising n (numbers (spots code today (tree (rowsFrom n ls))))
+  lines-rise n ls = rw (every-number n ls) (count-rises n (length ls))

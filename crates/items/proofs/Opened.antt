@@ -26,7 +26,7 @@ use Rattle.items.specs.declared.Claims.{Claims}
 use Rattle.items.specs.Rows.{Row, FieldRow, LowRow, heading, field, low}
 use Rattle.items.specs.Tree.{Group}
 use Rattle.items.specs.Fields.{continuations, says, stands}
-use Rattle.items.specs.Headings.{continued, orElse, ifThere, is, isGroup, kcBy, kcOf, spanBy, spanOf, statedBy, statedOf, nine}
+use Rattle.items.specs.Headings.{continued, orElse, ifThere, is, isGroup, kcBy, kcOf, spanBy, spanOf, statedBy, statedOf, nineSums}
 use Rattle.items.specs.Kept.{headKept, fieldKept, lowKept}
 use Rattle.items.specs.State.{noHead, noField, quiet, saidOf, tailAfter, lowLive, kcKept, fieldLive, headLive, noClaims, spanKept, statedKept, groupClaims, claimsWith, claimsAfter}
 use Rattle.items.proofs.Ideal.{Open, start, early, atHead, atField, closed, push}
@@ -148,7 +148,7 @@ claimsOf ups =
     record {
       kc = kcOf (firstUp (is (named "KC")) ups);
       span = spanOf (firstUp (is (named "IN")) ups);
-      sums = record { groups = nine (λ d. record { stated = statedOf (firstUp (isGroup d) ups) }) };
+      sums = record { groups = nineSums (λ d. record { stated = statedOf (firstUp (isGroup d) ups) }) };
       s9 = stands (named "S9") ups;
     }
 
@@ -199,18 +199,18 @@ grown f d r k = record { stated = cond (eqb d k) (statedKept (statedOf (f k)) (s
 abbrev summed : (ℕ → Option Reading) → ℕ → Sum
 summed f k = record { stated = statedOf (f k) }
 
-same-nine : (f g : ℕ → Sum) → ((k : ℕ) → k < 9 → f k ≡ g k) → nine f ≡ nine g
+same-nine : (f g : ℕ → Sum) → ((k : ℕ) → k < 9 → f k ≡ g k) → nineSums f ≡ nineSums g
 same-nine f g h =
     rw (h 0 (omega arith), h 1 (omega arith), h 2 (omega arith), h 3 (omega arith), h 4 (omega arith), h 5 (omega arith), h 6 (omega arith), h 7 (omega arith), h 8 (omega arith))
 
 not-grown : (f : ℕ → Option Reading) (d : ℕ) (r : Reading) → 9 ≤ d → (k : ℕ) → k < 9 → summed f k ≡ grown f d r k
 not-grown f d r h k l = let e : eqb d k ≡ false = ne-eqb d k (λ q. omega arith) in rw e
 
-past-nine : (f : ℕ → Option Reading) (d : ℕ) (r : Reading) → 9 ≤ d → groupClaims (nine (summed f)) d r ≡ nine (grown f d r)
+past-nine : (f : ℕ → Option Reading) (d : ℕ) (r : Reading) → 9 ≤ d → groupClaims (nineSums (summed f)) d r ≡ nineSums (grown f d r)
 unfolding groupClaims
 past-nine f d r h = rw (le-leb 9 d h) (same-nine (summed f) (grown f d r) (not-grown f d r h))
 
-groups-more : (f : ℕ → Option Reading) (d : ℕ) (r : Reading) → groupClaims (nine (summed f)) d r ≡ nine (grown f d r)
+groups-more : (f : ℕ → Option Reading) (d : ℕ) (r : Reading) → groupClaims (nineSums (summed f)) d r ≡ nineSums (grown f d r)
 unfolding groupClaims
 groups-more f zero r = refl
 groups-more f (suc zero) r = refl
@@ -232,7 +232,7 @@ grownClaims ups i r =
     record {
       kc = kcOf (orElse (firstUp (is (named "KC")) ups) (ifThere (eqb i (named "KC")) r));
       span = spanOf (orElse (firstUp (is (named "IN")) ups) (ifThere (eqb i (named "IN")) r));
-      sums = record { groups = nine (λ d. record { stated = statedOf (orElse (inGroups ups d) (ifThere (eqb (groupOf i) d) r)) }) };
+      sums = record { groups = nineSums (λ d. record { stated = statedOf (orElse (inGroups ups d) (ifThere (eqb (groupOf i) d) r)) }) };
       s9 = eqb i (named "S9") || stands (named "S9") ups;
     }
 
@@ -240,11 +240,11 @@ abbrev claimsAs : Kc → SpanOf → List Sum → Bool → Claims
 claimsAs kc span groups s9 = record { kc = kc; span = span; sums = record { groups = groups }; s9 = s9 }
 
 groups-are : (ups : List (Group FieldRow)) (d : ℕ) (r : Reading)
-    → nine (grown (inGroups ups) d r) ≡ nine (λ k. record { stated = statedOf (orElse (inGroups ups k) (ifThere (eqb d k) r)) })
+    → nineSums (grown (inGroups ups) d r) ≡ nineSums (λ k. record { stated = statedOf (orElse (inGroups ups k) (ifThere (eqb d k) r)) })
 groups-are ups d r = same-nine _ _ (λ k h. ap (λ (t : StatedOf). record { stated = t }) (sym (stated-more (inGroups ups k) (eqb d k) r)))
 
 -- a field that states no sum leaves the groups as they are
-same-groups : (ups : List (Group FieldRow)) (r : Reading) → nine (summed (inGroups ups)) ≡ nine (λ k. record { stated = statedOf (orElse (inGroups ups k) (ifThere (eqb 9 k) r)) })
+same-groups : (ups : List (Group FieldRow)) (r : Reading) → nineSums (summed (inGroups ups)) ≡ nineSums (λ k. record { stated = statedOf (orElse (inGroups ups k) (ifThere (eqb 9 k) r)) })
 same-groups ups r = same-nine (summed (inGroups ups)) _ (λ k h. ap (λ (o : Option Reading). record { stated = statedOf o }) (sym (none-in k h)))
   where
     none-in : (k : ℕ) → k < 9 → orElse (inGroups ups k) (ifThere (eqb 9 k) r) ≡ inGroups ups k

@@ -4,16 +4,16 @@ use mathlib.Core.Path.{_≡_, refl, sym, ap, _∙_}
 use mathlib.Core.Bool.{Bool, true, false, not, _&&_, cond}
 use mathlib.Core.Option.{none, some}
 use mathlib.Core.List.{List, [], _∷_, _++_, map, append-nil, append-assoc}
-use Rattle.ledger.specs.Faults.{Entry}
+use Rattle.ledger.specs.Faults.{Spot}
 use Rattle.ledger.proofs.Entries.{putAll, putAll-append, past, swap, one}
 use Rattle.blocks.specs.Items.{empty, blockAbove}
 use Rattle.items.specs.Rows.{Sorted, heading, field, low}
-use Rattle.items.specs.Tree.{Item, File, _▹_, itemOf, tree}
-use Rattle.items.specs.Tree.{none as nothing}
+use Rattle.items.specs.Tree.{Item, File, noLines, _▹_, itemOf, tree}
 use Rattle.items.specs.Fields.{prelude, inside}
-use Rattle.items.specs.Headings.{digest, ends, fresh, noneEnds}
-use Rattle.items.specs.Faults.{lowEntry, lows, fieldEntry, fields, inner, headEntry, items, declare}
-use Rattle.items.proofs.Ideal.{Open, start, early, atHead, atField, closed, item, push, waitsAt, outAt, under, waits, headsOut, out, final, pending, heads, left}
+use Rattle.items.specs.Headings.{digest}
+use Rattle.items.specs.Faults.{lowSpot, lows, fieldSpot, fields, inner, items, spots}
+use Rattle.items.proofs.Sets.{headAs, head-as}
+use Rattle.items.proofs.Ideal.{ends, fresh, noneEnds, Open, start, early, atHead, atField, closed, item, push, waitsAt, outAt, under, waits, headsOut, out, final, pending, heads, left}
 
 and-false : (b : Bool) → (b && false) ≡ false
 and-false true = refl
@@ -25,25 +25,25 @@ module _ (code today : ℕ) where
   waits-none [] z e = refl
   waits-none (i ∷ b) z e = go (ends i) e
     where
-      go : (t : Bool) → empty (cond t [] (digest i ∷ blockAbove (map digest b))) ≡ true → waitsAt t (fresh b) (waits code today b z) (headEntry code today z b i) ≡ []
+      go : (t : Bool) → empty (cond t [] (digest i ∷ blockAbove (map digest b))) ≡ true → waitsAt t (fresh b) (waits code today b z) (headAs code today z b i) ≡ []
       go true e = refl
       go false e = cc
 
-  module _ {L : Type 0} (put : Entry → L → L) where
+  module _ {L : Type 0} (put : Spot → L → L) where
     -- the pass from what is open, over the lines that are left
     abbrev pub run : Open → L → List Sorted → L
     run c l [] = putAll put (final code today c) l
     run c l (x ∷ xs) = run (push c x) (putAll put (out code today c x) l) xs
 
-    module _ (comm : (a b : Entry) (l : L) → put a (put b l) ≡ put b (put a l)) where
+    module _ (comm : (a b : Spot) (l : L) → put a (put b l) ≡ put b (put a l)) where
       -- v, then e, then bo: in whichever order
-      around : (e : Entry) (v bo rest : List Entry) (l : L) → putAll put (v ++ (e ∷ (bo ++ rest))) l ≡ putAll put rest (put e (putAll put v (putAll put bo l)))
+      around : (e : Spot) (v bo rest : List Spot) (l : L) → putAll put (v ++ (e ∷ (bo ++ rest))) l ≡ putAll put rest (put e (putAll put v (putAll put bo l)))
       around e v bo rest l =
           putAll-append put v (e ∷ (bo ++ rest)) l ∙ putAll-append put bo rest (put e (putAll put v l))
           ∙ ap (putAll put rest) (past put comm e bo (putAll put v l) ∙ ap (put e) (swap put comm bo v l))
 
       -- an item above others. t: it ends a block; e: it is the first of its block; z: no block ends below; w: who waits; bo: its other lines
-      key : (t e z : Bool) (w : Bool → List Entry) (bo rest : List Entry) (h : Bool → Entry) (l : L) → (e ≡ true → w z ≡ [])
+      key : (t e z : Bool) (w : Bool → List Spot) (bo rest : List Spot) (h : Bool → Spot) (l : L) → (e ≡ true → w z ≡ [])
           → putAll put (w (not t && z) ++ (h (e && (not t && z)) ∷ (bo ++ rest))) l
           ≡ putAll put (bo ++ (outAt t e (w false) (h false) ++ (waitsAt t e (w z) (h z) ++ rest))) l
       key true e z w bo rest h l n =
@@ -59,9 +59,10 @@ module _ (code today : ℕ) where
           → putAll put (pending code today b (i ∷ is)) l
           ≡ putAll put (lows inside (i .head .below) ++ (fields code today (some (i .head)) [] (i .fields) ++ heads code today b i is)) l
       headed b i is l =
-          key (ends i) (fresh b) (noneEnds is) (waits code today b) (inner code today i) (items code today (i ∷ b) is) (λ z. headEntry code today z b i) l
+          ap (λ (s : Spot). putAll put (waits code today b (noneEnds (i ∷ is)) ++ (s ∷ (inner code today i ++ items code today (i ∷ b) is))) l) (head-as code today b i is)
+          ∙ key (ends i) (fresh b) (noneEnds is) (waits code today b) (inner code today i) (items code today (i ∷ b) is) (λ z. headAs code today z b i) l
           (waits-none b (noneEnds is))
-          ∙ ap (λ (es : List Entry). putAll put es l) (append-assoc (lows inside (i .head .below)) _ _)
+          ∙ ap (λ (es : List Spot). putAll put es l) (append-assoc (lows inside (i .head .below)) _ _)
 
       -- an item closes, and another stands below it
       closes : (b : List Item) (i j : Item) (is : List Item) (l : L)
@@ -76,19 +77,19 @@ module _ (code today : ℕ) where
       step start (low y) f l = refl
       step start (field y) f l = simp append-assoc
       step start (heading k) f l = headed [] (itemOf k f) (f .items) l
-      step (early ups x ls) (low y) f l = cc (comm (lowEntry prelude y) (fieldEntry code today none ups (under x (y ∷ ls) f)) l)
+      step (early ups x ls) (low y) f l = cc (comm (lowSpot prelude y) (fieldSpot code today none ups (under x (y ∷ ls) f)) l)
       step (early ups x ls) (field y) f l = simp append-assoc
-      step (early ups x ls) (heading k) f l = headed [] (itemOf k f) (f .items) (put (fieldEntry code today none ups (closed x ls)) l)
+      step (early ups x ls) (heading k) f l = headed [] (itemOf k f) (f .items) (put (fieldSpot code today none ups (closed x ls)) l)
       step (atHead b h ls) (low y) f l = refl
       step (atHead b h ls) (field y) f l = simp append-assoc
       step (atHead b h ls) (heading k) f l = closes b (item (closed h ls) []) (itemOf k f) (f .items) l
-      step (atField b h hl ups x ls) (low y) f l = cc (comm (lowEntry inside y) (fieldEntry code today (some (closed h hl)) ups (under x (y ∷ ls) f)) l)
+      step (atField b h hl ups x ls) (low y) f l = cc (comm (lowSpot inside y) (fieldSpot code today (some (closed h hl)) ups (under x (y ∷ ls) f)) l)
       step (atField b h hl ups x ls) (field y) f l = simp append-assoc
       step (atField b h hl ups x ls) (heading k) f l =
-          closes b (item (closed h hl) (closed x ls ∷ ups)) (itemOf k f) (f .items) (put (fieldEntry code today (some (closed h hl)) ups (closed x ls)) l)
+          closes b (item (closed h hl) (closed x ls ∷ ups)) (itemOf k f) (f .items) (put (fieldSpot code today (some (closed h hl)) ups (closed x ls)) l)
 
       -- nothing below: what is left is what the end puts out
-      last : (c : Open) → left code today c nothing ≡ final code today c
+      last : (c : Open) → left code today c noLines ≡ final code today c
       last start = refl
       last (early ups x ls) = refl
       last (atHead b h ls) = rw (append-nil (waits code today (item (closed h ls) [] ∷ b) true))
@@ -98,5 +99,5 @@ module _ (code today : ℕ) where
       whole c l [] = rw last
       whole c l (x ∷ xs) = whole (push c x) (putAll put (out code today c x) l) xs ∙ sym (step c x (tree xs) l)
 
-      pub emitted : (l : L) (xs : List Sorted) → run start l xs ≡ putAll put (declare code today (tree xs)) l
+      pub emitted : (l : L) (xs : List Sorted) → run start l xs ≡ putAll put (spots code today (tree xs)) l
       emitted l xs = whole start l xs

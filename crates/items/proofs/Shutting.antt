@@ -5,9 +5,10 @@ use mathlib.Core.List.{List, [], _∷_, map}
 use Prim.Native.Nat.{ℕ, _+_, _^_}
 use native.Mathlib.Nat.{add-zero}
 use Rattle.laws.specs.Tests.{mark}
-use Rattle.ledger.specs.Faults.{Fault, Entry, insertAll}
+use Rattle.ledger.specs.Faults.{Fault}
+use Rattle.ledger.specs.Marks.{marked, insertAll}
 use Rattle.ledger.proofs.Marks.{no-rules}
-use Rattle.ledger.proofs.Entries.{putAll, put}
+use Rattle.ledger.proofs.Entries.{putAll, putAll-append, put}
 use Rattle.headings.specs.declared.Code.{Code}
 use Rattle.headings.specs.declared.Read.{Read}
 use Rattle.headings.specs.declared.Read.the-variants.{Unreadable}
@@ -15,7 +16,7 @@ use Rattle.fields.specs.Kinds.{named}
 use Rattle.blocks.specs.declared.Block.{Block}
 use Rattle.blocks.specs.declared.Item.{Item as Digest}
 use Rattle.blocks.specs.Items.{empty, closesAt, blockAbove}
-use Rattle.blocks.specs.Marks.{headMarks as blockMarks}
+use Rattle.blocks.specs.Marks.{blockMarks}
 use Rattle.blocks.specs.Model.{jobOf}
 use Rattle.blocks.specs.Model.{closeModel as blockModel}
 use Rattle.blocks.specs.Summary.{summary}
@@ -25,17 +26,17 @@ use Rattle.items.specs.declared.Wait.{Wait}
 use Rattle.items.specs.declared.Shut.{Shut}
 use Rattle.items.specs.Rows.{Row, FieldRow, LowRow}
 use Rattle.items.specs.Tree.{Group, Item}
-use Rattle.items.specs.Fields.{lineMarks}
-use Rattle.items.specs.Headings.{continued, headOf, isUnreadable, is, isGroup, kcOf, spanOf, statedOf, nine, digest, ends, fresh, headMarks}
-use Rattle.items.specs.Faults.{entry, headEntry}
+use Rattle.items.specs.Headings.{continued, headOf, isUnreadable, is, isGroup, kcOf, spanOf, statedOf, nineSums, digest}
 use Rattle.items.specs.Kept.{headKept}
-use Rattle.items.specs.State.{ownMarks, noWait, shut, shutAs, lastMarks}
-use Rattle.items.proofs.Ideal.{closed, item, waitsAt, outAt, waits, headsOut}
+use Rattle.items.specs.State.{lineMarksOf, noWait, shut, shutAs, lastMarks}
+use Rattle.items.proofs.Sets.{lineMarks, headAs, headMarks, head-set}
+use Rattle.items.proofs.Ideal.{ends, fresh, closed, item, waitsAt, outAt, waits, headsOut}
 use Rattle.items.proofs.Turned.{continued-closed, stands-closed, first-closed}
 use Rattle.items.proofs.Opened.{claimsOf}
+use Rattle.items.proofs.Within.{digest-within}
 
 -- no marks, nothing entered
-pub put-none : (n : ℕ) (l : List Fault) → put (entry n 0) l ≡ l
+pub put-none : (n : ℕ) (l : List Fault) → insertAll (marked n 0) l ≡ l
 unfolding insertAll
 put-none n l = rw no-rules
 
@@ -62,27 +63,32 @@ module _ (code today : ℕ) where
   wait [] = noWait
   wait (i ∷ b) = waitNext (ends i) (fresh b) (wait b) (record { line = i .head .owner .no; marks = headMarks code today b i })
 
-  -- as entries
-  abbrev told : Bool → Wait → Bool → List Entry
-  told true w z = []
-  told false w z = entry (w .line) (w .marks + mark 16 z) ∷ []
+  -- a heading put in, with 16 decided
+  head-put : (z : Bool) (b : List Item) (i : Item) (l : List Fault) → put (headAs code today z b i) l ≡ insertAll (marked (i .head .owner .no) (headMarks code today b i + mark 16 z)) l
+  head-put z b i l = ap (λ (m : ℕ). insertAll (marked (i .head .owner .no) m) l) (head-set code today z b i)
 
-  waits-is : (b : List Item) (z : Bool) → waits code today b z ≡ told (fresh b) (wait b) z
-  waits-is [] z = refl
-  waits-is (i ∷ b) z = go (ends i) (fresh b) (waits-is b z)
+  -- what is entered of it
+  abbrev told : Bool → Wait → Bool → List Fault
+  told true w z = []
+  told false w z = marked (w .line) (w .marks + mark 16 z)
+
+  waits-is : (b : List Item) (z : Bool) (l : List Fault) → putAll put (waits code today b z) l ≡ insertAll (told (fresh b) (wait b) z) l
+  unfolding insertAll
+  waits-is [] z l = refl
+  waits-is (i ∷ b) z l = go (ends i) (fresh b) (waits-is b z l)
     where
-      go : (t e : Bool) → waits code today b z ≡ told e (wait b) z
-          → waitsAt t e (waits code today b z) (headEntry code today z b i)
-          ≡ told (empty (cond t [] (digest i ∷ blockAbove (map digest b)))) (waitNext t e (wait b) (record { line = i .head .owner .no; marks = headMarks code today b i })) z
+      go : (t e : Bool) → putAll put (waits code today b z) l ≡ insertAll (told e (wait b) z) l
+          → putAll put (waitsAt t e (waits code today b z) (headAs code today z b i)) l
+          ≡ insertAll (told (empty (cond t [] (digest i ∷ blockAbove (map digest b)))) (waitNext t e (wait b) (record { line = i .head .owner .no; marks = headMarks code today b i })) z) l
       go true e ih = refl
-      go false true ih = refl
+      go false true ih = head-put z b i l
       go false false ih = ih
 
-  pub last-out : (b : List Item) (l : List Fault) → putAll put (waits code today b true) l ≡ put (entry (wait b .line) (lastMarks (accountOf b) (wait b))) l
-  unfolding lastMarks summary
-  last-out b l = ap (λ (es : List Entry). putAll put es l) (waits-is b true) ∙ go (fresh b) (wait b)
+  pub last-out : (b : List Item) (l : List Fault) → putAll put (waits code today b true) l ≡ insertAll (marked (wait b .line) (lastMarks (accountOf b) (wait b))) l
+  unfolding lastMarks summary insertAll
+  last-out b l = waits-is b true l ∙ go (fresh b) (wait b)
     where
-      go : (e : Bool) (w : Wait) → putAll put (told e w true) l ≡ put (entry (w .line) (cond (not e) (w .marks + 2 ^ 16) 0)) l
+      go : (e : Bool) (w : Wait) → insertAll (told e w true) l ≡ insertAll (marked (w .line) (cond (not e) (w .marks + 2 ^ 16) 0)) l
       go true w = sym (put-none (w .line) l)
       go false w = refl
 
@@ -102,12 +108,12 @@ module _ (code today : ℕ) where
       head = read-is j;
       kc = kcOf (sym (first-closed (is (named "KC")) gs) j);
       span = spanOf (sym (first-closed (is (named "IN")) gs) j);
-      sums = record { groups = nine (λ d. record { stated = statedOf (sym (first-closed (isGroup d) gs) j) }) };
+      sums = record { groups = nineSums (λ d. record { stated = statedOf (sym (first-closed (isGroup d) gs) j) }) };
       s9 = sym (stands-closed (named "S9") gs) j;
     }
 
     abbrev pub marksAs : Read → ℕ → ℕ
-    marksAs r m = ownMarks (headKept h .bad) (headKept h .ended) + mark 6 (isUnreadable r) + m
+    marksAs r m = lineMarksOf (headKept h .bad) (headKept h .ended) + mark 6 (isUnreadable r) + m
 
     marks-is : marksAs (digest it .head) (blockMarks code today (map digest b) (digest it)) ≡ headMarks code today b it
     unfolding headMarks headKept lineMarks digest
@@ -141,7 +147,7 @@ module _ (code today : ℕ) where
         (λ j. let d = digest-is j in
         let c = blockModel (jobOf job-code today) (accountOf b) d in
         shutAs true (closesAt (d .head)) (any-is b j) (accountOf b) (c .block) (wait b) (h .no) (marksAs (d .head) (c .marks)))
-        ∙ (λ j. let c = account job-code today (map digest b) (digest it) j in
+        ∙ (λ j. let c = account job-code today (map digest b) (digest it) (digest-within it) j in
         shutAs true (ends it) (not (fresh b)) (accountOf b) (c .block) (wait b) (h .no) (marksAs (digest it .head) (c .marks)))
         ∙ ap (shutAs true (ends it) (not (fresh b)) (accountOf b) (accountOf (it ∷ b)) (wait b) (h .no)) marks-is
         ∙ closes (ends it) (fresh b) refl refl
@@ -157,12 +163,21 @@ module _ (code today : ℕ) where
     wait-of false false = refl
 
     pub item-out : (l : List Fault) → let c = closesAs (ends it) (fresh b) in
-        putAll put (headsOut code today b it) l ≡ put (entry (h .no) (c .marks)) (put (entry (wait b .line) (c .told)) l)
-    item-out l = ap (λ (w : List Entry). putAll put (outAt (ends it) (fresh b) w (headEntry code today false b it)) l) (waits-is b false) ∙ go (ends it) (fresh b)
+        putAll put (headsOut code today b it) l ≡ insertAll (marked (h .no) (c .marks)) (insertAll (marked (wait b .line) (c .told)) l)
+    unfolding insertAll
+    item-out l = go (ends it) (fresh b) (waits-is b false l)
       where
-        go : (t e : Bool) → putAll put (outAt t e (told e (wait b) false) (headEntry code today false b it)) l
-            ≡ put (entry (h .no) (closesAs t e .marks)) (put (entry (wait b .line) (closesAs t e .told)) l)
-        go true true = rw (put-none (wait b .line) l, add-zero (headMarks code today b it))
-        go true false = rw (add-zero (headMarks code today b it), add-zero (wait b .marks))
-        go false true = rw (put-none (wait b .line) l, put-none (h .no) l)
-        go false false = rw (put-none (wait b .line) l, add-zero (headMarks code today b it))
+        own : (m : List Fault) → put (headAs code today false b it) m ≡ insertAll (marked (h .no) (headMarks code today b it)) m
+        own m = head-put false b it m ∙ ap (λ (n : ℕ). insertAll (marked (h .no) n) m) (add-zero (headMarks code today b it))
+
+        go : (t e : Bool) → putAll put (waits code today b false) l ≡ insertAll (told e (wait b) false) l
+            → putAll put (outAt t e (waits code today b false) (headAs code today false b it)) l
+            ≡ insertAll (marked (h .no) (closesAs t e .marks)) (insertAll (marked (wait b .line) (closesAs t e .told)) l)
+        go true true w =
+            putAll-append put (waits code today b false) (headAs code today false b it ∷ []) l ∙ own (putAll put (waits code today b false) l)
+            ∙ ap (insertAll (marked (h .no) (headMarks code today b it))) (w ∙ sym (put-none (wait b .line) l))
+        go true false w =
+            putAll-append put (waits code today b false) (headAs code today false b it ∷ []) l ∙ own (putAll put (waits code today b false) l)
+            ∙ ap (insertAll (marked (h .no) (headMarks code today b it))) (w ∙ ap (λ (n : ℕ). insertAll (marked (wait b .line) n) l) (add-zero (wait b .marks)))
+        go false true w = sym (put-none (h .no) (insertAll (marked (wait b .line) 0) l) ∙ put-none (wait b .line) l)
+        go false false w = own l ∙ ap (insertAll (marked (h .no) (headMarks code today b it))) (sym (put-none (wait b .line) l))

@@ -1,12 +1,12 @@
 -- Rules 1 to 9: at every line, and at the fields of an item (document 01, 'The rules, by number'). What stands above is listed with the
 -- nearest first.
-use Prim.Native.Nat.{ℕ, _+_}
+use Prim.Native.Nat.{ℕ}
 use mathlib.Core.Bool.{Bool, true, false, cond, not, _&&_, _||_}
 use mathlib.Core.List.{List, [], _∷_}
 use lib.Dec.{eqb}
-use Rattle.laws.specs.Tests.{mark}
 use Rattle.laws.specs.Lists.{anyOf}
 use Rattle.text.specs.Characters.{isInadmissible}
+use Rattle.ledger.specs.Faults.{Test, _if_}
 use Rattle.headings.specs.declared.Read.{Read}
 use Rattle.headings.specs.declared.Read.the-variants.{Reads, Unreadable}
 use Rattle.fields.specs.declared.readings.Reading.{Reading}
@@ -26,9 +26,6 @@ rule1 r = anyOf isInadmissible (r .bytes)
 abbrev pub rule4 : Row → Bool
 rule4 r = not (r .ended)
 
-unfoldable pub lineMarks : Row → ℕ
-lineMarks r = mark 1 (rule1 r) + mark 4 (rule4 r)
-
 -- where a line stands: above every heading and field, above every heading, in an item
 pub data Place : Type 0 where
   nowhere prelude inside : Place
@@ -45,8 +42,13 @@ rule3 nowhere = true
 rule3 prelude = true
 rule3 inside = false
 
-unfoldable pub lowMarks : Place → LowRow → ℕ
-lowMarks p l = lineMarks (l .row) + mark 2 (rule2 p l) + mark 3 (rule3 p)
+-- at a continuation, or a line of no kind
+unfoldable pub lowTests : Place → LowRow → List Test
+lowTests p l =
+    (1 if rule1 (l .row)) ∷
+    (2 if rule2 p l) ∷
+    (3 if rule3 p) ∷
+    (4 if rule4 (l .row)) ∷ []
 
 -- ---- fields
 -- the continuations among some lines
@@ -106,13 +108,27 @@ large (Reads h) (Stated n a) = false
 large (Reads h) (Party b) = false
 large Unreadable r = false
 
--- in an item whose heading reads as h
-unfoldable pub fieldMarks : ℕ → Read → List (Group FieldRow) → Group FieldRow → ℕ
-fieldMarks today h above g =
-    lineMarks (g .owner .row)
-    + (mark 5 (rule5 above g) + mark 6 (rule6 g) + mark 7 (rule7 g) + mark 8 (isFirstKc above g && late today h (says g))
-    + mark 9 (isFirstKc above g && large h (says g)))
+-- so at a field: it is that KC, and its day breaks 8, or its amount 9
+abbrev pub rule8At : ℕ → Read → List (Group FieldRow) → Group FieldRow → Bool
+rule8At today h above g = isFirstKc above g && late today h (says g)
 
--- above the first heading: 'rules 5 to 9 are of fields inside items'
-unfoldable pub looseMarks : Group FieldRow → ℕ
-looseMarks g = lineMarks (g .owner .row) + mark 3 true
+abbrev pub rule9At : Read → List (Group FieldRow) → Group FieldRow → Bool
+rule9At h above g = isFirstKc above g && large h (says g)
+
+-- at a field of an item, by what its heading reads as and the fields above it
+unfoldable pub fieldTests : ℕ → Read → List (Group FieldRow) → Group FieldRow → List Test
+fieldTests today h above g =
+    (1 if rule1 (g .owner .row)) ∷
+    (4 if rule4 (g .owner .row)) ∷
+    (5 if rule5 above g) ∷
+    (6 if rule6 g) ∷
+    (7 if rule7 g) ∷
+    (8 if rule8At today h above g) ∷
+    (9 if rule9At h above g) ∷ []
+
+-- at a field above the first heading: 5 to 9 are of 'fields inside items'
+unfoldable pub looseTests : Group FieldRow → List Test
+looseTests g =
+    (1 if rule1 (g .owner .row)) ∷
+    (3 if rule3 prelude) ∷
+    (4 if rule4 (g .owner .row)) ∷ []

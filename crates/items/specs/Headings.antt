@@ -1,13 +1,14 @@
--- An item as the rules of blocks see it, and the marks at its heading.
-use Prim.Native.Nat.{ℕ, _+_}
+-- An item as the rules of blocks see it, and the tests at its heading.
+use Prim.Native.Nat.{ℕ}
 use mathlib.Core.Bool.{Bool, true, false, cond, _||_}
 use mathlib.Core.Option.{Option, none, some}
-use mathlib.Core.List.{List, [], _∷_, map}
+use mathlib.Core.List.{List, [], _∷_, _++_, map}
 use lib.Dec.{eqb}
-use Rattle.laws.specs.Tests.{mark}
+use Rattle.ledger.specs.Faults.{Test, _if_}
 use Rattle.headings.specs.declared.Read.{Read}
 use Rattle.headings.specs.declared.Read.the-variants.{Reads, Unreadable}
 use Rattle.headings.specs.Reading.{headingOf}
+use Rattle.headings.specs.HeadRules.{rule10, rule13, rule14}
 use Rattle.fields.specs.declared.readings.Reading.{Reading}
 use Rattle.fields.specs.declared.readings.Reading.the-variants.{Broken, Plain, Paid, Span, Stated, Party}
 use Rattle.fields.specs.Kinds.{named}
@@ -21,12 +22,11 @@ use Rattle.blocks.specs.declared.Stated.{Stated as StatedOf}
 use Rattle.blocks.specs.declared.Stated.the-variants.{NoSum, BrokenSum, Says}
 use Rattle.blocks.specs.declared.Sum.{Sum}
 use Rattle.blocks.specs.declared.Item.{Item as Digest}
-use Rattle.blocks.specs.Items.{empty, closes, noneCloses, blockAbove}
-use Rattle.blocks.specs.BlockRules.{rule16}
-use Rattle.blocks.specs.Marks.{headMarks as blockMarks}
+use Rattle.blocks.specs.OwnRules.{rule11, rule12, rule15}
+use Rattle.blocks.specs.BlockRules.{rule16, rule17, rule18, rule19, rule20, rule21, rule22, rule30}
 use Rattle.items.specs.Rows.{Row, FieldRow, LowRow}
 use Rattle.items.specs.Tree.{Group, Item}
-use Rattle.items.specs.Fields.{lineMarks, says, stands}
+use Rattle.items.specs.Fields.{rule1, rule4, says, stands}
 
 -- a continuation stands among some lines
 unfoldable pub continued : List LowRow → Bool
@@ -40,6 +40,10 @@ headOf g = cond (continued (g .below)) Unreadable (headingOf (g .owner .bytes))
 abbrev pub isUnreadable : Read → Bool
 isUnreadable (Reads h) = false
 isUnreadable Unreadable = true
+
+-- 6: layout broken ('HD too, at the heading')
+abbrev pub rule6At : Group Row → Bool
+rule6At g = isUnreadable (headOf g)
 
 -- the first of two, where there is one
 abbrev pub orElse : Option Reading → Option Reading → Option Reading
@@ -98,8 +102,8 @@ statedOf none = NoSum
 statedOf (some r) = statedBy r
 
 -- one for each group
-abbrev pub nine : (ℕ → Sum) → List Sum
-nine f = f 0 ∷ f 1 ∷ f 2 ∷ f 3 ∷ f 4 ∷ f 5 ∷ f 6 ∷ f 7 ∷ f 8 ∷ []
+abbrev pub nineSums : (ℕ → Sum) → List Sum
+nineSums f = f 0 ∷ f 1 ∷ f 2 ∷ f 3 ∷ f 4 ∷ f 5 ∷ f 6 ∷ f 7 ∷ f 8 ∷ []
 
 unfoldable pub digest : Item → Digest
 digest i =
@@ -108,25 +112,52 @@ digest i =
       head = headOf (i .head);
       kc = kcOf (firstSaid (is (named "KC")) (i .fields));
       span = spanOf (firstSaid (is (named "IN")) (i .fields));
-      sums = record { groups = nine (λ d. record { stated = statedOf (firstSaid (isGroup d) (i .fields)) }) };
+      sums = record { groups = nineSums (λ d. record { stated = statedOf (firstSaid (isGroup d) (i .fields)) }) };
       s9 = stands (named "S9") (i .fields);
     }
 
--- an item ends a block; no item of the open block stands above; no block ends from here on
-abbrev pub ends : Item → Bool
-ends i = closes (digest i)
+-- 16: the first heading (readable or not) after the last block, or the file's first if it has no block
+abbrev pub rule16At : List Item → Item → List Item → Bool
+rule16At above i below = rule16 (map digest above) (digest i) (map digest below)
 
-abbrev pub fresh : List Item → Bool
-fresh above = empty (blockAbove (map digest above))
+-- ---- the tests at a heading
+-- 10 to 15, 'at a readable heading', for the submitter's code and the accounting day
+unfoldable pub ownTests : ℕ → ℕ → Digest → Read → List Test
+ownTests code today it Unreadable = []
+ownTests code today it (Reads h) =
+    (10 if rule10 h) ∷
+    (11 if rule11 today h) ∷
+    (12 if rule12 code h) ∷
+    (13 if rule13 h) ∷
+    (14 if rule14 h) ∷
+    (15 if rule15 h (it .kc)) ∷ []
 
-abbrev pub noneEnds : List Item → Bool
-noneEnds is = noneCloses (map digest is)
+-- 17 to 38, which 'concern readable headings', by the items above
+unfoldable pub blockTests : List Digest → Digest → Read → List Test
+blockTests above it Unreadable = []
+blockTests above it (Reads h) =
+    (17 if rule17 above h) ∷
+    (18 if rule18 above h) ∷
+    (19 if rule19 above h) ∷
+    (20 if rule20 above h) ∷
+    (21 if rule21 above h (it .span)) ∷
+    (22 if rule22 h (it .s9)) ∷
+    (30 if rule30 0 above h (it .sums)) ∷
+    (31 if rule30 1 above h (it .sums)) ∷
+    (32 if rule30 2 above h (it .sums)) ∷
+    (33 if rule30 3 above h (it .sums)) ∷
+    (34 if rule30 4 above h (it .sums)) ∷
+    (35 if rule30 5 above h (it .sums)) ∷
+    (36 if rule30 6 above h (it .sums)) ∷
+    (37 if rule30 7 above h (it .sums)) ∷
+    (38 if rule30 8 above h (it .sums)) ∷ []
 
--- the marks at a heading but 16, for the submitter's code and the accounting day; 6: layout broken
-unfoldable pub headMarks : ℕ → ℕ → List Item → Item → ℕ
-headMarks code today above i =
-    lineMarks (i .head .owner) + mark 6 (isUnreadable (headOf (i .head))) + blockMarks code today (map digest above) (digest i)
-
--- 16, by the items below too
-abbrev pub sixteen : List Item → Item → List Item → Bool
-sixteen above i below = rule16 (map digest above) (digest i) (map digest below)
+-- all of them, by the items above and below
+unfoldable pub headTests : ℕ → ℕ → List Item → Item → List Item → List Test
+headTests code today above i below =
+    (1 if rule1 (i .head .owner)) ∷
+    (4 if rule4 (i .head .owner)) ∷
+    (6 if rule6At (i .head)) ∷
+    (ownTests code today (digest i) (headOf (i .head)) ++
+    ((16 if rule16At above i below) ∷
+    blockTests (map digest above) (digest i) (headOf (i .head))))

@@ -5,7 +5,8 @@ use mathlib.Core.List.{List, [], _++_}
 use lib.Dec.{eqb, leb, ltb}
 use lib.ListN.{getD, set, replicate}
 use Rattle.laws.specs.Tests.{mark}
-use Rattle.ledger.specs.Faults.{Fault, marked}
+use Rattle.ledger.specs.Faults.{Fault}
+use Rattle.ledger.specs.Marks.{marked}
 use Rattle.headings.specs.declared.Read.{Read}
 use Rattle.headings.specs.declared.Read.the-variants.{Reads, Unreadable}
 use Rattle.fields.specs.declared.classes.Class.the-variants.{Free}
@@ -124,12 +125,12 @@ abbrev pub claimsAfter : Claims → Live → Claims
 claimsAfter c s = cond (isClaim s) (claimsWith c (s .owner .ident) (saidOf s)) c
 
 -- ---- marks
-abbrev pub ownMarks : Bool → Bool → ℕ
-ownMarks bad ended = mark 1 bad + mark 4 (not ended)
+abbrev pub lineMarksOf : Bool → Bool → ℕ
+lineMarksOf bad ended = mark 1 bad + mark 4 (not ended)
 
 abbrev pub lowMarksOf : Live → Low → ℕ
 lowMarksOf s l =
-    ownMarks (l .bad) (l .ended) + mark 2 (not (s .headed || s .fielded) || not (l .continues)) + mark 3 (not (s .headed))
+    lineMarksOf (l .bad) (l .ended) + mark 2 (not (s .headed || s .fielded) || not (l .continues)) + mark 3 (not (s .headed))
 
 abbrev pub firstKc : Live → Kc → Bool
 firstKc s kc = eqb (s .owner .ident) (named "KC") && noKc kc
@@ -154,7 +155,7 @@ insideMarks j s kc again =
 unfoldable pub fieldMarksOf : Job → Live → Kc → Bool → ℕ
 fieldMarksOf j s kc again =
     cond (s .fielded)
-    (cond (s .headed) (ownMarks (s .owner .bad) (s .owner .ended) + insideMarks j s kc again) (ownMarks (s .owner .bad) (s .owner .ended) + 8)) 0
+    (cond (s .headed) (lineMarksOf (s .owner .bad) (s .owner .ended) + insideMarks j s kc again) (lineMarksOf (s .owner .bad) (s .owner .ended) + 8)) 0
 
 -- ---- an item closes
 abbrev pub noWait : Wait
@@ -164,7 +165,7 @@ abbrev pub itemModel : Live → Claims → Digest
 itemModel s c = record { line = s .head .no; head = readOf s; kc = c .kc; span = c .span; sums = c .sums; s9 = c .s9 }
 
 unfoldable pub headMarksOf : Live → ℕ → ℕ
-headMarksOf s m = ownMarks (s .head .bad) (s .head .ended) + mark 6 (isUnreadable (readOf s)) + m
+headMarksOf s m = lineMarksOf (s .head .bad) (s .head .ended) + mark 6 (isUnreadable (readOf s)) + m
 
 abbrev pub shut : Block → Wait → ℕ → ℕ → Shut
 shut b w t m = record { block = b; wait = w; told = t; marks = m }
@@ -175,8 +176,8 @@ shutAs true true any b b′ w n m = shut b′ noWait (cond any (w .marks) 0) m
 shutAs true false true b b′ w n m = shut b′ w 0 m
 shutAs true false false b b′ w n m = shut b′ (record { line = n; marks = m }) 0 0
 
-unfoldable pub closeModel : Job → Block → Wait → Live → Claims → Shut
-closeModel j b w s c =
+unfoldable pub shutModel : Job → Block → Wait → Live → Claims → Shut
+shutModel j b w s c =
     let closed = blockModel j b (itemModel s c) in
     shutAs (s .headed) (closesAt (readOf s)) (b .any) b (closed .block) w (s .head .no) (headMarksOf s (closed .marks))
 
@@ -190,7 +191,7 @@ fieldFaults j s c stood = marked (s .owner .no) (fieldMarksOf j s (c .kc) (ltb (
 
 -- the open item: the one who waited, and its own heading
 abbrev pub itemFaults : Job → Block → Wait → Live → Claims → List Fault
-itemFaults j b w s c = marked (w .line) (closeModel j b w s c .told) ++ marked (s .head .no) (closeModel j b w s c .marks)
+itemFaults j b w s c = marked (w .line) (shutModel j b w s c .told) ++ marked (s .head .no) (shutModel j b w s c .marks)
 
 -- all that is open
 abbrev pub openFaults : Job → Live → Claims → Block → Wait → List ℕ → List Fault
@@ -199,5 +200,5 @@ openFaults j s c b w stood = fieldFaults j s c stood ++ itemFaults j b w s (clai
 -- the one who waits then, where the file ends
 abbrev pub lastFaults : Job → Live → Claims → Block → Wait → List Fault
 lastFaults j s c b w =
-    let closed = closeModel j b w s (claimsAfter c s) in
+    let closed = shutModel j b w s (claimsAfter c s) in
     marked (closed .wait .line) (lastMarks (closed .block) (closed .wait))

@@ -18,8 +18,8 @@ pub record File : Type 0 where
   pub loose : List (Group FieldRow)
   pub items : List Item
 
-abbrev pub none : File
-none = record { top = []; loose = []; items = [] }
+abbrev pub noLines : File
+noLines = record { top = []; loose = []; items = [] }
 
 -- the item of a heading above a file
 abbrev pub itemOf : Row → File → Item
@@ -33,5 +33,5 @@ field x ▹ f = record { top = []; loose = record { owner = x; below = f .top } 
 low l ▹ f = record { top = l ∷ f .top; loose = f .loose; items = f .items }
 
 abbrev pub tree : List Sorted → File
-tree [] = none
+tree [] = noLines
 tree (l ∷ ls) = l ▹ tree ls

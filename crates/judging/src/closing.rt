@@ -11,7 +11,7 @@ use items::Wait;
 ghost use mathlib.Core.Path.{_≡_};
 ghost use Prim.Native.Nat.{_<_, _+_, _^_};
 ghost use Rattle.items.specs.Headings.{isUnreadable};
-ghost use Rattle.items.specs.State.{noWait, itemModel, headMarksOf, closeModel, lastMarks};
+ghost use Rattle.items.specs.State.{noWait, itemModel, headMarksOf, shutModel, lastMarks};
 
 pub fn no_wait() -> Wait
     ensures { λ r. ⌜ r ≡ noWait ⌝ }
@@ -51,12 +51,12 @@ fn head_marks(s: Live, marks: u64) -> u64
     ensures { λ r. ⌜ (r ≡ headMarksOf s marks) × (r < 2 ^ 40) ⌝ }
 {
     let read = items::open::read_of(s);
-    crate::marking::own_marks(s.head.bad, s.head.ended) + flag(is_unreadable(read), 64) + marks
+    crate::marking::line_marks(s.head.bad, s.head.ended) + flag(is_unreadable(read), 64) + marks
 }
 
 pub fn close_item(job: Job, b: Block, w: Wait, s: Live, claims: Claims) -> Shut
     requires { ⌜ w .marks < 2 ^ 40 ⌝ }
-    ensures { λ r. ⌜ (r ≡ closeModel job b w s claims) × (r .wait .marks < 2 ^ 40) × (r .told < 2 ^ 40) × (r .marks < 2 ^ 40) ⌝ }
+    ensures { λ r. ⌜ (r ≡ shutModel job b w s claims) × (r .wait .marks < 2 ^ 40) × (r .told < 2 ^ 40) × (r .marks < 2 ^ 40) ⌝ }
 {
     if !s.headed {
         return Shut {

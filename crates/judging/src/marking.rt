@@ -11,11 +11,11 @@ ghost use mathlib.Core.Path.{_≡_};
 ghost use Prim.Native.Nat.{_<_, _≤_};
 ghost use Rattle.fields.specs.Tails.{isBroken};
 ghost use Rattle.items.specs.Fields.{failsCheck};
-ghost use Rattle.items.specs.State.{ownMarks, lowMarksOf, kcMarks, firstKc, insideMarks, fieldMarksOf};
+ghost use Rattle.items.specs.State.{lineMarksOf, lowMarksOf, kcMarks, firstKc, insideMarks, fieldMarksOf};
 
 // 1 and 4.
-pub fn own_marks(bad: bool, ended: bool) -> u64
-    ensures { λ r. ⌜ (r ≡ ownMarks bad ended) × (r ≤ 18) ⌝ }
+pub fn line_marks(bad: bool, ended: bool) -> u64
+    ensures { λ r. ⌜ (r ≡ lineMarksOf bad ended) × (r ≤ 18) ⌝ }
 {
     flag(bad, 2) + flag(!ended, 16)
 }
@@ -23,7 +23,9 @@ pub fn own_marks(bad: bool, ended: bool) -> u64
 pub fn low_marks(s: Live, l: Low) -> u64
     ensures { λ r. ⌜ r ≡ lowMarksOf s l ⌝ }
 {
-    own_marks(l.bad, l.ended) + flag(!(s.headed | s.fielded) | !l.continues, 4) + flag(!s.headed, 8)
+    line_marks(l.bad, l.ended)
+        + flag(!(s.headed | s.fielded) | !l.continues, 4)
+        + flag(!s.headed, 8)
 }
 
 fn is_broken(said: Reading) -> bool
@@ -103,7 +105,7 @@ pub fn field_marks(job: Job, s: Live, kc: Kc, again: bool) -> u64
     if !s.fielded {
         return 0;
     }
-    let own = own_marks(s.owner.bad, s.owner.ended);
+    let own = line_marks(s.owner.bad, s.owner.ended);
     if s.headed {
         return own + inside_marks(job, s, kc, again);
     }

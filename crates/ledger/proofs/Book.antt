@@ -7,8 +7,9 @@ use native.Mathlib.Omega.{arith}
 use lib.ListN.{length, take, drop, take-append-drop}
 use lib.Seq.{drop-nil}
 use Rattle.ledger.specs.declared.Ledger.{Ledger}
-use Rattle.ledger.specs.Faults.{Fault, insertAll}
-use Rattle.ledger.specs.Slices.{pairs, held, Ready, Put, Entered, written, Listed}
+use Rattle.ledger.specs.Faults.{Fault, written}
+use Rattle.ledger.specs.Marks.{insertAll}
+use Rattle.ledger.specs.Slices.{pairs, held, Ready, Put, Entered, Listed}
 use Rattle.ledger.proofs.Insertion.{length-insertAll, insertAll-append}
 use Rattle.ledger.proofs.Pairs.{lines-of, rules-of}
 use Rattle.ledger.proofs.Entering.{entered-none, entered-both}

@@ -1,10 +1,12 @@
--- Entries, each a line with its set of marks: put in one by one in whichever order they give the same list, and in line order the list of their faults.
+-- Lines, each with its set of marks: put in one by one in whichever order they give the same list, and in line order the list of their faults.
 use mathlib.Core.Path.{_≡_, refl, sym, ap, _∙_}
 use mathlib.Core.List.{List, [], _∷_, _++_, map}
 use Prim.Native.Nat.{ℕ}
-use Rattle.ledger.specs.Faults.{Fault, Entry, marked, faultsOf, Rising, insertAll}
+use Rattle.ledger.specs.Faults.{Fault, Spot, faultsOf}
+use Rattle.ledger.specs.Marks.{setOf, marked, markedOf, insertAll}
+use Rattle.ledger.proofs.Rising.{Rising}
 use Rattle.ledger.proofs.Insertion.{insertAll-append, insertAll-swap}
-use Rattle.ledger.proofs.Faults.{marked-small, faults-in-order}
+use Rattle.ledger.proofs.Faults.{marked-small, faults-in-order, Orderly, marked-faults}
 
 -- ---- things put one by one, where the order of two does not matter
 
@@ -35,22 +37,25 @@ module _ {A : Type 0} {L : Type 0} (put : A → L → L) where
     one e [] ys l = refl
     one e (x ∷ xs) ys l = ap (putAll (xs ++ ys)) (comm x e l) ∙ one e xs ys (put x l)
 
--- ---- entries put in the list
+-- ---- the faults of lines put in the list
 
--- the list with the faults of an entry put in
-abbrev pub put : Entry → List Fault → List Fault
-put e all = insertAll (marked (e .line) (e .marks)) all
+-- the list with the faults of a line put in, by its set of marks
+abbrev pub put : Spot → List Fault → List Fault
+put s all = insertAll (marked (s .line) (setOf (s .tests))) all
 
--- the order of two entries does not matter
-pub put-comm : (a b : Entry) (l : List Fault) → put a (put b l) ≡ put b (put a l)
-put-comm a b l = insertAll-swap (marked (a .line) (a .marks)) (marked (b .line) (b .marks)) l (marked-small (a .line) (a .marks)) (marked-small (b .line) (b .marks))
+-- the order of two does not matter
+pub put-comm : (a b : Spot) (l : List Fault) → put a (put b l) ≡ put b (put a l)
+put-comm a b l =
+    let m : ℕ = setOf (a .tests) in
+    let n : ℕ = setOf (b .tests) in
+    insertAll-swap (marked (a .line) m) (marked (b .line) n) l (marked-small (a .line) m) (marked-small (b .line) n)
 
 -- one by one, or the list of all their faults at once
-pub put-entries : (es : List Entry) (all : List Fault) → putAll put es all ≡ insertAll (faultsOf es) all
-unfolding faultsOf insertAll
-put-entries [] all = refl
-put-entries (e ∷ es) all = put-entries es (put e all) ∙ sym (insertAll-append (marked (e .line) (e .marks)) (faultsOf es) all)
+pub put-spots : (ss : List Spot) (all : List Fault) → putAll put ss all ≡ insertAll (markedOf ss) all
+unfolding markedOf insertAll
+put-spots [] all = refl
+put-spots (s ∷ ss) all = put-spots ss (put s all) ∙ sym (insertAll-append (marked (s .line) (setOf (s .tests))) (markedOf ss) all)
 
--- entries of ascending lines: what is put in is the list of their faults
-pub in-line-order : (n : ℕ) (es : List Entry) → Rising n (map (λ (e : Entry). e .line) es) → putAll put es [] ≡ faultsOf es
-in-line-order n es R = put-entries es [] ∙ faults-in-order n es R
+-- lines that rise: what is put in is the list of their faults
+pub in-line-order : (n : ℕ) (ss : List Spot) → Orderly ss → Rising n (map (λ (s : Spot). s .line) ss) → putAll put ss [] ≡ faultsOf ss
+in-line-order n ss O R = put-spots ss [] ∙ faults-in-order n ss R ∙ marked-faults ss O

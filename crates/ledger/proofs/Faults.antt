@@ -6,10 +6,12 @@ use native.Mathlib.Decide.{decLt}
 use Prim.Native.Nat.{ℕ, suc, _+_, _*_, _≤_, _<_}
 use native.Mathlib.Omega.{arith}
 use lib.ListN.{length, length-append, length-map}
-use Rattle.ledger.specs.Marks.{rulesOf}
-use Rattle.ledger.specs.Faults.{Fault, Entry, fault, marked, faultsOf, sizes, Broken, Before, BeforeAll, Ascending, Rising, key, insert, insertAll}
-use Rattle.ledger.proofs.Rising.{Under, rising-le, rising-append}
-use Rattle.ledger.proofs.Marks.{rules-rise, rules-under}
+use mathlib.Core.Bool.{Bool, true, false, cond, true≢false}
+use lib.Dec.{T}
+use Rattle.ledger.specs.Faults.{Fault, fault, Test, _if_, brokenOf, Spot, faultsAt, faultsOf, BrokenAt, Broken, sizes, Before, BeforeAll, Ascending}
+use Rattle.ledger.specs.Marks.{rulesOf, setOf, ascending, marked, markedOf, setSizes, key, insert, insertAll}
+use Rattle.ledger.proofs.Rising.{Rising, Under, rising-le, rising-append, only-one}
+use Rattle.ledger.proofs.Marks.{rules-rise, rules-under, tests-rise, marked-set, size-is-ones}
 use Rattle.ledger.proofs.Insertion.{Small, insert-gt}
 
 -- the order of keys is by line and at one line by rule, since rules are below 64
@@ -44,31 +46,59 @@ pub marked-small : (line m : ℕ) → Small (marked line m)
 marked-small line m = line-small line (rulesOf m) (rules-under m)
 
 -- lines that rise give keys that rise
-faults-rise : (n : ℕ) (es : List Entry) → Rising n (map (λ (e : Entry). e .line) es) → Rising (64 * n) (map key (faultsOf es))
-unfolding faultsOf
+faults-rise : (n : ℕ) (ss : List Spot) → Rising n (map (λ (s : Spot). s .line) ss) → Rising (64 * n) (map key (markedOf ss))
+unfolding markedOf
 faults-rise n [] R = tt
-faults-rise n (e ∷ es) R =
-    let xs : List Fault = marked (e .line) (e .marks) in
-    rw map-append (rising-append (64 * n) (64 * suc (e .line)) (map key xs) (map key (faultsOf es)) (omega (arith, R .0))
-    (rising-le (64 * n) (64 * e .line + 0) (map key xs) (omega (arith, R .0)) (line-rises (e .line) 0 (rulesOf (e .marks)) (rules-rise (e .marks))))
-    (line-under (e .line) (64 * suc (e .line)) (rulesOf (e .marks)) (omega arith) (rules-under (e .marks)))
-    (faults-rise (suc (e .line)) es (R .1)))
+faults-rise n (s ∷ ss) R =
+    let m : ℕ = setOf (s .tests) in
+    let xs : List Fault = marked (s .line) m in
+    rw map-append (rising-append (64 * n) (64 * suc (s .line)) (map key xs) (map key (markedOf ss)) (omega (arith, R .0))
+    (rising-le (64 * n) (64 * s .line + 0) (map key xs) (omega (arith, R .0)) (line-rises (s .line) 0 (rulesOf m) (rules-rise m)))
+    (line-under (s .line) (64 * suc (s .line)) (rulesOf m) (omega arith) (rules-under m))
+    (faults-rise (suc (s .line)) ss (R .1)))
 
--- the total is the sum of the sizes of the sets
-pub faults-count : (es : List Entry) → length (faultsOf es) ≡ sizes es
+-- the total is the sum of the sizes
+pub faults-count : (ss : List Spot) → length (faultsOf ss) ≡ sizes ss
 unfolding faultsOf
 faults-count [] = refl
-faults-count (e ∷ es) =
-    omega (arith, length-append (marked (e .line) (e .marks)) (faultsOf es), length-map (rulesOf (e .marks)) (fault (e .line)), faults-count es)
+faults-count (s ∷ ss) = omega (arith, length-append (faultsAt s) (faultsOf ss), length-map (brokenOf (s .tests)) (fault (s .line)), faults-count ss)
 
 small-append : (xs ys : List Fault) → Small xs → Small ys → Small (xs ++ ys)
 small-append [] ys S T = T
 small-append (x ∷ xs) ys S T = (S .0, small-append xs ys (S .1) T)
 
-faults-small : (es : List Entry) → Small (faultsOf es)
-unfolding faultsOf
+faults-small : (ss : List Spot) → Small (markedOf ss)
+unfolding markedOf
 faults-small [] = tt
-faults-small (e ∷ es) = small-append (marked (e .line) (e .marks)) (faultsOf es) (marked-small (e .line) (e .marks)) (faults-small es)
+faults-small (s ∷ ss) = small-append (marked (s .line) (setOf (s .tests))) (markedOf ss) (marked-small (s .line) (setOf (s .tests))) (faults-small ss)
+
+-- the tests of each line ascend
+abbrev pub Orderly : List Spot → Type 0
+Orderly [] = Unit {0}
+Orderly (s ∷ ss) = T (ascending 0 (s .tests)) × Orderly ss
+
+pub orderly-append : (xs ys : List Spot) → Orderly xs → Orderly ys → Orderly (xs ++ ys)
+orderly-append [] ys O Q = Q
+orderly-append (x ∷ xs) ys O Q = (O .0, orderly-append xs ys (O .1) Q)
+
+-- then the faults of their sets of marks are the faults
+pub marked-faults : (ss : List Spot) → Orderly ss → markedOf ss ≡ faultsOf ss
+unfolding markedOf faultsOf
+marked-faults [] O = refl
+marked-faults (s ∷ ss) O = λ i. marked-set (s .line) (s .tests) (O .0) i ++ marked-faults ss (O .1) i
+
+orderly-at : (ss : List Spot) (s : Spot) → Orderly ss → List·Memᴰ s ss → T (ascending 0 (s .tests))
+orderly-at [] s O m = absurd (List·Memᴰ·not-nil m)
+orderly-at (d ∷ ss) s O m = go (orderly-at ss s (O .1)) (List·Memᴰ·cases-cons m)
+  where
+    go : (List·Memᴰ s ss → T (ascending 0 (s .tests))) → (s ≡ d) ⊎ List·Memᴰ s ss → T (ascending 0 (s .tests))
+    go ih (inl e) = subst (λ (x : Spot). T (ascending 0 (x .tests))) (sym e) (O .0)
+    go ih (inr n) = ih n
+
+-- and their sizes are the sizes of their sets of marks
+pub sizes-of-sets : (ss : List Spot) → Orderly ss → sizes ss ≡ setSizes ss
+sizes-of-sets [] O = refl
+sizes-of-sets (s ∷ ss) O = λ i. size-is-ones (s .tests) (O .0) i + sizes-of-sets ss (O .1) i
 
 before-all : (k : ℕ) (x : Fault) (xs : List Fault) → x .rule < 64 → Small xs → key x < k → Rising k (map key xs) → BeforeAll x xs
 before-all k x [] h S l R = tt
@@ -78,48 +108,94 @@ ascends : (k : ℕ) (xs : List Fault) → Small xs → Rising k (map key xs) →
 ascends k [] S R = tt
 ascends k (x ∷ xs) S R = (before-all (suc (key x)) x xs (S .0) (S .1) (omega arith) (R .1), ascends (suc (key x)) xs (S .1) (R .1))
 
--- entries of ascending lines give the list by line and then by rule, each fault once
-pub faults-ascend : (n : ℕ) (es : List Entry) → Rising n (map (λ (e : Entry). e .line) es) → Ascending (faultsOf es)
-faults-ascend n es R = ascends (64 * n) (faultsOf es) (faults-small es) (faults-rise n es R)
+-- lines that rise give the list by line and then by rule, each fault once
+pub faults-ascend : (n : ℕ) (ss : List Spot) → Orderly ss → Rising n (map (λ (s : Spot). s .line) ss) → Ascending (faultsOf ss)
+faults-ascend n ss O R = subst Ascending (marked-faults ss O) (ascends (64 * n) (markedOf ss) (faults-small ss) (faults-rise n ss R))
 
 -- ---- the members of the list
 
-at-line : (f : Fault) (e : Entry) → List·Memᴰ f (marked (e .line) (e .marks)) ↔ ((f .line ≡ e .line) × List·Memᴰ (f .rule) (rulesOf (e .marks)))
-at-line f e = (there, back)
+-- a rule is among the broken ones exactly when a test says so
+there-broken : (r : ℕ) (ts : List Test) → List·Memᴰ r (brokenOf ts) → List·Memᴰ (r if true) ts
+there-broken r [] m = absurd (List·Memᴰ·not-nil m)
+there-broken r (t ∷ ts) m = go (there-broken r ts) (t .broken) refl m
   where
-    there : List·Memᴰ f (marked (e .line) (e .marks)) → (f .line ≡ e .line) × List·Memᴰ (f .rule) (rulesOf (e .marks))
+    at : (List·Memᴰ r (brokenOf ts) → List·Memᴰ (r if true) ts) → t .broken ≡ true → (r ≡ t .rule) ⊎ List·Memᴰ r (brokenOf ts) → List·Memᴰ (r if true) (t ∷ ts)
+    at ih e (inl q) = List·Memᴰ·head (λ i. record { rule = q i; broken = sym e i })
+    at ih e (inr n) = List·Memᴰ·tail (ih n)
+
+    go : (List·Memᴰ r (brokenOf ts) → List·Memᴰ (r if true) ts) → (b : Bool) → t .broken ≡ b → List·Memᴰ r (cond b (t .rule ∷ brokenOf ts) (brokenOf ts)) → List·Memᴰ (r if true) (t ∷ ts)
+    go ih false e m = List·Memᴰ·tail (ih m)
+    go ih true e m = at ih e (List·Memᴰ·cases-cons m)
+
+back-broken : (r : ℕ) (ts : List Test) → List·Memᴰ (r if true) ts → List·Memᴰ r (brokenOf ts)
+back-broken r [] m = absurd (List·Memᴰ·not-nil m)
+back-broken r (t ∷ ts) m = go (back-broken r ts) (t .broken) refl (List·Memᴰ·cases-cons m)
+  where
+    go : (List·Memᴰ (r if true) ts → List·Memᴰ r (brokenOf ts)) → (b : Bool) → t .broken ≡ b → ((r if true) ≡ t) ⊎ List·Memᴰ (r if true) ts
+        → List·Memᴰ r (cond b (t .rule ∷ brokenOf ts) (brokenOf ts))
+    go ih true e (inl q) = List·Memᴰ·head (ap (λ (u : Test). u .rule) q)
+    go ih true e (inr n) = List·Memᴰ·tail (ih n)
+    go ih false e (inl q) = absurd (true≢false (ap (λ (u : Test). u .broken) q ∙ e))
+    go ih false e (inr n) = ih n
+
+at-line : (f : Fault) (s : Spot) → List·Memᴰ f (faultsAt s) ↔ ((f .line ≡ s .line) × BrokenAt (f .rule) s)
+at-line f s = (there, back)
+  where
+    there : List·Memᴰ f (faultsAt s) → (f .line ≡ s .line) × BrokenAt (f .rule) s
     there m =
-        let o = Memᴰ·of-map (fault (e .line)) (rulesOf (e .marks)) m in
-        (sym (ap (λ (g : Fault). g .line) (o .2)), Memᴰ·cast (sym (ap (λ (g : Fault). g .rule) (o .2))) (o .1))
+        let o = Memᴰ·of-map (fault (s .line)) (brokenOf (s .tests)) m in
+        (sym (ap (λ (g : Fault). g .line) (o .2)), there-broken (f .rule) (s .tests) (Memᴰ·cast (sym (ap (λ (g : Fault). g .rule) (o .2))) (o .1)))
 
-    back : (f .line ≡ e .line) × List·Memᴰ (f .rule) (rulesOf (e .marks)) → List·Memᴰ f (marked (e .line) (e .marks))
-    back p = Memᴰ·cast (λ i. record { line = p .0 i; rule = f .rule }) (Memᴰ·map (fault (e .line)) (p .1))
+    back : (f .line ≡ s .line) × BrokenAt (f .rule) s → List·Memᴰ f (faultsAt s)
+    back p = Memᴰ·cast (λ i. record { line = p .0 i; rule = f .rule }) (Memᴰ·map (fault (s .line)) (back-broken (f .rule) (s .tests) (p .1)))
 
-listed-broken : (f : Fault) (es : List Entry) → List·Memᴰ f (faultsOf es) → Broken f es
+listed-broken : (f : Fault) (ss : List Spot) → List·Memᴰ f (faultsOf ss) → Broken f ss
 unfolding faultsOf
 listed-broken f [] m = absurd (List·Memᴰ·not-nil m)
-listed-broken f (e ∷ es) m = go (listed-broken f es) (List·Memᴰ·append-cases (marked (e .line) (e .marks)) m)
+listed-broken f (s ∷ ss) m = go (listed-broken f ss) (List·Memᴰ·append-cases (faultsAt s) m)
   where
-    go : (List·Memᴰ f (faultsOf es) → Broken f es) → List·Memᴰ f (marked (e .line) (e .marks)) ⊎ List·Memᴰ f (faultsOf es) → Broken f (e ∷ es)
-    go ih (inl n) = let a = at-line f e .0 n in (e, List·Memᴰ·head refl, a .0, a .1)
+    go : (List·Memᴰ f (faultsOf ss) → Broken f ss) → List·Memᴰ f (faultsAt s) ⊎ List·Memᴰ f (faultsOf ss) → Broken f (s ∷ ss)
+    go ih (inl n) = let a = at-line f s .0 n in (s, List·Memᴰ·head refl, a .0, a .1)
     go ih (inr n) = let b = ih n in (b .0, List·Memᴰ·tail (b .1), b .2, b .3)
 
-broken-listed : (f : Fault) (es : List Entry) (e : Entry) → List·Memᴰ e es → (f .line ≡ e .line) × List·Memᴰ (f .rule) (rulesOf (e .marks)) → List·Memᴰ f (faultsOf es)
+broken-listed : (f : Fault) (ss : List Spot) (s : Spot) → List·Memᴰ s ss → (f .line ≡ s .line) × BrokenAt (f .rule) s → List·Memᴰ f (faultsOf ss)
 unfolding faultsOf
-broken-listed f [] e m a = absurd (List·Memᴰ·not-nil m)
-broken-listed f (d ∷ es) e m a = go (List·Memᴰ·cases-cons m) (λ (n : List·Memᴰ e es). broken-listed f es e n a)
+broken-listed f [] s m a = absurd (List·Memᴰ·not-nil m)
+broken-listed f (d ∷ ss) s m a = go (List·Memᴰ·cases-cons m) (λ (n : List·Memᴰ s ss). broken-listed f ss s n a)
   where
-    go : (e ≡ d) ⊎ List·Memᴰ e es → (List·Memᴰ e es → List·Memᴰ f (faultsOf es)) → List·Memᴰ f (marked (d .line) (d .marks) ++ faultsOf es)
-    go (inl q) ih = Memᴰ·append-left (faultsOf es) (rw q at (at-line f e .1 a))
-    go (inr n) ih = Memᴰ·append-right (marked (d .line) (d .marks)) (ih n)
+    go : (s ≡ d) ⊎ List·Memᴰ s ss → (List·Memᴰ s ss → List·Memᴰ f (faultsOf ss)) → List·Memᴰ f (faultsAt d ++ faultsOf ss)
+    go (inl q) ih = Memᴰ·append-left (faultsOf ss) (rw q at (at-line f s .1 a))
+    go (inr n) ih = Memᴰ·append-right (faultsAt d) (ih n)
 
 -- the list holds each pair of a line and a rule broken there, and no other
-pub faults-members : (f : Fault) (es : List Entry) → List·Memᴰ f (faultsOf es) ↔ Broken f es
-faults-members f es = (listed-broken f es, λ b. broken-listed f es (b .0) (b .1) (b .2, b .3))
+pub faults-members : (f : Fault) (ss : List Spot) → List·Memᴰ f (faultsOf ss) ↔ Broken f ss
+faults-members f ss = (listed-broken f ss, λ b. broken-listed f ss (b .0) (b .1) (b .2, b .3))
+
+-- a rule is tested at most once at a line, so it is broken there exactly when its test says so
+test-decides : (ts : List Test) → T (ascending 0 ts) → (r : ℕ) (b : Bool) → List·Memᴰ (r if b) ts → List·Memᴰ (r if true) ts ↔ (b ≡ true)
+test-decides ts a r b m = (
+  λ n. ap (λ (t : Test). t .broken) (only-one (λ (t : Test). t .rule) 0 ts (tests-rise 0 ts a) (r if b) (r if true) m n refl),
+  λ e. subst (λ (c : Bool). List·Memᴰ (r if c) ts) e m,
+)
+
+-- and a line has one spot: a pair is in the list exactly when the test of its rule at its line says so, and never where it is not tested
+module _ (n : ℕ) (ss : List Spot) (R : Rising n (map (λ (s : Spot). s .line) ss)) (s : Spot) (m : List·Memᴰ s ss) (r : ℕ) where
+  at-spot : List·Memᴰ (fault (s .line) r) (faultsOf ss) → BrokenAt r s
+  at-spot p =
+      let b = faults-members (fault (s .line) r) ss .0 p in
+      subst (BrokenAt r) (sym (only-one (λ (x : Spot). x .line) n ss R s (b .0) m (b .1) (b .2))) (b .3)
+
+  pub listed-by-test : Orderly ss → (b : Bool) → List·Memᴰ (r if b) (s .tests) → List·Memᴰ (fault (s .line) r) (faultsOf ss) ↔ (b ≡ true)
+  listed-by-test O b t =
+      let d = test-decides (s .tests) (orderly-at ss s O m) r b t in
+      (λ p. d .0 (at-spot p), λ e. faults-members (fault (s .line) r) ss .1 (s, m, refl, d .1 e))
+
+  pub never-untested : ((b : Bool) → List·Memᴰ (r if b) (s .tests) → ⊥) → List·Memᴰ (fault (s .line) r) (faultsOf ss) → ⊥
+  never-untested h p = h true (at-spot p)
 
 -- the total is nought exactly when no rule is broken at any line
-pub faults-none : (es : List Entry) → (length (faultsOf es) ≡ 0) ↔ ((f : Fault) → Broken f es → ⊥)
-faults-none es = (λ z f b. empty (faultsOf es) z f (faults-members f es .1 b), λ h. nought (faultsOf es) (λ f m. h f (faults-members f es .0 m)))
+pub faults-none : (ss : List Spot) → (length (faultsOf ss) ≡ 0) ↔ ((f : Fault) → Broken f ss → ⊥)
+faults-none ss = (λ z f b. empty (faultsOf ss) z f (faults-members f ss .1 b), λ h. nought (faultsOf ss) (λ f m. h f (faults-members f ss .0 m)))
   where
     empty : (l : List Fault) → length l ≡ 0 → (f : Fault) → List·Memᴰ f l → ⊥
     empty [] z f m = List·Memᴰ·not-nil m
@@ -147,8 +223,8 @@ in-order k (x ∷ xs) ys R =
     ap (insertAll xs) (insert-end k ys x xs R) ∙ in-order k xs (ys ++ (x ∷ [])) (subst (λ (l : List Fault). Rising k (map key l)) (sym s) R) ∙ s
 
 -- a list in line order is what putting in its faults yields
-pub faults-in-order : (n : ℕ) (es : List Entry) → Rising n (map (λ (e : Entry). e .line) es) → insertAll (faultsOf es) [] ≡ faultsOf es
-faults-in-order n es R = in-order (64 * n) (faultsOf es) [] (faults-rise n es R)
+pub faults-in-order : (n : ℕ) (ss : List Spot) → Rising n (map (λ (s : Spot). s .line) ss) → insertAll (markedOf ss) [] ≡ markedOf ss
+faults-in-order n ss R = in-order (64 * n) (markedOf ss) [] (faults-rise n ss R)
 
 -- ---- a strictly ascending list is determined by its members
 

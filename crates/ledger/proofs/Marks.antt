@@ -1,7 +1,7 @@
 -- Laws of a set of marks: how many rules it has, which is the least and which are the others, and what a sum of marks holds.
 use mathlib.Core.Path.{_≡_, refl, sym, ap, _∙_}
 use mathlib.Core.Bool.{Bool, true, false, cond, _&&_}
-use mathlib.Core.List.{List, [], _∷_, _++_, append-nil, append-assoc}
+use mathlib.Core.List.{List, [], _∷_, _++_, map, append-nil, append-assoc}
 use Prim.Native.Nat.{ℕ, zero, suc, _+_, _-_, _*_, _/_, _%_, _^_, _≤_, _<_, min}
 use native.Mathlib.Nat.{pow-suc, zero-add, add-zero, add-assoc}
 use native.Mathlib.Omega.{arith}
@@ -13,9 +13,9 @@ use lib.Dec.{T, leb, ltb}
 use borrow.Author.Tests.{leb-true, ltb-true}
 use Rattle.laws.proofs.Entries.{and-left, and-right}
 use Rattle.laws.specs.Tests.{mark}
-use Rattle.ledger.specs.Marks.{digit, rulesFrom, rulesOf, Test, setOf, ascending, brokenOf}
-use Rattle.ledger.specs.Faults.{Rising, fault, marked}
-use Rattle.ledger.proofs.Rising.{Under, rising-le}
+use Rattle.ledger.specs.Faults.{Fault, fault, Test, brokenOf}
+use Rattle.ledger.specs.Marks.{digit, rulesFrom, rulesOf, setOf, ascending, marked}
+use Rattle.ledger.proofs.Rising.{Rising, Under, rising-le}
 
 half : (d m : ℕ) → m < 2 ^ suc d → m / 2 < 2 ^ d
 half d m h = omega (arith, pow-suc 2 d)
@@ -156,6 +156,11 @@ first-from k t ts a =
     holds true x = refl
     holds false x = absurd x
 
+-- the rules of ascending tests rise
+pub tests-rise : (k : ℕ) (ts : List Test) → T (ascending k ts) → Rising k (map (λ (t : Test). t .rule) ts)
+tests-rise k [] a = tt
+tests-rise k (t ∷ ts) a = let f = first-from k t ts a in (f .0, tests-rise (suc (t .rule)) ts (f .2))
+
 sum-onto : (k m : ℕ) (ts : List Test) → m < 2 ^ k → T (ascending k ts) → rulesOf (m + setOf ts) ≡ rulesOf m ++ brokenOf ts
 sum-onto k m [] h a = ap rulesOf (add-zero m) ∙ sym (append-nil (rulesOf m))
 sum-onto k m (t ∷ ts) h a =
@@ -186,3 +191,11 @@ sum-below k (t ∷ ts) h a =
 -- a sum of marks fits in 64 bits
 pub set-below : (ts : List Test) → T (ascending 0 ts) → setOf ts < 2 ^ 64
 set-below ts a = omega (arith, sum-below 0 ts (omega arith) a)
+
+-- the one law by which marks stand for tests: the faults of a set of marks are those of the broken tests
+pub marked-set : (line : ℕ) (ts : List Test) → T (ascending 0 ts) → marked line (setOf ts) ≡ map (fault line) (brokenOf ts)
+marked-set line ts a = ap {B = List Fault} (map (fault line)) (rules-of-set ts a)
+
+-- the size of a line's set is its number of broken rules, and the count of ones of its marks
+pub size-is-ones : (ts : List Test) → T (ascending 0 ts) → length (brokenOf ts) ≡ ones (setOf ts)
+size-is-ones ts a = sym (ap {B = ℕ} length (rules-of-set ts a)) ∙ rules-count (setOf ts) (set-below ts a)

@@ -5,7 +5,8 @@ use Prim.Native.Nat.{ℕ, zero, suc, _-_, _<_}
 use native.Mathlib.Omega.{arith}
 use lib.ListN.{length, take, drop, getD, length-take, length-drop}
 use lib.Seq.{getD-take, length-take-le}
-use Rattle.ledger.specs.Faults.{Fault, fault, key}
+use Rattle.ledger.specs.Faults.{Fault, fault}
+use Rattle.ledger.specs.Marks.{key}
 use Rattle.ledger.specs.Slices.{pairs, held, opened, Ready}
 
 pairs-nil : (ls : List ℕ) → pairs ls [] ≡ []

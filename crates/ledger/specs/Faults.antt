@@ -1,44 +1,67 @@
 -- The list of faults 'holds each pair of a line and a rule broken there, once, and no other pair, by line and then by rule' (the mission, demand 3).
-use Prim.Native.Nat.{ℕ, suc, _+_, _*_, _≤_, _<_}
+use Prim.Native.Nat.{ℕ, _+_, _<_}
 use mathlib.Core.Path.{_≡_}
-use mathlib.Core.Bool.{cond}
+use mathlib.Core.Bool.{Bool, true, cond}
 use mathlib.Core.List.{List, [], _∷_, _++_, map, List·Memᴰ}
 use mathlib.Core.Logic.{_⊎_}
-use lib.Dec.{ltb}
-use lib.ListN.{length}
-use Rattle.ledger.specs.Marks.{rulesOf}
+use lib.ListN.{length, take, drop}
 
 -- what is entered in the list
 pub record Fault : Type 0 where
   pub line : ℕ
   pub rule : ℕ
 
--- a line, and the set of the rules broken there
-pub record Entry : Type 0 where
-  pub line : ℕ
-  pub marks : ℕ
-
 -- the rule broken at the line
 abbrev pub fault : ℕ → ℕ → Fault
 fault line rule = record { line = line; rule = rule }
 
--- the faults of one line, ascending
-abbrev pub marked : ℕ → ℕ → List Fault
-marked line marks = map (fault line) (rulesOf marks)
+-- ---- where rules are tested
+-- a rule, and whether it is broken
+pub record Test : Type 0 where
+  pub rule : ℕ
+  pub broken : Bool
+
+infix 45 _if_
+abbrev pub _if_ : ℕ → Bool → Test
+rule if broken = record { rule = rule; broken = broken }
+
+-- the broken rules, in the order of the tests
+abbrev pub brokenOf : List Test → List ℕ
+brokenOf [] = []
+brokenOf (t ∷ ts) = cond (t .broken) (t .rule ∷ brokenOf ts) (brokenOf ts)
+
+-- a line, and the tests of the rules there, by rule
+pub record Spot : Type 0 where
+  pub line : ℕ
+  pub tests : List Test
+
+-- ---- the list
+-- the faults of one line
+abbrev pub faultsAt : Spot → List Fault
+faultsAt s = map (fault (s .line)) (brokenOf (s .tests))
 
 -- the faults of several lines, one line after the other
-unfoldable pub faultsOf : List Entry → List Fault
+unfoldable pub faultsOf : List Spot → List Fault
 faultsOf [] = []
-faultsOf (e ∷ es) = marked (e .line) (e .marks) ++ faultsOf es
+faultsOf (s ∷ ss) = faultsAt s ++ faultsOf ss
 
--- a fault is one of theirs: its line has an entry, and its rule is in that entry's set
-abbrev pub Broken : Fault → List Entry → Type 0
-Broken f es = (e : Entry) × List·Memᴰ e es × (f .line ≡ e .line) × List·Memᴰ (f .rule) (rulesOf (e .marks))
+-- the numbers of the first faults that fit; 'places after the last pair keep what they held' (document 01)
+abbrev pub written : (Fault → ℕ) → List Fault → List ℕ → List ℕ
+written part all before = map part (take (length before) all) ++ drop (length all) before
 
--- the sum of the sizes of their sets: document 01's total
-abbrev pub sizes : List Entry → ℕ
+-- ---- what is demanded of the list
+-- a rule is broken at a spot: it is tested there, and the test says so
+abbrev pub BrokenAt : ℕ → Spot → Type 0
+BrokenAt rule s = List·Memᴰ (rule if true) (s .tests)
+
+-- a fault is one of theirs: one of the spots has its line, and its rule is broken there
+abbrev pub Broken : Fault → List Spot → Type 0
+Broken f ss = (s : Spot) × List·Memᴰ s ss × (f .line ≡ s .line) × BrokenAt (f .rule) s
+
+-- 'the total is the sum of their sizes'
+abbrev pub sizes : List Spot → ℕ
 sizes [] = 0
-sizes (e ∷ es) = length (rulesOf (e .marks)) + sizes es
+sizes (s ∷ ss) = length (brokenOf (s .tests)) + sizes ss
 
 -- by line, and at one line by rule
 abbrev pub Before : Fault → Fault → Type 0
@@ -53,22 +76,3 @@ BeforeAll f (g ∷ gs) = Before f g × BeforeAll f gs
 abbrev pub Ascending : List Fault → Type 0
 Ascending [] = Unit {0}
 Ascending (f ∷ fs) = BeforeAll f fs × Ascending fs
-
--- numbers that rise, from k or above
-abbrev pub Rising : ℕ → List ℕ → Type 0
-Rising k [] = Unit {0}
-Rising k (m ∷ ms) = (k ≤ m) × Rising (suc m) ms
-
--- the order as one number, since rules are below 64
-abbrev pub key : Fault → ℕ
-key f = 64 * f .line + f .rule
-
--- a fault put in at its place: after all that come before it
-unfoldable pub insert : Fault → List Fault → List Fault
-insert x [] = x ∷ []
-insert x (y ∷ ys) = cond (ltb (key y) (key x)) (y ∷ insert x ys) (x ∷ y ∷ ys)
-
--- several, one after the other
-unfoldable pub insertAll : List Fault → List Fault → List Fault
-insertAll [] ys = ys
-insertAll (x ∷ xs) ys = insertAll xs (insert x ys)

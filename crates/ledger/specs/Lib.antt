@@ -1,3 +1,3 @@
-pub mod Marks
 pub mod Faults
+pub mod Marks
 pub mod Slices

@@ -1,10 +1,14 @@
--- 'The rules broken at one line form one set of marks' (document 01): one number, bit r for rule r.
-use Prim.Native.Nat.{ℕ, zero, suc, _+_, _/_, _%_}
+-- How the code keeps the list: 'the rules broken at one line form one set of marks' (document 01), one number, bit r for rule r; and
+-- faults put in at their places.
+use Prim.Native.Nat.{ℕ, zero, suc, _+_, _*_, _/_, _%_}
 use mathlib.Core.Bool.{Bool, true, cond, _&&_}
-use mathlib.Core.List.{List, [], _∷_}
+use mathlib.Core.List.{List, [], _∷_, _++_, map}
+use lib.Count.{ones}
 use lib.Dec.{leb, ltb}
 use Rattle.laws.specs.Tests.{mark}
+use Rattle.ledger.specs.Faults.{Fault, fault, Test, Spot}
 
+-- ---- a set of marks
 -- a rule is in the set where its binary digit is set
 abbrev pub digit : ℕ → ℕ → List ℕ → List ℕ
 digit zero r rs = rs
@@ -19,11 +23,6 @@ rulesFrom (suc d) r m = digit (m % 2) r (rulesFrom d (suc r) (m / 2))
 abbrev pub rulesOf : ℕ → List ℕ
 rulesOf m = rulesFrom 64 0 m
 
--- a rule, and whether it is broken
-pub record Test : Type 0 where
-  pub rule : ℕ
-  pub broken : Bool
-
 -- the set of the broken rules: the sum of their marks
 abbrev pub setOf : List Test → ℕ
 setOf [] = 0
@@ -34,7 +33,31 @@ abbrev pub ascending : ℕ → List Test → Bool
 ascending k [] = true
 ascending k (t ∷ ts) = leb k (t .rule) && (ltb (t .rule) 64 && ascending (suc (t .rule)) ts)
 
--- the broken rules, in the order of the tests
-abbrev pub brokenOf : List Test → List ℕ
-brokenOf [] = []
-brokenOf (t ∷ ts) = cond (t .broken) (t .rule ∷ brokenOf ts) (brokenOf ts)
+-- the faults of one line, ascending
+abbrev pub marked : ℕ → ℕ → List Fault
+marked line marks = map (fault line) (rulesOf marks)
+
+-- the faults of several lines, each with its set of marks
+unfoldable pub markedOf : List Spot → List Fault
+markedOf [] = []
+markedOf (s ∷ ss) = marked (s .line) (setOf (s .tests)) ++ markedOf ss
+
+-- the sum of the sizes of their sets: a set's size is its count of ones
+abbrev pub setSizes : List Spot → ℕ
+setSizes [] = 0
+setSizes (s ∷ ss) = ones (setOf (s .tests)) + setSizes ss
+
+-- ---- faults put in
+-- the order as one number, since rules are below 64
+abbrev pub key : Fault → ℕ
+key f = 64 * f .line + f .rule
+
+-- a fault put in at its place: after all that come before it
+unfoldable pub insert : Fault → List Fault → List Fault
+insert x [] = x ∷ []
+insert x (y ∷ ys) = cond (ltb (key y) (key x)) (y ∷ insert x ys) (x ∷ y ∷ ys)
+
+-- several, one after the other
+unfoldable pub insertAll : List Fault → List Fault → List Fault
+insertAll [] ys = ys
+insertAll (x ∷ xs) ys = insertAll xs (insert x ys)

@@ -1,10 +1,11 @@
--- What two lent slices, for line numbers and rule numbers, hold of the list of faults.
+-- What two lent slices, for line numbers and rule numbers, hold of the list of faults while the code enters them.
 use Prim.Native.Nat.{ℕ, suc, _+_, _-_, _≤_, min}
 use mathlib.Core.Path.{_≡_}
-use mathlib.Core.List.{List, [], _∷_, _++_, map, zipWith}
+use mathlib.Core.List.{List, [], _∷_, _++_, zipWith}
 use lib.ListN.{length, take, drop}
 use Rattle.ledger.specs.declared.Ledger.{Ledger}
-use Rattle.ledger.specs.Faults.{Fault, fault, key, insertAll}
+use Rattle.ledger.specs.Faults.{Fault, fault, written}
+use Rattle.ledger.specs.Marks.{key, insertAll}
 
 -- the pairs that the two slices hold, place by place
 abbrev pub pairs : List ℕ → List ℕ → List Fault
@@ -43,10 +44,6 @@ pub record Put (xs : List Fault) (n : ℕ) (ls rs : List ℕ) (n′ : ℕ) (ls�
 pub record Entered (xs : List Fault) (g : Ledger) (ls rs : List ℕ) (g′ : Ledger) (ls′ rs′ : List ℕ) : Type 0 where
   pub put : Put xs (g .kept) ls rs (g′ .kept) ls′ rs′
   pub sum : g′ .total ≡ g .total + length xs
-
--- the numbers of the first faults that fit; 'places after the last pair keep what they held' (document 01)
-abbrev pub written : (Fault → ℕ) → List Fault → List ℕ → List ℕ
-written part all before = map part (take (length before) all) ++ drop (length all) before
 
 -- the slices hold the list as far as it fits, and 'the total is the true total all the same' (the mission, demand 3)
 pub record Listed (all : List Fault) (ls₀ rs₀ : List ℕ) (g : Ledger) (ls rs : List ℕ) : Type 0 where

@@ -1,3 +1,4 @@
 pub mod Lines
 pub mod Blocks
 pub mod Reading
+pub mod Words

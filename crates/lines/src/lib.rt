@@ -3,12 +3,13 @@
 // the lent file and that place. Promised, for every file and place: they give what `body` and `lines` of specs/Lines.antt say. It
 // stands on crates `laws` and `text`.
 ghost use mathlib.Core.Path.{_≡_};
-ghost use Prim.Native.Nat.{_+_, _<_};
-ghost use lib.ListN.{length, drop};
+ghost use Prim.Native.Nat.{_+_, _-_, _<_, _≤_};
+ghost use lib.ListN.{length, take, drop, getD};
 ghost use Rattle.laws.specs.Lists.{anyOf};
 ghost use Rattle.lines.specs.Lines.{isByte, body, crlf};
 ghost use Rattle.lines.specs.Blocks.{clear};
 ghost use Rattle.lines.specs.Reading.{restTo, after, lineAt};
+ghost use Rattle.lines.specs.Words.{bytesOf, each, otherBit, oddByte, flagged};
 
 // Whether b stands in s. A loop that only sets a flag is compiled to wide compares; one that stops early is not.
 fn holds(s: &[u8], b: u8) -> bool
@@ -121,18 +122,115 @@ fn line_by_bytes(s: &[u8], at: usize, before: bool) -> Found
     rest_to(n, odd | !text::characters::is_plain(s[i]))
 }
 
-// The line at a place; at or past the end it is an empty rest at that place. Blocks without CR are looked at as a whole: of eight
-// bytes, for most lines are short.
+// Words of one byte eight times: the high bit; the seven others; CR; 01, which makes 7F reach the high bit; 9F, from which only 00 to
+// 1F leave it.
+const HIGH: u64 = 0x8080_8080_8080_8080;
+
+const REST: u64 = 0x7f7f_7f7f_7f7f_7f7f;
+
+const CRS: u64 = 0x0d0d_0d0d_0d0d_0d0d;
+
+const ONES: u64 = 0x0101_0101_0101_0101;
+
+const TOPS: u64 = 0x9f9f_9f9f_9f9f_9f9f;
+
+fn wide(b: u8) -> u64
+    ensures { λ r. ⌜ r ≡ b ⌝ }
+{
+    b as u64
+}
+
+// The eight bytes from a place on as one word, the first one lowest: compiled to one load.
+fn word(s: &[u8], i: usize) -> u64
+    requires { ⌜ i + 8 ≤ length (now s) ⌝ }
+    ensures { λ r. ⌜ bytesOf 8 r ≡ take 8 (drop i (now (s .entry))) ⌝ }
+{
+    wide(s[i])
+        | (wide(s[i + 1]) << 8)
+        | (wide(s[i + 2]) << 16)
+        | (wide(s[i + 3]) << 24)
+        | (wide(s[i + 4]) << 32)
+        | (wide(s[i + 5]) << 40)
+        | (wide(s[i + 6]) << 48)
+        | (wide(s[i + 7]) << 56)
+}
+
+// The high bit of each byte of a word that is no CR: no sum of seven bits and 7F crosses into the next byte.
+fn others(w: u64) -> u64
+    ensures { λ r. ⌜ r ≡ each otherBit 8 w ⌝ }
+{
+    ((((w & REST) ^ CRS) + REST) | w) & HIGH
+}
+
+// A word whose bytes have the high bit where those of w are not plain; the other bits say nothing.
+fn odds(w: u64) -> u64
+    ensures { λ r. ⌜ r ≡ each oddByte 8 w ⌝ }
+{
+    let low = w & REST;
+    (low + ONES) | (TOPS - low) | w
+}
+
+// Whether a byte of a word has its high bit.
+fn marked(w: u64) -> bool
+    ensures { λ r. ⌜ r ≡ flagged w ⌝ }
+{
+    w & HIGH != 0
+}
+
+// The first place at which no eight bytes stand.
+fn stop_of(n: usize) -> usize
+    ensures { λ r. ⌜ r ≡ n - 7 ⌝ }
+{
+    if n < 7 {
+        return 0;
+    }
+    n - 7
+}
+
+// Whether LF stands after the CR at a place.
+fn ends_at(s: &[u8], i: usize) -> bool
+    requires { ⌜ (i < length (now s)) × (getD (now s) i 0 ≡ 0x0d) ⌝ }
+    ensures { λ r. ⌜ r ≡ crlf (drop i (now (s .entry))) ⌝ }
+{
+    let j = i + 1;
+    if j < s.len() {
+        return s[j] == 0x0a;
+    }
+    false
+}
+
+// The line at a place; at or past the end it is an empty rest at that place. Eight bytes are looked at as one word: `z` has the high bit
+// of each CR among them, and what stands after the first CR is not on the line. The last seven bytes are looked at one by one.
 pub fn line_at(s: &[u8], at: usize) -> Found
     ensures { λ r. ⌜ r ≡ lineAt (now (s .entry)) at ⌝ }
 {
-    let mut odd = false;
+    let stop = stop_of(s.len());
+    let mut odd: u64 = 0;
     let mut i = at;
-    while clear_of(s, i, 8, 0x0d) {
-        odd = odd | text::characters::holds_odd(&s[i..i + 8]);
-        i += 8;
+    while i < stop {
+        let w = word(s, i);
+        let other = others(w);
+        let o = odds(w);
+        if other == HIGH {
+            odd = odd | o;
+            i += 8;
+        } else {
+            let z = other ^ HIGH;
+            let k = i + (u64::trailing_zeros(z) / 8) as usize;
+            odd = odd | (o & ((z ^ (z - 1)) >> 1));
+            if ends_at(s, k) {
+                return Found {
+                    end: k,
+                    next: k + 2,
+                    ended: true,
+                    odd: marked(odd),
+                };
+            }
+            odd = odd | 0x80;
+            i = k + 1;
+        }
     }
-    line_by_bytes(s, i, odd)
+    line_by_bytes(s, i, marked(odd))
 }
 
 // The line reader: the lent file, and its place in it.

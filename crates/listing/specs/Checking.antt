@@ -8,8 +8,7 @@ use lib.ListN.{length}
 use Rattle.laws.specs.Refusals.{Refusal, _if_, first}
 use Rattle.days.specs.Days.{isReal}
 use Rattle.lines.specs.Lines.{hasMark, startsWithMark}
-use Rattle.ledger.specs.Faults.{Fault}
-use Rattle.ledger.specs.Slices.{written}
+use Rattle.ledger.specs.Faults.{Fault, written}
 use Rattle.items.specs.Faults.{faults}
 use Rattle.listing.specs.declared.checking.Checked.{Checked}
 use Rattle.listing.specs.declared.checking.Checked.the-variants.{Total, BadCode, BadDay, TooLong, UnequalRooms, NoMark, StartsWithMark}

@@ -14,7 +14,8 @@ use Rattle.lines.specs.Lines.{lines}
 use Rattle.lines.specs.Reading.{span, IsNext}
 use Rattle.lines.specs.declared.Found.{Found}
 use Rattle.lines.proofs.Lines.{lines-past}
-use Rattle.ledger.specs.Faults.{Fault, insertAll, marked}
+use Rattle.ledger.specs.Faults.{Fault}
+use Rattle.ledger.specs.Marks.{insertAll, marked}
 use Rattle.ledger.specs.Slices.{Ready, Entered, Listed}
 use Rattle.ledger.specs.declared.Ledger.{Ledger}
 use Rattle.ledger.proofs.Marks.{marked-few}
@@ -34,12 +35,13 @@ use Rattle.items.specs.declared.Claims.{Claims}
 use Rattle.items.specs.declared.Wait.{Wait}
 use Rattle.items.specs.Rows.{Row, Sorted, heading, field, low, sorted, rowsFrom}
 use Rattle.items.specs.Tree.{tree}
-use Rattle.items.specs.Faults.{declare, faultsIn}
+use Rattle.items.specs.Faults.{spotsIn, faultsIn}
 use Rattle.items.specs.Fields.{rule1}
 use Rattle.items.specs.Kept.{lineTold, lineKept}
-use Rattle.items.specs.State.{isClaim, quiet, lowLive, fieldLive, headLive, noClaims, claimsAfter, lowMarksOf, fieldMarksOf, noWait, closeModel, fieldFaults, itemFaults, openFaults, lastFaults}
+use Rattle.items.specs.State.{isClaim, quiet, lowLive, fieldLive, headLive, noClaims, claimsAfter, lowMarksOf, fieldMarksOf, noWait, shutModel, fieldFaults, itemFaults, openFaults, lastFaults}
 use Rattle.items.proofs.Ideal.{Open, start, push, out, final}
 use Rattle.items.proofs.Order.{run, emitted}
+use Rattle.items.proofs.Sets.{spots-orderly}
 use Rattle.items.proofs.Numbers.{lines-rise}
 use Rattle.items.proofs.Opened.{no-claims-is}
 use Rattle.items.proofs.Meant.{Meant, job, low-out, field-out, head-out, final-out, meant-low, meant-field, meant-head, ident-small}
@@ -59,10 +61,10 @@ open-few j v cl b w stood =
     omega (
       arith,
       length-append (fieldFaults j v cl stood) (itemFaults j b w v ca),
-      length-append (marked (w .line) (closeModel j b w v ca .told)) (marked (v .head .no) (closeModel j b w v ca .marks)),
+      length-append (marked (w .line) (shutModel j b w v ca .told)) (marked (v .head .no) (shutModel j b w v ca .marks)),
       field-few j v cl stood,
-      marked-few (w .line) (closeModel j b w v ca .told),
-      marked-few (v .head .no) (closeModel j b w v ca .marks),
+      marked-few (w .line) (shutModel j b w v ca .told),
+      marked-few (v .head .no) (shutModel j b w v ca .marks),
     )
 
 module _ (code today : ℕ) (s ls₀ rs₀ : List ℕ) where
@@ -128,7 +130,7 @@ module _ (code today : ℕ) (s : List ℕ) where
     book = book-start e eg;
     small = rw eg (omega arith);
     calm = rw ew (omega arith);
-    rest = emitted code today put put-comm [] (rowsFrom 1 (lines s)) ∙ in-line-order 1 (declare code today (tree (rowsFrom 1 (lines s)))) (lines-rise code today 1 (lines s));
+    rest = emitted code today put put-comm [] (rowsFrom 1 (lines s)) ∙ in-line-order 1 (spotsIn code today s) (spots-orderly code today (tree (rowsFrom 1 (lines s)))) (lines-rise code today 1 (lines s));
   }
 
 module _ {code today : ℕ} {s ls₀ rs₀ : List ℕ} {j : Job} {ls rs stood : List ℕ} {g : Ledger} {v : Live} {cl : Claims} {b : Block} {w : Wait} {at n : ℕ} (W : Walking code today s ls₀ rs₀ j ls rs stood g v cl b w at n) where
@@ -192,8 +194,8 @@ module _ {code today : ℕ} {s ls₀ rs₀ : List ℕ} {j : Job} {ls rs stood : 
 
       pub walk-head : (k : Head) → x ≡ OfHead k → {v′ : Live} → v′ ≡ headLive k → {cl′ : Claims} → cl′ ≡ noClaims
           → {stood′ : List ℕ} → stood′ ≡ set stood (v .owner .ident) (v .owner .no)
-          → {b′ : Block} → b′ ≡ closeModel j b w v (claimsAfter cl v) .block
-          → {w′ : Wait} → w′ ≡ closeModel j b w v (claimsAfter cl v) .wait → w′ .marks < 2 ^ 40
+          → {b′ : Block} → b′ ≡ shutModel j b w v (claimsAfter cl v) .block
+          → {w′ : Wait} → w′ ≡ shutModel j b w v (claimsAfter cl v) .wait → w′ .marks < 2 ^ 40
           → {g′ : Ledger} {ls′ rs′ : List ℕ} → Entered (openFaults j v cl b w stood) g ls rs g′ ls′ rs′
           → Walking code today s ls₀ rs₀ j ls′ rs′ stood′ g′ v′ cl′ b′ w′ (f .next) (n + 1)
       walk-head k e {v′} ev {cl′} ec {stood′} et {b′} eb {w′} ew calm E =
@@ -201,8 +203,8 @@ module _ {code today : ℕ} {s ls₀ rs₀ : List ℕ} {j : Job} {ls rs stood : 
           walk-on (heading (h .0)) (h .1) (openFaults j v cl b w stood)
           (head-out code today (W .pieces) n v cl b w stood (W .meant) (h .0) (W .all) ∙ sym (λ i. insertAll (openFaults (W .job-is i) v cl b w stood) (W .all)))
           (meant-as (ev ∙ ap headLive (sym (h .2))) ec
-          (eb ∙ (λ i. closeModel (W .job-is i) b w v (claimsAfter cl v) .block))
-          (ew ∙ (λ i. closeModel (W .job-is i) b w v (claimsAfter cl v) .wait)) et
+          (eb ∙ (λ i. shutModel (W .job-is i) b w v (claimsAfter cl v) .block))
+          (ew ∙ (λ i. shutModel (W .job-is i) b w v (claimsAfter cl v) .wait)) et
           (meant-head code today (W .pieces) n v cl b w stood (W .meant) (h .0) (head-of row (h .0) (h .1)))) E (open-few j v cl b w stood) calm
 
   -- the end

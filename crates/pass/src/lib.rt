@@ -21,7 +21,7 @@ ghost use Prim.Native.Nat.{_≤_, _<_, _^_};
 ghost use lib.Dec.{ltb};
 ghost use lib.ListN.{length, getD, set, replicate};
 ghost use Rattle.ledger.specs.Slices.{Ready, Entered, Listed};
-ghost use Rattle.items.specs.State.{claimsAfter, fieldFaults, itemFaults, openFaults, lastFaults, closeModel};
+ghost use Rattle.items.specs.State.{claimsAfter, fieldFaults, itemFaults, openFaults, lastFaults, shutModel};
 ghost use Rattle.items.specs.Faults.{faultsIn};
 
 // No identifier stood.
@@ -83,7 +83,7 @@ fn shut_item(
     requires { ⌜ Ready (g .kept) (now lines) (now rules) ⌝ }
     requires { ⌜ (g .total < 2 ^ 62) × (w .marks < 2 ^ 40) ⌝ }
     ensures { λ r. ⌜ Entered (itemFaults job b w s claims) g (now (lines .entry)) (now (rules .entry)) (r .ledger) (now (lines .exit)) (now (rules .exit)) ⌝ }
-    ensures { λ r. ⌜ (r .block ≡ closeModel job b w s claims .block) × (r .wait ≡ closeModel job b w s claims .wait) × (r .wait .marks < 2 ^ 40) ⌝ }
+    ensures { λ r. ⌜ (r .block ≡ shutModel job b w s claims .block) × (r .wait ≡ shutModel job b w s claims .wait) × (r .wait .marks < 2 ^ 40) ⌝ }
 {
     let c = closing::close_item(job, b, w, s, claims);
     let block = c.block;
@@ -113,7 +113,7 @@ fn shut_all(
     requires { ⌜ (g .total < 2 ^ 61) × (s .owner .ident < 1296) × (w .marks < 2 ^ 40) ⌝ }
     ensures { λ r. ⌜ Entered (openFaults job s claims b w (now (stood .entry))) g (now (lines .entry)) (now (rules .entry)) (r .ledger) (now (lines .exit)) (now (rules .exit)) ⌝ }
     ensures { λ _. ⌜ now (stood .exit) ≡ set (now (stood .entry)) (s .owner .ident) (s .owner .no) ⌝ }
-    ensures { λ r. ⌜ (r .block ≡ closeModel job b w s (claimsAfter claims s) .block) × (r .wait ≡ closeModel job b w s (claimsAfter claims s) .wait) × (r .wait .marks < 2 ^ 40) ⌝ }
+    ensures { λ r. ⌜ (r .block ≡ shutModel job b w s (claimsAfter claims s) .block) × (r .wait ≡ shutModel job b w s (claimsAfter claims s) .wait) × (r .wait .marks < 2 ^ 40) ⌝ }
 {
     let g1 = shut_field(lines, rules, stood, g, job, s, claims);
     let all = claiming::claims_after(claims, s);

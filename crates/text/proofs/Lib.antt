@@ -1,4 +1,5 @@
 pub mod Admissible
+pub mod Eights
 pub mod Widths
 pub mod Reading
 pub mod Writing

@@ -1,6 +1,8 @@
 // Admissible bytes (document 01; 000, 2.1): one test, the table of all answers, and the look over a part of a slice.
 ghost use mathlib.Core.Path.{_≡_};
 ghost use mathlib.Core.Bool.{_&&_};
+ghost use Prim.Native.Nat.{_+_, _≤_};
+ghost use lib.ListN.{length, take, drop};
 ghost use Rattle.laws.specs.Lists.{anyOf};
 ghost use Rattle.text.specs.Characters.{isPlain, isAdmissible, isOdd, isInadmissible, answers};
 
@@ -61,7 +63,21 @@ fn is_bad(t: &[bool; 256], b: u8) -> bool
     !t[b as usize]
 }
 
-fn holds_bad(t: &[bool; 256], s: &[u8]) -> bool
+// The eight bytes from a place on.
+fn bad_at(t: &[bool; 256], s: &[u8], i: usize) -> bool
+    requires { ⌜ (now t ≡ answers) × (i + 8 ≤ length (now s)) ⌝ }
+    ensures { λ r. ⌜ r ≡ anyOf isInadmissible (take 8 (drop i (now (s .entry)))) ⌝ }
+{
+    is_bad(t, s[i])
+        | (is_bad(t, s[i + 1])
+            | (is_bad(t, s[i + 2])
+                | (is_bad(t, s[i + 3])
+                    | (is_bad(t, s[i + 4])
+                        | (is_bad(t, s[i + 5]) | (is_bad(t, s[i + 6]) | is_bad(t, s[i + 7])))))))
+}
+
+// A short text, byte by byte.
+fn few_bad(t: &[bool; 256], s: &[u8]) -> bool
     requires { ⌜ now t ≡ answers ⌝ }
     ensures { λ r. ⌜ r ≡ anyOf isInadmissible (now (s .entry)) ⌝ }
 {
@@ -74,6 +90,25 @@ fn holds_bad(t: &[bool; 256], s: &[u8]) -> bool
         i += 1;
     }
     bad
+}
+
+// By eights; the last eight may have been looked at in part.
+fn holds_bad(t: &[bool; 256], s: &[u8]) -> bool
+    requires { ⌜ now t ≡ answers ⌝ }
+    ensures { λ r. ⌜ r ≡ anyOf isInadmissible (now (s .entry)) ⌝ }
+{
+    let n = s.len();
+    if n < 8 {
+        return few_bad(t, s);
+    }
+    let last = n - 8;
+    let mut bad = false;
+    let mut i = 0;
+    while i < last {
+        bad = bad | bad_at(t, s, i);
+        i += 8;
+    }
+    bad | bad_at(t, s, last)
 }
 
 // Whether a text that may hold odd bytes holds an inadmissible one (rule 1): where it is known to hold none, the table is not asked.

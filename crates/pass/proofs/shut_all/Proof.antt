@@ -4,7 +4,7 @@ use lib.Dec.{ltb}
 use lib.ListN.{getD}
 use Rattle.ledger.proofs.Marks.{marked-few}
 use Rattle.ledger.proofs.Entering.{entered-both}
-use Rattle.items.specs.State.{fieldMarksOf, itemFaults, closeModel}
+use Rattle.items.specs.State.{fieldMarksOf, itemFaults, shutModel}
 use Rattle.pass.proofs.Walk.{entered-list}
 use borrow.Author.Needs.{needs}
 use Rattle.pass.proofs.shut_all.Statement.{statement}
@@ -40,8 +40,8 @@ returns c =
       (
         field .1,
         (
-          item .1 .0 ∙ (λ i. closeModel (a .job) (a .b) (a .w) (a .s) (ec i) .block),
-          item .1 .1 ∙ (λ i. closeModel (a .job) (a .b) (a .w) (a .s) (ec i) .wait),
+          item .1 .0 ∙ (λ i. shutModel (a .job) (a .b) (a .w) (a .s) (ec i) .block),
+          item .1 .1 ∙ (λ i. shutModel (a .job) (a .b) (a .w) (a .s) (ec i) .wait),
           item .1 .2,
         ),
       ),

@@ -1,5 +1,5 @@
 use mathlib.Core.Path.{ap, _∙_}
-use Rattle.ledger.specs.Faults.{marked}
+use Rattle.ledger.specs.Marks.{marked}
 use Rattle.pass.proofs.Walk.{entered-list}
 use Rattle.items.specs.State.{fieldMarksOf}
 use borrow.Author.Needs.{needs}

@@ -1,6 +1,6 @@
 use mathlib.Core.Path.{ap, _∙_}
 use native.Mathlib.Omega.{arith}
-use Rattle.ledger.specs.Faults.{marked}
+use Rattle.ledger.specs.Marks.{marked}
 use Rattle.ledger.proofs.Entering.{entered-both}
 use Rattle.items.specs.State.{lastMarks}
 use Rattle.pass.proofs.Walk.{entered-list, open-few}

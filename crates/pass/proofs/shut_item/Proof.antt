@@ -1,5 +1,5 @@
 use mathlib.Core.Path.{ap}
-use Rattle.ledger.specs.Faults.{marked}
+use Rattle.ledger.specs.Marks.{marked}
 use Rattle.ledger.proofs.Entering.{entered-both}
 use Rattle.items.specs.declared.Shut.{Shut}
 use Rattle.pass.proofs.Walk.{entered-list}

@@ -2,8 +2,8 @@ use borrow.Author.Needs.{needs}
 use Rattle.judging.proofs.marking.low_marks.Statement.{statement}
 use Rattle.judging.proofs.marking.low_marks.Tie as tie
 
-own-marks-requires : tie.Need-own-marks-requires
-own-marks-requires c κs = search needs
+line-marks-requires : tie.Need-line-marks-requires
+line-marks-requires c κs = search needs
 
 flag-requires : tie.Need-flag-requires
 flag-requires c κs = search needs
@@ -18,9 +18,9 @@ add-result-2 : tie.Need-add-result-2
 add-result-2 c = search needs
 
 returns : tie.Need-returns
-returns c = rw (c .before .before .before .before .before .own-marks .ensures .0, c .before .before .flag .ensures .0, c .flag2 .ensures .0)
+returns c = rw (c .before .before .before .before .before .line-marks .ensures .0, c .before .before .flag .ensures .0, c .flag2 .ensures .0)
 
 pub low-marks-spec : {M : Type 1} → statement M
 low-marks-spec =
     tie.close
-    (tie.spec own-marks-requires flag-requires add-result flag-requires-2 add-result-2 returns)
+    (tie.spec line-marks-requires flag-requires add-result flag-requires-2 add-result-2 returns)

@@ -1,29 +1,31 @@
-use Prim.Native.Nat.{_-_, _+_}
-use mathlib.Core.Path.{_≡_, refl, ap, _∙_, sym}
-use mathlib.Core.Bool.{Bool, _||_}
-use mathlib.Core.Logic.{⊎-elim}
-use lib.ListN.{length, drop}
+use mathlib.Core.Path.{_≡_, refl}
+use Prim.Native.Nat.{_-_, _≤_}
+use lib.ListN.{length, take}
 use Rattle.laws.specs.Lists.{anyOf}
-use Rattle.laws.proofs.Any.{flag-set, flag-kept, flag-is}
 use Rattle.text.specs.Characters.{isInadmissible}
+use Rattle.text.proofs.Eights.{any-add, any-overlap}
 use borrow.Author.Needs.{needs}
 use Rattle.text.proofs.characters.holds_bad.Statement.{statement}
 use Rattle.text.proofs.characters.holds_bad.Tie as tie
 
 abbrev Inv-loop : tie.InvT-loop
-Inv-loop t s bad₀ i₀ bad i = (bad || anyOf isInadmissible (drop i s)) ≡ anyOf isInadmissible s
+Inv-loop t s n last bad₀ i₀ bad i = (i ≤ length s) × (bad ≡ anyOf isInadmissible (take i s))
 
 abbrev μ-loop : tie.MeasureT-loop
-μ-loop t s bad₀ i₀ bad i = length s - i
+μ-loop t s n last bad₀ i₀ bad i = length s - i
+
+few-bad-requires : tie.Need-few-bad-requires Inv-loop μ-loop
+few-bad-requires c κs = search needs
+
+returns : tie.Need-returns Inv-loop μ-loop
+returns c = search needs
 
 loop-holds : tie.Need-loop-holds Inv-loop μ-loop
-loop-holds c = refl
+unfolding anyOf
+loop-holds c = (search needs, refl)
 
-shared-slice-read-is-bad : tie.Need-shared-slice-read-is-bad Inv-loop μ-loop
-shared-slice-read-is-bad c = search needs
-
-is-bad-requires : tie.Need-is-bad-requires Inv-loop μ-loop
-is-bad-requires c κs = search needs
+bad-at-requires : tie.Need-bad-at-requires Inv-loop μ-loop
+bad-at-requires c κs = search needs
 
 add-i : tie.Need-add-i Inv-loop μ-loop
 add-i c = search needs
@@ -33,20 +35,16 @@ loop-less c = search needs
 
 loop-again : tie.Need-loop-again Inv-loop μ-loop
 loop-again c =
-    let l = c .before .before .before .before in
-    let s = l .before .before .args .s .now in
-    let i = l .loop .i in
-    let inside = c .before .before .before .loop-test .taken in
-    let with-flag : Bool → Bool = λ (b : Bool). b || anyOf isInadmissible (drop (i + 1) s) in
-    ⊎-elim
-    (λ w. ap with-flag (w .1) ∙ flag-set isInadmissible s i (l .loop .bad) (l .loop .inv) inside (sym (c .before .is-bad .ensures) ∙ w .0 .taken))
-    (λ w. ap with-flag (w .1) ∙ flag-kept isInadmissible s i (l .loop .bad) (l .loop .inv) inside (sym (c .before .is-bad .ensures) ∙ w .0 .left))
-    (c .if1 .came)
+    let l = c .before .before in
+    (search needs, any-add isInadmissible _ (l .loop .i) 8 (l .loop .inv .1) (c .bad-at .ensures))
 
-returns : tie.Need-returns Inv-loop μ-loop
-returns c =
-    let l = c .before in
-    flag-is isInadmissible (l .before .before .args .s .now) (l .loop .i) (l .loop .bad) (l .loop .inv) (c .loop-test .left)
+bad-at-requires-2 : tie.Need-bad-at-requires-2 Inv-loop μ-loop
+bad-at-requires-2 c κs = search needs
+
+returns-2 : tie.Need-returns-2 Inv-loop μ-loop
+returns-2 c =
+    let l = c .before .before in
+    any-overlap isInadmissible _ (l .loop .i) _ 8 (c .before .loop-test .left) (search needs) (l .loop .inv .1) (c .bad-at2 .ensures)
 
 pub holds-bad-spec : {M : Type 1} → statement M
 holds-bad-spec =
@@ -54,10 +52,12 @@ holds-bad-spec =
     (tie.spec
     Inv-loop
     μ-loop
+    few-bad-requires
+    returns
     loop-holds
-    shared-slice-read-is-bad
-    is-bad-requires
+    bad-at-requires
     add-i
     loop-less
     loop-again
-    returns)
+    bad-at-requires-2
+    returns-2)
