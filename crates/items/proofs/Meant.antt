@@ -63,7 +63,7 @@ Numbered (early ups x ls) n = (x .row .no ≤ n) × (x .ident < 1296)
 Numbered (atHead b h ls) n = h .no ≤ n
 Numbered (atField b h hl ups x ls) n = (h .no < x .row .no) × (x .row .no ≤ n) × (x .ident < 1296)
 
-set-le : (a : List ℕ) (i v n k : ℕ) → v ≤ n → getD a k 0 ≤ n → getD (set a i v) k 0 ≤ n
+pub set-le : (a : List ℕ) (i v n k : ℕ) → v ≤ n → getD a k 0 ≤ n → getD (set a i v) k 0 ≤ n
 set-le [] i v n k h q = q
 set-le (x ∷ a) zero v n zero h q = h
 set-le (x ∷ a) zero v n (suc k) h q = q
@@ -71,7 +71,7 @@ set-le (x ∷ a) (suc i) v n zero h q = q
 set-le (x ∷ a) (suc i) v n (suc k) h q = set-le a i v n k h q
 
 -- a field more: its identifier stands at its line, the others where they stood
-stood-on : (a : List ℕ) (since i v k : ℕ) (t : Bool) → i < length a → since < v → ltb since (getD a k 0) ≡ t → ltb since (getD (set a i v) k 0) ≡ (eqb i k || t)
+pub stood-on : (a : List ℕ) (since i v k : ℕ) (t : Bool) → i < length a → since < v → ltb since (getD a k 0) ≡ t → ltb since (getD (set a i v) k 0) ≡ (eqb i k || t)
 stood-on a since i v k t h s e = go (eqb i k) refl
   where
     go : (q : Bool) → eqb i k ≡ q → ltb since (getD (set a i v) k 0) ≡ (q || t)
@@ -99,7 +99,7 @@ module _ (code today : ℕ) where
   job = jobOf (record { 0 = code }) today
 
   -- ---- marks of fields
-  late-is : (h : Read) (r : Reading) → lateBy job h r ≡ late today h r
+  pub late-is : (h : Read) (r : Reading) → lateBy job h r ≡ late today h r
   late-is (Reads h) Broken = refl
   late-is (Reads h) Plain = refl
   late-is (Reads h) (Paid a d) = same-eight (record { 0 = code }) today (h .kind) d
@@ -108,7 +108,7 @@ module _ (code today : ℕ) where
   late-is (Reads h) (Party b) = refl
   late-is Unreadable r = refl
 
-  broken-is : (x : FieldRow) (ls : List LowRow) → isBroken (says (closed x ls)) ≡ rule6 (closed x ls)
+  pub broken-is : (x : FieldRow) (ls : List LowRow) → isBroken (says (closed x ls)) ≡ rule6 (closed x ls)
   unfolding says
   broken-is x ls = broken (classOf (x .ident)) (x .row .bytes) (continuations (closed x ls .below))
 
@@ -145,16 +145,16 @@ module _ (code today : ℕ) where
       (field-set today (headOf (closed h hl)) ups (closed x ls) ∙ ap (λ (m : ℕ). lineMarks (x .row) + m) (sym (inside-is b h hl ups x ls (ltb (h .no) (getD a (x .ident) 0)) (I (x .ident)))))
 
   -- ---- an item closes
-  abbrev itemsOut : Open → List Spot
+  abbrev pub itemsOut : Open → List Spot
   itemsOut start = []
   itemsOut (early ups x ls) = []
   itemsOut (atHead b h ls) = headsOut code today b (item (closed h ls) [])
   itemsOut (atField b h hl ups x ls) = headsOut code today b (item (closed h hl) (closed x ls ∷ ups))
 
-  abbrev model : Open → Shut
+  abbrev pub model : Open → Shut
   model c = shutModel job (accountOf (above c)) (wait code today (above c)) (live c) (claimsThen c)
 
-  item-says : (c : Open) (l : List Fault)
+  pub item-says : (c : Open) (l : List Fault)
       → (putAll put (itemsOut c) l ≡ insertAll (marked (live c .head .no) (model c .marks)) (insertAll (marked (wait code today (above c) .line) (model c .told)) l))
       × (model c .block ≡ accountOf (aboveThen c)) × (model c .wait ≡ wait code today (aboveThen c))
   unfolding shutModel headMarksOf firstUp headKept
@@ -180,26 +180,26 @@ module _ (code today : ℕ) where
       ∙ sym (insertAll-append ff (told ++ own) l ∙ insertAll-append told own (insertAll ff l))
 
   -- ---- what each line puts out
-  low-enters : (c : Open) (l : LowRow) (all : List Fault) → putAll put (out code today c (low l)) all ≡ insertAll (marked (lowKept l .no) (lowMarksOf (live c) (lowKept l))) all
+  pub low-enters : (c : Open) (l : LowRow) (all : List Fault) → putAll put (out code today c (low l)) all ≡ insertAll (marked (lowKept l .no) (lowMarksOf (live c) (lowKept l))) all
   unfolding lowSpot lowMarks lineMarks lowKept
   low-enters start l all = ap (λ (m : ℕ). insertAll (marked (l .row .no) m) all) (low-set nowhere l)
   low-enters (early ups x ls) l all = ap (λ (m : ℕ). insertAll (marked (l .row .no) m) all) (low-set prelude l)
   low-enters (atHead b h ls) l all = ap (λ (m : ℕ). insertAll (marked (l .row .no) m) all) (low-set within l)
   low-enters (atField b h hl ups x ls) l all = ap (λ (m : ℕ). insertAll (marked (l .row .no) m) all) (low-set within l)
 
-  field-puts : (c : Open) (y : FieldRow) → out code today c (field y) ≡ fieldsOut c
+  pub field-puts : (c : Open) (y : FieldRow) → out code today c (field y) ≡ fieldsOut c
   field-puts start y = refl
   field-puts (early ups x ls) y = refl
   field-puts (atHead b h ls) y = refl
   field-puts (atField b h hl ups x ls) y = refl
 
-  head-puts : (c : Open) (k : Row) → out code today c (heading k) ≡ fieldsOut c ++ itemsOut c
+  pub head-puts : (c : Open) (k : Row) → out code today c (heading k) ≡ fieldsOut c ++ itemsOut c
   head-puts start k = refl
   head-puts (early ups x ls) k = refl
   head-puts (atHead b h ls) k = refl
   head-puts (atField b h hl ups x ls) k = refl
 
-  final-puts : (c : Open) → final code today c ≡ (fieldsOut c ++ itemsOut c) ++ waits code today (aboveThen c) true
+  pub final-puts : (c : Open) → final code today c ≡ (fieldsOut c ++ itemsOut c) ++ waits code today (aboveThen c) true
   final-puts start = refl
   final-puts (early ups x ls) = refl
   final-puts (atHead b h ls) = refl

@@ -227,7 +227,7 @@ abbrev inGroups : List (Group FieldRow) → ℕ → Option Reading
 inGroups ups d = firstUp (isGroup d) ups
 
 -- the claims with one more field, of identifier i
-abbrev grownClaims : List (Group FieldRow) → ℕ → Reading → Claims
+abbrev pub grownClaims : List (Group FieldRow) → ℕ → Reading → Claims
 grownClaims ups i r =
     record {
       kc = kcOf (orElse (firstUp (is (named "KC")) ups) (ifThere (eqb i (named "KC")) r));
@@ -282,10 +282,10 @@ unfolding groupClaims
 none-claimed c i r e h = rw (e, le-leb 9 (groupOf i) h)
 
 -- it is one that claims
-abbrev claimed : ℕ → Bool
+abbrev pub claimed : ℕ → Bool
 claimed i = eqb i (named "KC") || (eqb i (named "IN") || (eqb i (named "S9") || ltb (groupOf i) 9))
 
-claim-at : (ups : List (Group FieldRow)) (i : ℕ) (r : Reading) → cond (claimed i) (claimsWith (claimsOf ups) i r) (claimsOf ups) ≡ grownClaims ups i r
+pub claim-at : (ups : List (Group FieldRow)) (i : ℕ) (r : Reading) → cond (claimed i) (claimsWith (claimsOf ups) i r) (claimsOf ups) ≡ grownClaims ups i r
 claim-at ups i r = go (eqb i (named "KC")) refl
   where
     other : (t : Bool) → (eqb i (named "S9") || ltb (groupOf i) 9) ≡ t → eqb i (named "KC") ≡ false → eqb i (named "IN") ≡ false → cond t (claimsWith (claimsOf ups) i r) (claimsOf ups) ≡ grownClaims ups i r

@@ -1,67 +1,100 @@
--- The marks of a field and the closing of an item, by the tests in the order in which the code asks them.
+-- The closing of an item and the marks 6 to 9 of a field, by the tests in the order in which the code asks them.
 use mathlib.Core.Path.{_≡_, refl, sym, ap, _∙_}
 use mathlib.Core.Bool.{Bool, true, false, cond, not, _&&_}
 use Prim.Native.Nat.{ℕ, _+_}
-use borrow.Author.Tests.{not-true, not-false}
+use native.Mathlib.Nat.{zero-add}
+use lib.Dec.{eqb}
 use Rattle.laws.specs.Tests.{mark}
+use Rattle.headings.specs.declared.Heading.{Heading}
+use Rattle.headings.specs.declared.Read.{Read}
+use Rattle.headings.specs.declared.Read.the-variants.{Reads, Unreadable}
+use Rattle.headings.specs.declared.Amount.{Amount}
+use Rattle.headings.specs.declared.ItemNo.{ItemNo}
+use Rattle.fields.specs.declared.readings.Reading.the-variants.{Broken, Plain, Paid, Span, Stated, Party}
+use Rattle.blocks.specs.OwnRules.{rule9}
+use Rattle.blocks.specs.Model.{breaks8}
+use Rattle.judging.specs.Opening.{readAs, saidMarks, itemOf, closeAs}
 use Rattle.blocks.specs.declared.Job.{Job}
-use Rattle.blocks.specs.declared.Kc.{Kc}
 use Rattle.blocks.specs.declared.Block.{Block}
 use Rattle.blocks.specs.declared.Closed.{Closed}
 use Rattle.blocks.specs.declared.Item.{Item as Digest}
 use Rattle.blocks.specs.Items.{closesAt}
 use Rattle.blocks.specs.Model.{closeModel as blockModel}
-use Rattle.items.specs.declared.Live.{Live}
 use Rattle.items.specs.declared.Claims.{Claims}
 use Rattle.items.specs.declared.Wait.{Wait}
-use Rattle.items.specs.State.{lineMarksOf, insideMarks, fieldMarksOf, noWait, itemModel, headMarksOf, shut, shutAs, shutModel}
+use Rattle.items.specs.Headings.{isUnreadable}
+use Rattle.items.specs.State.{kcMarks, noWait, shut, shutAs}
 
--- 8 and 9 at a field that pays nothing
-pub neither : (first : Bool) → _≡_ {A = ℕ} 0 (mark 8 (first && false) + mark 9 (first && false))
-neither true = refl
-neither false = refl
-
-module _ (j : Job) (s : Live) (kc : Kc) (again : Bool) where
-  pub no-field : not (s .fielded) ≡ true → 0 ≡ fieldMarksOf j s kc again
-  unfolding fieldMarksOf
-  no-field h = rw (not-true (s .fielded) h)
-
-  module _ (own : ℕ) (e : own ≡ lineMarksOf (s .owner .bad) (s .owner .ended)) (h : not (s .fielded) ≡ false) where
-    pub in-item : s .headed ≡ true → (m : ℕ) → m ≡ insideMarks j s kc again → own + m ≡ fieldMarksOf j s kc again
-    unfolding fieldMarksOf
-    in-item k m q =
-        (λ i. e i + q i)
-        ∙ sym (λ i. cond (not-false (s .fielded) h i)
-        (cond (k i) (lineMarksOf (s .owner .bad) (s .owner .ended) + insideMarks j s kc again) (lineMarksOf (s .owner .bad) (s .owner .ended) + 8)) 0)
-
-    pub before-items : s .headed ≡ false → own + 8 ≡ fieldMarksOf j s kc again
-    unfolding fieldMarksOf
-    before-items k =
-        (λ i. e i + 8)
-        ∙ sym (λ i. cond (not-false (s .fielded) h i)
-        (cond (k i) (lineMarksOf (s .owner .bad) (s .owner .ended) + insideMarks j s kc again) (lineMarksOf (s .owner .bad) (s .owner .ended) + 8)) 0)
-
-module _ (j : Job) (b : Block) (w : Wait) (s : Live) (c : Claims) where
-  pub close-none : not (s .headed) ≡ true → shut b w 0 0 ≡ shutModel j b w s c
-  unfolding shutModel
-  close-none h = rw (not-true (s .headed) h)
+module _ (j : Job) (b : Block) (w : Wait) (n own : ℕ) (r : Read) (c : Claims) where
+  pub close-none : eqb n 0 ≡ true → shut b w 0 0 ≡ closeAs j b w n own r c
+  unfolding closeAs
+  close-none h = rw h
 
   -- the item's account and its heading's marks
-  module _ (h : not (s .headed) ≡ false) (it : Digest) (ei : it ≡ itemModel s c) (cl : Closed) (ec : cl ≡ blockModel j b it) (m : ℕ) (em : m ≡ headMarksOf s (cl .marks)) where
-    closed-is : cl ≡ blockModel j b (itemModel s c)
+  module _ (h : eqb n 0 ≡ false) (it : Digest) (ei : it ≡ itemOf n r c) (cl : Closed) (ec : cl ≡ blockModel j b it) (m : ℕ) (em : m ≡ own + mark 6 (isUnreadable r) + cl .marks) where
+    closed-is : cl ≡ blockModel j b (itemOf n r c)
     closed-is = ec ∙ ap (blockModel j b) ei
 
-    by-tests : (t a : Bool) → closesAt (it .head) ≡ t → b .any ≡ a → shutAs true t a b (cl .block) w (s .head .no) m ≡ shutModel j b w s c
-    unfolding shutModel
+    by-tests : (t a : Bool) → closesAt r ≡ t → b .any ≡ a → shutAs true t a b (cl .block) w n m ≡ closeAs j b w n own r c
+    unfolding closeAs
     by-tests t a p q =
-        sym (λ i. shutAs (not-false (s .headed) h i) ((ap (λ (x : Digest). closesAt (x .head)) (sym ei) ∙ p) i) (q i) b (sym closed-is i .block) w (s .head .no)
-        ((ap (λ (x : Closed). headMarksOf s (x .marks)) (sym closed-is) ∙ sym em) i))
+        sym (λ i. shutAs (not (h i)) (p i) (q i) b (sym closed-is i .block) w n
+        ((ap (λ (x : Closed). own + mark 6 (isUnreadable r) + x .marks) (sym closed-is) ∙ sym em) i))
 
-    pub close-ends : closesAt (it .head) ≡ true → (x : Wait) → x ≡ noWait → (t : ℕ) → t ≡ cond (b .any) (w .marks) 0 → shut (cl .block) x t m ≡ shutModel j b w s c
+    pub close-ends : closesAt r ≡ true → (x : Wait) → x ≡ noWait → (t : ℕ) → t ≡ cond (b .any) (w .marks) 0 → shut (cl .block) x t m ≡ closeAs j b w n own r c
     close-ends p x ex t et = (λ i. shut (cl .block) (ex i) (et i) m) ∙ by-tests true (b .any) p refl
 
-    pub close-next : closesAt (it .head) ≡ false → b .any ≡ true → shut (cl .block) w 0 m ≡ shutModel j b w s c
+    pub close-next : closesAt r ≡ false → b .any ≡ true → shut (cl .block) w 0 m ≡ closeAs j b w n own r c
     close-next p q = by-tests false true p q
 
-    pub close-first : closesAt (it .head) ≡ false → b .any ≡ false → shut (cl .block) (record { line = s .head .no; marks = m }) 0 0 ≡ shutModel j b w s c
+    pub close-first : closesAt r ≡ false → b .any ≡ false → shut (cl .block) (record { line = n; marks = m }) 0 0 ≡ closeAs j b w n own r c
     close-first p q = by-tests false false p q
+
+-- ---- 6 to 9 by what a field's own line says
+module _ (j : Job) where
+  pub marks-broken : (first : Bool) (r : Read) → _≡_ {A = ℕ} 64 (saidMarks j first r Broken)
+  unfolding kcMarks saidMarks
+  marks-broken true (Reads h) = refl
+  marks-broken true Unreadable = refl
+  marks-broken false (Reads h) = refl
+  marks-broken false Unreadable = refl
+
+  pub marks-plain : (first : Bool) (r : Read) → _≡_ {A = ℕ} 0 (saidMarks j first r Plain)
+  unfolding kcMarks saidMarks
+  marks-plain true (Reads h) = refl
+  marks-plain true Unreadable = refl
+  marks-plain false (Reads h) = refl
+  marks-plain false Unreadable = refl
+
+  pub marks-span : (a b : ItemNo) (first : Bool) (r : Read) → _≡_ {A = ℕ} 0 (saidMarks j first r (Span a b))
+  unfolding kcMarks saidMarks
+  marks-span a b true (Reads h) = refl
+  marks-span a b true Unreadable = refl
+  marks-span a b false (Reads h) = refl
+  marks-span a b false Unreadable = refl
+
+  pub marks-stated : (n : ℕ) (a : Amount) (first : Bool) (r : Read) → _≡_ {A = ℕ} 0 (saidMarks j first r (Stated n a))
+  unfolding kcMarks saidMarks
+  marks-stated n a true (Reads h) = refl
+  marks-stated n a true Unreadable = refl
+  marks-stated n a false (Reads h) = refl
+  marks-stated n a false Unreadable = refl
+
+  pub marks-party : (holds first : Bool) (r : Read) → mark 7 (not holds) ≡ saidMarks j first r (Party holds)
+  unfolding kcMarks saidMarks
+  marks-party true true (Reads h) = refl
+  marks-party true true Unreadable = refl
+  marks-party true false (Reads h) = refl
+  marks-party true false Unreadable = refl
+  marks-party false true (Reads h) = refl
+  marks-party false true Unreadable = refl
+  marks-party false false (Reads h) = refl
+  marks-party false false Unreadable = refl
+
+  pub marks-paid : (h : Heading) (a : Amount) (d : ℕ) (first reads : Bool)
+      → mark 8 ((first && reads) && breaks8 j (h .kind) d) + mark 9 ((first && reads) && rule9 (h .kind) (a .0)) ≡ saidMarks j first (readAs reads h) (Paid a d)
+  unfolding kcMarks saidMarks
+  marks-paid h a d true true = sym (zero-add _)
+  marks-paid h a d true false = refl
+  marks-paid h a d false true = refl
+  marks-paid h a d false false = refl

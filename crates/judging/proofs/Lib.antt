@@ -1,1 +1,4 @@
 mod Cases
+pub mod OpenField
+pub mod Claimed
+pub mod Meaning

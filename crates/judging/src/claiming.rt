@@ -7,10 +7,9 @@ use blocks::Sums;
 use fields::classes;
 use fields::readings::Reading;
 use items::Claims;
-use items::Live;
 ghost use mathlib.Core.Path.{_≡_};
 ghost use Prim.Native.Nat.{_<_};
-ghost use Rattle.items.specs.State.{noClaims, isClaim, kcKept, spanKept, statedKept, groupClaims, claimsWith, claimsAfter};
+ghost use Rattle.items.specs.State.{noClaims, kcKept, spanKept, statedKept, groupClaims, claimsWith};
 ghost use Rattle.items.specs.Headings.{kcBy, spanBy, statedBy};
 
 pub fn no_claims() -> Claims
@@ -27,16 +26,6 @@ pub fn no_claims() -> Claims
         sums,
         s9: false,
     }
-}
-
-// Whether the open field claims something: a KC, an IN or one of S0 to S9.
-pub fn is_claim(s: Live) -> bool
-    ensures { λ r. ⌜ r ≡ isClaim s ⌝ }
-{
-    let ident = s.owner.ident;
-    s.fielded
-        & ((ident == classes::KC)
-            | ((ident == classes::IN) | ((ident == classes::S9) | (classes::group_of(ident) < 9))))
 }
 
 fn kc_by(said: Reading) -> Kc
@@ -124,7 +113,8 @@ fn group_claims(groups: [Sum; 9], d: usize, said: Reading) -> [Sum; 9]
     next
 }
 
-fn with_claim(c: Claims, ident: usize, said: Reading) -> Claims
+// The claims with what a field of an identifier says.
+pub fn with_claim(c: Claims, ident: usize, said: Reading) -> Claims
     ensures { λ r. ⌜ r ≡ claimsWith c ident said ⌝ }
 {
     let kc = c.kc;
@@ -157,15 +147,4 @@ fn with_claim(c: Claims, ident: usize, said: Reading) -> Claims
         sums: after,
         s9: (ident == classes::S9) | c.s9,
     }
-}
-
-// The claims with those of the open field, which closes.
-pub fn claims_after(c: Claims, s: Live) -> Claims
-    ensures { λ r. ⌜ r ≡ claimsAfter c s ⌝ }
-{
-    if is_claim(s) {
-        let said = items::open::said_of(s);
-        return with_claim(c, s.owner.ident, said);
-    }
-    c
 }

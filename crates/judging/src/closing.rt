@@ -5,13 +5,14 @@ use blocks::Job;
 use blocks::marks::flag;
 use headings::Read;
 use items::Claims;
-use items::Live;
 use items::Shut;
 use items::Wait;
 ghost use mathlib.Core.Path.{_≡_};
-ghost use Prim.Native.Nat.{_<_, _+_, _^_};
+ghost use Prim.Native.Nat.{_≤_, _<_, _+_, _^_};
+ghost use Rattle.laws.specs.Tests.{mark};
 ghost use Rattle.items.specs.Headings.{isUnreadable};
-ghost use Rattle.items.specs.State.{noWait, itemModel, headMarksOf, shutModel, lastMarks};
+ghost use Rattle.items.specs.State.{noWait, lastMarks};
+ghost use Rattle.judging.specs.Opening.{itemOf, closeAs};
 
 pub fn no_wait() -> Wait
     ensures { λ r. ⌜ r ≡ noWait ⌝ }
@@ -28,15 +29,14 @@ fn is_unreadable(read: Read) -> bool
     }
 }
 
-fn item_of(s: Live, claims: Claims) -> Item
-    ensures { λ r. ⌜ r ≡ itemModel s claims ⌝ }
+fn item_of(no: u32, head: Read, claims: Claims) -> Item
+    ensures { λ r. ⌜ r ≡ itemOf no head claims ⌝ }
 {
-    let head = items::open::read_of(s);
     let kc = claims.kc;
     let span = claims.span;
     let sums = claims.sums;
     Item {
-        line: s.head.no,
+        line: no,
         head,
         kc,
         span,
@@ -45,20 +45,28 @@ fn item_of(s: Live, claims: Claims) -> Item
     }
 }
 
-// All marks of the open heading but 16, from those that the account gives.
-fn head_marks(s: Live, marks: u64) -> u64
-    requires { ⌜ marks < 2 ^ 39 ⌝ }
-    ensures { λ r. ⌜ (r ≡ headMarksOf s marks) × (r < 2 ^ 40) ⌝ }
+// All marks of the open heading but 16, from those of its line and those that the account gives.
+fn head_marks(own: u64, read: Read, marks: u64) -> u64
+    requires { ⌜ (marks < 2 ^ 39) × (own ≤ 18) ⌝ }
+    ensures { λ r. ⌜ (r ≡ own + mark 6 (isUnreadable read) + marks) × (r < 2 ^ 40) ⌝ }
 {
-    let read = items::open::read_of(s);
-    crate::marking::line_marks(s.head.bad, s.head.ended) + flag(is_unreadable(read), 64) + marks
+    own + flag(is_unreadable(read), 64) + marks
 }
 
-pub fn close_item(job: Job, b: Block, w: Wait, s: Live, claims: Claims) -> Shut
-    requires { ⌜ w .marks < 2 ^ 40 ⌝ }
-    ensures { λ r. ⌜ (r ≡ shutModel job b w s claims) × (r .wait .marks < 2 ^ 40) × (r .told < 2 ^ 40) × (r .marks < 2 ^ 40) ⌝ }
+// The open item closes, whose heading stands at the line `no` (0: none) and has the marks `own` of its line.
+pub fn close_item(
+    job: Job,
+    b: Block,
+    w: Wait,
+    no: u32,
+    own: u64,
+    read: Read,
+    claims: Claims,
+) -> Shut
+    requires { ⌜ (w .marks < 2 ^ 40) × (own ≤ 18) ⌝ }
+    ensures { λ r. ⌜ (r ≡ closeAs job b w no own read claims) × (r .wait .marks < 2 ^ 40) × (r .told < 2 ^ 40) × (r .marks < 2 ^ 40) ⌝ }
 {
-    if !s.headed {
+    if no == 0 {
         return Shut {
             block: b,
             wait: w,
@@ -67,12 +75,11 @@ pub fn close_item(job: Job, b: Block, w: Wait, s: Live, claims: Claims) -> Shut
         };
     }
     let any = b.any;
-    let item = item_of(s, claims);
-    let head = item.head;
+    let item = item_of(no, read, claims);
     let c = lending::advance(b, item, job);
     let block = c.block;
-    let m = head_marks(s, c.marks);
-    if account::closes_block(head) {
+    let m = head_marks(own, read, c.marks);
+    if account::closes_block(read) {
         let wait = no_wait();
         return Shut {
             block,
@@ -91,10 +98,7 @@ pub fn close_item(job: Job, b: Block, w: Wait, s: Live, claims: Claims) -> Shut
     }
     Shut {
         block,
-        wait: Wait {
-            line: s.head.no,
-            marks: m,
-        },
+        wait: Wait { line: no, marks: m },
         told: 0,
         marks: 0,
     }

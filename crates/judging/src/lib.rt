@@ -5,3 +5,4 @@
 pub mod claiming;
 pub mod closing;
 pub mod marking;
+pub mod opening;

@@ -1,1 +1,1 @@
-pub mod Walk
+mod Walk

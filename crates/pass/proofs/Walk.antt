@@ -1,12 +1,15 @@
 -- The pass over a body: what is run from here on gives what is declared of the whole.
 use mathlib.Core.Path.{_≡_, refl, sym, ap, _∙_, subst}
-use mathlib.Core.Bool.{Bool, false, _&&_}
+use mathlib.Core.Bool.{Bool, true, false, cond, not, _&&_, _||_, true≢false}
 use mathlib.Core.List.{List, [], _∷_, _++_}
-use Prim.Native.Nat.{ℕ, zero, suc, _+_, _*_, _≤_, _<_, _^_}
+use Prim.Native.Nat.{ℕ, zero, suc, _+_, _-_, _*_, _≤_, _<_, _^_}
 use native.Mathlib.Numerals.{add-one}
 use native.Mathlib.Omega.{arith}
-use lib.Dec.{ltb}
-use lib.ListN.{length, drop, getD, set, replicate, length-append, length-replicate}
+use lib.Dec.{eqb, ltb, leb}
+use lib.ListN.{length, drop, getD, set, replicate, length-append, length-replicate, length-drop}
+use lib.Seq.{length-take-le}
+use borrow.Author.Tests.{le-leb, lt-leb}
+use Rattle.laws.specs.Tests.{mark}
 use Rattle.laws.specs.Lists.{anyOf}
 use Rattle.text.specs.Characters.{isInadmissible}
 use Rattle.text.proofs.Admissible.{odd-asked}
@@ -22,107 +25,177 @@ use Rattle.ledger.proofs.Marks.{marked-few}
 use Rattle.ledger.proofs.Insertion.{insertAll-append}
 use Rattle.ledger.proofs.Entries.{putAll, put, put-comm, in-line-order}
 use Rattle.ledger.proofs.Book.{Book, book-start, book-ready, book-more, book-listed}
+use Rattle.headings.specs.declared.Heading.{Heading}
+use Rattle.headings.specs.declared.Read.{Read}
+use Rattle.headings.specs.declared.Read.the-variants.{Reads, Unreadable}
+use Rattle.headings.specs.Reading.{headingOf}
+use Rattle.fields.specs.declared.kinds.Kind.{Kind}
+use Rattle.fields.specs.declared.kinds.Kind.the-variants.{Heading as HeadingLine, Continuation, Field, Other}
+use Rattle.fields.specs.declared.readings.Reading.{Reading}
+use Rattle.fields.specs.Kinds.{place, kindOf}
+use Rattle.fields.specs.Classes.{classOf}
+use Rattle.fields.specs.Readings.{textOf, readingOf, ifFits}
+use Rattle.fields.proofs.LineKinds.{field-is}
 use Rattle.blocks.specs.declared.Job.{Job}
 use Rattle.blocks.specs.declared.Block.{Block}
 use Rattle.blocks.specs.Summary.{summary}
-use Rattle.items.specs.declared.Head.{Head}
-use Rattle.items.specs.declared.Field.{Field}
-use Rattle.items.specs.declared.Low.{Low}
-use Rattle.items.specs.declared.Line.{Line}
-use Rattle.items.specs.declared.Line.the-variants.{OfHead, OfField, OfLow}
-use Rattle.items.specs.declared.Live.{Live}
 use Rattle.items.specs.declared.Claims.{Claims}
 use Rattle.items.specs.declared.Wait.{Wait}
-use Rattle.items.specs.Rows.{Row, Sorted, heading, field, low, sorted, rowsFrom}
+use Rattle.items.specs.declared.Shut.{Shut}
+use Rattle.items.specs.Rows.{Row, FieldRow, LowRow, Sorted, heading, field, low, sortedAs, sorted, rowsFrom}
 use Rattle.items.specs.Tree.{tree}
 use Rattle.items.specs.Faults.{spotsIn, faultsIn}
 use Rattle.items.specs.Fields.{rule1}
-use Rattle.items.specs.Kept.{lineTold, lineKept}
-use Rattle.items.specs.State.{isClaim, quiet, lowLive, fieldLive, headLive, noClaims, claimsAfter, lowMarksOf, fieldMarksOf, noWait, shutModel, fieldFaults, itemFaults, openFaults, lastFaults}
+use Rattle.items.specs.Headings.{isUnreadable}
+use Rattle.items.specs.State.{noClaims, claimsWith, lineMarksOf, noWait, lastMarks}
 use Rattle.items.proofs.Ideal.{Open, start, push, out, final}
 use Rattle.items.proofs.Order.{run, emitted}
-use Rattle.items.proofs.Sets.{spots-orderly}
+use Rattle.items.proofs.Sets.{lineMarks, spots-orderly}
 use Rattle.items.proofs.Numbers.{lines-rise}
 use Rattle.items.proofs.Opened.{no-claims-is}
-use Rattle.items.proofs.Meant.{Meant, job, low-out, field-out, head-out, final-out, meant-low, meant-field, meant-head, ident-small}
-use Rattle.items.proofs.Told.{told-kept, head-of, field-of, kept-low, kept-field, kept-head}
+use Rattle.items.proofs.Meant.{job}
+use Rattle.judging.specs.declared.opening.Open.{Open as Held}
+use Rattle.judging.specs.declared.opening.Pend.{Pend}
+use Rattle.judging.specs.Opening.{codeOf, fitsBy, noOpen, moreOpen, lowOpen, readAs, headingIn, ownClaims, closeClaims, pendOf, openOwn, openLoose, lowMarksAt, closeAs, closeFaults}
+use Rattle.judging.proofs.Meaning.{Means, low-out, field-out, head-out, final-out, means-low, means-field, means-head}
 
 -- what was entered, said in another way
 pub entered-list : {xs ys : List Fault} {g : Ledger} {ls rs : List ℕ} {g′ : Ledger} {ls′ rs′ : List ℕ} → xs ≡ ys → Entered xs g ls rs g′ ls′ rs′ → Entered ys g ls rs g′ ls′ rs′
 entered-list {g} {ls} {rs} {g′} {ls′} {rs′} e E = subst (λ (zs : List Fault). Entered zs g ls rs g′ ls′ rs′) e E
 
 -- no more is entered at once than leaves room to count on
-field-few : (j : Job) (v : Live) (cl : Claims) (stood : List ℕ) → length (fieldFaults j v cl stood) ≤ 64
-field-few j v cl stood = marked-few (v .owner .no) (fieldMarksOf j v (cl .kc) (ltb (v .head .no) (getD stood (v .owner .ident) 0)))
-
-pub open-few : (j : Job) (v : Live) (cl : Claims) (b : Block) (w : Wait) (stood : List ℕ) → length (openFaults j v cl b w stood) ≤ 192
-open-few j v cl b w stood =
-    let ca : Claims = claimsAfter cl v in
+pub close-few : (o : Held) (j : Job) (b : Block) (w : Wait) (n m : ℕ) (r : Read) (c : Claims) → length (marked (o .no) (o .marks) ++ closeFaults j b w n m r c) ≤ 192
+close-few o j b w n m r c =
     omega (
       arith,
-      length-append (fieldFaults j v cl stood) (itemFaults j b w v ca),
-      length-append (marked (w .line) (shutModel j b w v ca .told)) (marked (v .head .no) (shutModel j b w v ca .marks)),
-      field-few j v cl stood,
-      marked-few (w .line) (shutModel j b w v ca .told),
-      marked-few (v .head .no) (shutModel j b w v ca .marks),
+      length-append (marked (o .no) (o .marks)) (closeFaults j b w n m r c),
+      length-append (marked (w .line) (closeAs j b w n m r c .told)) (marked n (closeAs j b w n m r c .marks)),
+      marked-few (o .no) (o .marks),
+      marked-few (w .line) (closeAs j b w n m r c .told),
+      marked-few n (closeAs j b w n m r c .marks),
     )
+
+-- marks 1 and 4 of a line, as the code finds them
+pub own-at : {s : List ℕ} {at : ℕ} {f : Found} → IsNext s at f → {bad : Bool} {own : ℕ} (n : ℕ) → bad ≡ (f .odd && anyOf isInadmissible (span at (f .end) s)) → own ≡ lineMarksOf bad (f .ended)
+    → own ≡ lineMarks (record { no = suc n; bytes = span at (f .end) s; ended = f .ended })
+unfolding lineMarks rule1
+own-at {s} {at} {f} N {bad} {own} n eb eo =
+    let bytes : List ℕ = span at (f .end) s in
+    eo ∙ (λ i. lineMarksOf (eb i) (f .ended)) ∙ (λ i. lineMarksOf (N .tells i && anyOf isInadmissible bytes) (f .ended)) ∙ (λ i. lineMarksOf (odd-asked bytes i) (f .ended))
+
+-- the field that closes claims, or claims nothing
+pub claims-closed : (o : Held) (p : Pend) (c : Claims) → 5 ≤ o .class → claimsWith c (p .ident) (ifFits (fitsBy (o .marks)) (p .said)) ≡ closeClaims c o p
+claims-closed o p c e = rw (le-leb 5 (o .class) e)
+
+pub claims-kept : (o : Held) (p : Pend) (c : Claims) → o .class < 5 → c ≡ closeClaims c o p
+claims-kept o p c e = rw (lt-leb 5 (o .class) e)
+
+-- the field that opens claims or is kept, or neither, or stands above every heading: by the test that the code asks
+took : {A : Type 0} (z k q : Bool) → (not z && (k || q)) ≡ true → (c x : A) → x ≡ cond z c x
+took true k q e c x = absurd (true≢false (sym e))
+took false k q e c x = refl
+
+left : {A : Type 0} (z k q : Bool) → (not z && (k || q)) ≡ false → (c x y : A) → (c ≡ cond z c (cond k x c)) × (c ≡ cond z c (cond q y c))
+left true k q e c x y = (refl, refl)
+left false true q e c x y = absurd (true≢false e)
+left false false true e c x y = absurd (true≢false e)
+left false false false e c x y = (refl, refl)
+
+module _ (since i num : ℕ) (said : Reading) (en : num ≡ codeOf i) where
+  pub own-took : (not (eqb since 0) && (eqb i 732 || leb 5 num)) ≡ true → (c x : Claims) (p y : Pend) → x ≡ ownClaims c i said → y ≡ pendOf p i said
+      → (x ≡ cond (eqb since 0) c (ownClaims c i said)) × (y ≡ cond (eqb since 0) p (pendOf p i said))
+  own-took e c x p y ex ey =
+      (ex ∙ took (eqb since 0) (eqb i 732) (leb 5 num) e c (ownClaims c i said), ey ∙ took (eqb since 0) (eqb i 732) (leb 5 num) e p (pendOf p i said))
+
+  pub own-left : (not (eqb since 0) && (eqb i 732 || leb 5 num)) ≡ false → (c : Claims) (p : Pend)
+      → (c ≡ cond (eqb since 0) c (ownClaims c i said)) × (p ≡ cond (eqb since 0) p (pendOf p i said))
+  unfolding place
+  own-left e c p =
+      let y : Pend = record { ident = i; said = said } in (
+        left (eqb since 0) (eqb i 732) (leb 5 num) e c (claimsWith c i said) c .0,
+        left (eqb since 0) (eqb i 732) (leb 5 num) e p p y .1 ∙ ap (λ (k : ℕ). cond (eqb since 0) p (cond (leb 5 k) y p)) en,
+      )
+
+-- what `&s[at..end]` has
+pub span-long : {s : List ℕ} {at : ℕ} {f : Found} → IsNext s at f → f .end - at ≡ length (span at (f .end) s)
+span-long {s} {at} {f} N = sym (length-take-le (f .end - at) (drop at s) (omega (arith, length-drop at s, N .starts, N .closes, N .within)))
+
+-- a field's identifier
+pub ident-few : (s : List ℕ) {x : Kind} → x ≡ kindOf s → (i : ℕ) → x ≡ Field i → i < 1296
+ident-few s ex i e = field-is s i (sym ex ∙ e) .2
+
+-- a heading reads
+pub reads-again : (r : Read) (old : Heading) → readAs (not (isUnreadable r)) (headingIn r old) ≡ r
+reads-again (Reads h) old = refl
+reads-again Unreadable old = refl
+
+reads-on : (reads z : Bool) (h : Heading) → readAs (reads && not z) h ≡ cond (true && z) Unreadable (readAs reads h)
+reads-on true true h = refl
+reads-on true false h = refl
+reads-on false true h = refl
+reads-on false false h = refl
+
+own-few : (r : Row) → lineMarks r ≤ 18
+unfolding lineMarks
+own-few r = go (rule1 r) (not (r .ended))
+  where
+    go : (a b : Bool) → mark 1 a + mark 4 b ≤ 18
+    go true true = omega arith
+    go true false = omega arith
+    go false true = omega arith
+    go false false = omega arith
 
 module _ (code today : ℕ) (s ls₀ rs₀ : List ℕ) where
   -- at a place of the body, after n lines
-  pub record Walking (j : Job) (ls rs stood : List ℕ) (g : Ledger) (v : Live) (cl : Claims) (b : Block) (w : Wait) (at n : ℕ) : Type 0 where
+  pub record Walking (j : Job) (ls rs stood : List ℕ) (g : Ledger) (o : Held) (p : Pend) (since top : ℕ) (reads : Bool) (h : Heading) (cl : Claims) (b : Block) (w : Wait) (at n : ℕ) : Type 0 where
     pub pieces : Open
     pub all : List Fault
     pub job-is : j ≡ job code today
     pub to : at ≤ length s
     pub few : n ≤ at
-    pub meant : Meant code today pieces n v cl b w stood
+    pub means : Means code today pieces n o since top (readAs reads h) cl p b w stood
     pub book : Book all ls₀ rs₀ g ls rs
     pub small : g .total ≤ 256 * n
     pub calm : w .marks < 2 ^ 40
+    pub tail-few : o .tail ≤ n
+    pub top-few : top ≤ 18
     pub rest : run code today put pieces all (rowsFrom (suc n) (lines (drop at s))) ≡ faultsIn code today s
-
--- a line that is told as the code tells it; the code counts n + 1 where the rows count suc n
-pub kept-at : {s : List ℕ} {at : ℕ} {f : Found} → IsNext s at f → {x : Line} (n : ℕ)
-    → x ≡ lineTold (n + 1) (f .odd && anyOf isInadmissible (span at (f .end) s)) (f .ended) (span at (f .end) s) (length (span at (f .end) s))
-    → x ≡ lineKept (sorted (record { no = suc n; bytes = span at (f .end) s; ended = f .ended }))
-unfolding rule1
-kept-at {s} {at} {f} N n q =
-    let bytes : List ℕ = span at (f .end) s in
-    q
-    ∙ (λ i. lineTold (add-one n i) (N .tells i && anyOf isInadmissible bytes) (f .ended) bytes (length bytes))
-    ∙ ap (λ (bad : Bool). lineTold (suc n) bad (f .ended) bytes (length bytes)) (odd-asked bytes)
-    ∙ told-kept (record { no = suc n; bytes = bytes; ended = f .ended })
-
--- a field that claims nothing leaves the claims as they are
-pub no-claim : (cl : Claims) (v : Live) → isClaim v ≡ false → cl ≡ claimsAfter cl v
-no-claim cl v e = rw e
-
-meant-as : {code today : ℕ} {c : Open} {n : ℕ} {v v′ : Live} {cl cl′ : Claims} {b b′ : Block} {w w′ : Wait} {stood stood′ : List ℕ} → v′ ≡ v → cl′ ≡ cl → b′ ≡ b → w′ ≡ w → stood′ ≡ stood
-    → Meant code today c n v cl b w stood → Meant code today c n v′ cl′ b′ w′ stood′
-meant-as ev ec eb ew es M = rw (ev, ec, eb, ew, es) M
 
 zeros : (n k : ℕ) → _≡_ {A = ℕ} (getD (replicate n 0) k 0) 0
 zeros zero k = refl
 zeros (suc n) zero = refl
 zeros (suc n) (suc k) = zeros n k
 
+means-as : {code today : ℕ} {c : Open} {n : ℕ} {o o′ : Held} {since top : ℕ} {r : Read} {cl cl′ : Claims} {p p′ : Pend} {b : Block} {w : Wait} {stood stood′ : List ℕ} → o′ ≡ o → cl′ ≡ cl → p′ ≡ p → stood′ ≡ stood
+    → Means code today c n o since top r cl p b w stood → Means code today c n o′ since top r cl′ p′ b w stood′
+means-as eo ec ep es M = rw (eo, ec, ep, es) M
+
+head-as : {code today : ℕ} {c : Open} {n : ℕ} {o o′ : Held} {since since′ top top′ : ℕ} {r r′ : Read} {cl cl′ : Claims} {p : Pend} {b b′ : Block} {w w′ : Wait} {stood : List ℕ} → o′ ≡ o → since′ ≡ since → top′ ≡ top → r′ ≡ r → cl′ ≡ cl → b′ ≡ b → w′ ≡ w
+    → Means code today c n o since top r cl p b w stood → Means code today c n o′ since′ top′ r′ cl′ p b′ w′ stood
+head-as eo es et er ec eb ew M = rw (eo, es, et, er, ec, eb, ew) M
+
 module _ (code today : ℕ) (s : List ℕ) where
-  pub walk-start : {ls rs stood : List ℕ} {j : Job} {g : Ledger} {v : Live} {cl : Claims} {b : Block} {w : Wait} → length ls ≡ length rs → j ≡ job code today
-      → v ≡ quiet → cl ≡ noClaims → b ≡ summary [] → w ≡ noWait → stood ≡ replicate 1296 0 → g ≡ record { kept = 0; total = 0 }
-      → Walking code today s ls rs j ls rs stood g v cl b w 0 0
+  pub walk-start : {ls rs stood : List ℕ} {j : Job} {g : Ledger} {o : Held} {p : Pend} {h : Heading} {cl : Claims} {b : Block} {w : Wait} → length ls ≡ length rs → j ≡ job code today
+      → o ≡ noOpen → cl ≡ noClaims → b ≡ summary [] → w ≡ noWait → stood ≡ replicate 1296 0 → g ≡ record { kept = 0; total = 0 }
+      → Walking code today s ls rs j ls rs stood g o p 0 0 false h cl b w 0 0
   unfolding faultsIn
-  walk-start {ls} {rs} {stood} {j} {g} {v} {cl} {b} {w} e ej ev ec eb ew es eg = record {
+  walk-start {ls} {rs} {stood} {j} {g} {o} {p} {h} {cl} {b} {w} e ej eo ec eb ew es eg = record {
     pieces = start;
     all = [];
     job-is = ej;
     to = omega arith;
     few = omega arith;
-    meant = record {
-      live-is = ev;
+    means = record {
+      open-is = eo;
+      since-is = refl;
+      own-is = refl;
+      reads-as = refl;
       claims-are = ec ∙ no-claims-is;
+      pending = tt;
       account-is = eb;
       wait-is = ew;
       numbered = tt;
+      positive = tt;
       long = ap length es ∙ length-replicate {A = ℕ} 1296 0;
       past = λ k. let z : getD stood k 0 ≡ 0 = ap (λ (l : List ℕ). getD l k 0) es ∙ zeros 1296 k in omega arith;
       inside = tt;
@@ -130,19 +203,21 @@ module _ (code today : ℕ) (s : List ℕ) where
     book = book-start e eg;
     small = rw eg (omega arith);
     calm = rw ew (omega arith);
+    tail-few = rw eo (omega arith);
+    top-few = omega arith;
     rest = emitted code today put put-comm [] (rowsFrom 1 (lines s)) ∙ in-line-order 1 (spotsIn code today s) (spots-orderly code today (tree (rowsFrom 1 (lines s)))) (lines-rise code today 1 (lines s));
   }
 
-module _ {code today : ℕ} {s ls₀ rs₀ : List ℕ} {j : Job} {ls rs stood : List ℕ} {g : Ledger} {v : Live} {cl : Claims} {b : Block} {w : Wait} {at n : ℕ} (W : Walking code today s ls₀ rs₀ j ls rs stood g v cl b w at n) where
+module _ {code today : ℕ} {s ls₀ rs₀ : List ℕ} {j : Job} {ls rs stood : List ℕ} {g : Ledger} {o : Held} {p : Pend} {since top : ℕ} {reads : Bool} {h : Heading} {cl : Claims} {b : Block} {w : Wait} {at n : ℕ} (W : Walking code today s ls₀ rs₀ j ls rs stood g o p since top reads h cl b w at n) where
   pub walk-ready : Ready (g .kept) ls rs
   walk-ready = book-ready (W .book)
 
   -- what is listed so far leaves room to count on
   pub walk-room : length s ≤ 10000000 → g .total < 2 ^ 61
-  walk-room h = omega (arith, W .small, W .few, W .to)
+  walk-room q = omega (arith, W .small, W .few, W .to)
 
-  pub walk-ident : v .owner .ident < 1296
-  walk-ident = ident-small code today (W .pieces) n v cl b w stood (W .meant)
+  pub walk-tail : length s ≤ 10000000 → o .tail < 2 ^ 31
+  walk-tail q = omega (arith, W .tail-few, W .few, W .to)
 
   -- one line, whatever it is
   module _ {f : Found} (N : IsNext s at f) where
@@ -150,71 +225,116 @@ module _ {code today : ℕ} {s ls₀ rs₀ : List ℕ} {j : Job} {ls rs stood : 
     row = record { no = suc n; bytes = span at (f .end) s; ended = f .ended }
 
     walk-on : (z : Sorted) → sorted row ≡ z → (xs : List Fault) → putAll put (out code today (W .pieces) z) (W .all) ≡ insertAll xs (W .all)
-        → {v′ : Live} {cl′ : Claims} {b′ : Block} {w′ : Wait} {stood′ : List ℕ} → Meant code today (push (W .pieces) z) (suc n) v′ cl′ b′ w′ stood′
-        → {g′ : Ledger} {ls′ rs′ : List ℕ} → Entered xs g ls rs g′ ls′ rs′ → length xs ≤ 192 → w′ .marks < 2 ^ 40
-        → Walking code today s ls₀ rs₀ j ls′ rs′ stood′ g′ v′ cl′ b′ w′ (f .next) (n + 1)
+        → {o′ : Held} {p′ : Pend} {since′ top′ : ℕ} {reads′ : Bool} {h′ : Heading} {cl′ : Claims} {b′ : Block} {w′ : Wait} {stood′ : List ℕ}
+        → Means code today (push (W .pieces) z) (suc n) o′ since′ top′ (readAs reads′ h′) cl′ p′ b′ w′ stood′
+        → {g′ : Ledger} {ls′ rs′ : List ℕ} → Entered xs g ls rs g′ ls′ rs′ → length xs ≤ 192 → w′ .marks < 2 ^ 40 → o′ .tail ≤ suc n → top′ ≤ 18
+        → Walking code today s ls₀ rs₀ j ls′ rs′ stood′ g′ o′ p′ since′ top′ reads′ h′ cl′ b′ w′ (f .next) (n + 1)
     unfolding rowsFrom
-    walk-on z ez xs eo {v′} {cl′} {b′} {w′} {stood′} M {g′} {ls′} {rs′} E few calm =
+    walk-on z ez xs eo {o′} {p′} {since′} {top′} {reads′} {h′} {cl′} {b′} {w′} {stood′} M {g′} {ls′} {rs′} E few calm tail top =
         let er : rowsFrom (suc n) (lines (drop at s)) ≡ z ∷ rowsFrom (suc (suc n)) (lines (drop (f .next) s)) =
         ap (rowsFrom (suc n)) (N .cut) ∙ ap (λ (y : Sorted). y ∷ rowsFrom (suc (suc n)) (lines (drop (f .next) s))) ez in
-        subst (λ (m : ℕ). Walking code today s ls₀ rs₀ j ls′ rs′ stood′ g′ v′ cl′ b′ w′ (f .next) m) (sym (add-one n)) (record {
+        subst (λ (m : ℕ). Walking code today s ls₀ rs₀ j ls′ rs′ stood′ g′ o′ p′ since′ top′ reads′ h′ cl′ b′ w′ (f .next) m) (sym (add-one n)) (record {
           pieces = push (W .pieces) z;
           all = insertAll xs (W .all);
           job-is = W .job-is;
           to = N .within;
           few = omega (arith, W .few, N .moves);
-          meant = M;
+          means = M;
           book = book-more (W .book) E;
           small = omega (arith, W .small, E .sum);
           calm = calm;
+          tail-few = tail;
+          top-few = top;
           rest = ap (λ (l : List Fault). run code today put (push (W .pieces) z) l (rowsFrom (suc (suc n)) (lines (drop (f .next) s)))) (sym eo)
               ∙ ap (run code today put (W .pieces) (W .all)) (sym er) ∙ W .rest;
         })
 
-    module _ {x : Line} (ex : x ≡ lineKept (sorted row)) where
-      pub walk-low : (l : Low) → x ≡ OfLow l → {v′ : Live} → v′ ≡ lowLive v l → {m : ℕ} → m ≡ lowMarksOf v l → {g′ : Ledger} {ls′ rs′ : List ℕ} → Entered (marked (l .no) m) g ls rs g′ ls′ rs′
-          → Walking code today s ls₀ rs₀ j ls′ rs′ stood g′ v′ cl b w (f .next) (n + 1)
-      walk-low l e {v′} ev {m} em {g′} {ls′} {rs′} E =
-          let k = kept-low (sorted row) l (sym ex ∙ e) in
-          walk-on (low (k .0)) (k .1) (marked (l .no) m)
-          (low-out code today (W .pieces) n v cl b w stood (W .meant) (k .0) (W .all) ∙ (λ i. insertAll (marked (k .2 i .no) (lowMarksOf v (k .2 i))) (W .all)) ∙ ap (λ (t : ℕ). insertAll (marked (l .no) t) (W .all)) (sym em))
-          (meant-as (ev ∙ ap (lowLive v) (sym (k .2))) refl refl refl refl (meant-low code today (W .pieces) n v cl b w stood (W .meant) (k .0))) E (omega (arith, marked-few (l .no) m)) (W .calm)
+    -- the kind of the line, as the code asks it
+    kind-at : {x : Kind} → x ≡ kindOf (span at (f .end) s) → (k : Kind) → x ≡ k → sorted row ≡ sortedAs k row
+    unfolding sorted
+    kind-at ex k e = ap (λ (q : Kind). sortedAs q row) (sym ex ∙ e)
 
-      pub walk-field : (y : Field) → x ≡ OfField y → {v′ : Live} → v′ ≡ fieldLive v y
-          → {cl′ : Claims} → cl′ ≡ claimsAfter cl v → {stood′ : List ℕ} → stood′ ≡ set stood (v .owner .ident) (v .owner .no)
-          → {g′ : Ledger} {ls′ rs′ : List ℕ} → Entered (fieldFaults j v cl stood) g ls rs g′ ls′ rs′
-          → Walking code today s ls₀ rs₀ j ls′ rs′ stood′ g′ v′ cl′ b w (f .next) (n + 1)
-      walk-field y e {v′} ev {cl′} ec {stood′} et E =
-          let k = kept-field (sorted row) y (sym ex ∙ e) in
-          let q = field-of row (k .0) (k .1) in
-          walk-on (field (k .0)) (k .1) (fieldFaults j v cl stood)
-          (field-out code today (W .pieces) n v cl b w stood (W .meant) (k .0) (W .all) ∙ sym (λ i. insertAll (fieldFaults (W .job-is i) v cl stood) (W .all)))
-          (meant-as (ev ∙ ap (fieldLive v) (sym (k .2))) ec refl refl et
-          (meant-field code today (W .pieces) n v cl b w stood (W .meant) (k .0) (q .0) (q .1))) E (omega (arith, field-few j v cl stood)) (W .calm)
+    module _ {x : Kind} (ex : x ≡ kindOf (span at (f .end) s)) {own : ℕ} (eo : own ≡ lineMarks row) where
+      -- a line of no kind
+      pub walk-other : x ≡ Other → {m : ℕ} → m ≡ lowMarksAt own since (o .no) false → {g′ : Ledger} {ls′ rs′ : List ℕ} → Entered (marked (n + 1) m) g ls rs g′ ls′ rs′
+          → Walking code today s ls₀ rs₀ j ls′ rs′ stood g′ o p since top reads h cl b w (f .next) (n + 1)
+      walk-other e {m} em E =
+          let l : LowRow = record { row = row; continues = false } in
+          walk-on (low l) (kind-at ex Other e) (marked (n + 1) m)
+          (low-out code today (W .pieces) n o since top (readAs reads h) cl p b w stood (W .means) l (W .all) ∙ (λ i. insertAll (marked (sym (add-one n) i) (lowMarksAt (sym eo i) since (o .no) false)) (W .all)) ∙ ap (λ (t : ℕ). insertAll (marked (n + 1) t) (W .all)) (sym em))
+          (means-low code today (W .pieces) n o since top (readAs reads h) cl p b w stood (W .means) l) E (omega (arith, marked-few (n + 1) m)) (W .calm) (omega (arith, W .tail-few)) (W .top-few)
 
-      pub walk-head : (k : Head) → x ≡ OfHead k → {v′ : Live} → v′ ≡ headLive k → {cl′ : Claims} → cl′ ≡ noClaims
-          → {stood′ : List ℕ} → stood′ ≡ set stood (v .owner .ident) (v .owner .no)
-          → {b′ : Block} → b′ ≡ shutModel j b w v (claimsAfter cl v) .block
-          → {w′ : Wait} → w′ ≡ shutModel j b w v (claimsAfter cl v) .wait → w′ .marks < 2 ^ 40
-          → {g′ : Ledger} {ls′ rs′ : List ℕ} → Entered (openFaults j v cl b w stood) g ls rs g′ ls′ rs′
-          → Walking code today s ls₀ rs₀ j ls′ rs′ stood′ g′ v′ cl′ b′ w′ (f .next) (n + 1)
-      walk-head k e {v′} ev {cl′} ec {stood′} et {b′} eb {w′} ew calm E =
-          let h = kept-head (sorted row) k (sym ex ∙ e) in
-          walk-on (heading (h .0)) (h .1) (openFaults j v cl b w stood)
-          (head-out code today (W .pieces) n v cl b w stood (W .meant) (h .0) (W .all) ∙ sym (λ i. insertAll (openFaults (W .job-is i) v cl b w stood) (W .all)))
-          (meant-as (ev ∙ ap headLive (sym (h .2))) ec
-          (eb ∙ (λ i. shutModel (W .job-is i) b w v (claimsAfter cl v) .block))
-          (ew ∙ (λ i. shutModel (W .job-is i) b w v (claimsAfter cl v) .wait)) et
-          (meant-head code today (W .pieces) n v cl b w stood (W .meant) (h .0) (head-of row (h .0) (h .1)))) E (open-few j v cl b w stood) calm
+      -- a continuation
+      pub walk-more : x ≡ Continuation → {m : ℕ} → m ≡ lowMarksAt own since (o .no) true → {o′ : Held} → o′ ≡ lowOpen true o (length (span at (f .end) s))
+          → {g′ : Ledger} {ls′ rs′ : List ℕ} → Entered (marked (n + 1) m) g ls rs g′ ls′ rs′
+          → Walking code today s ls₀ rs₀ j ls′ rs′ stood g′ o′ p since top (reads && not (eqb (o .no) 0)) h cl b w (f .next) (n + 1)
+      walk-more e {m} em {o′} eo′ E =
+          let l : LowRow = record { row = row; continues = true } in
+          walk-on (low l) (kind-at ex Continuation e) (marked (n + 1) m)
+          (low-out code today (W .pieces) n o since top (readAs reads h) cl p b w stood (W .means) l (W .all) ∙ (λ i. insertAll (marked (sym (add-one n) i) (lowMarksAt (sym eo i) since (o .no) true)) (W .all)) ∙ ap (λ (t : ℕ). insertAll (marked (n + 1) t) (W .all)) (sym em))
+          (rw (eo′, reads-on reads (eqb (o .no) 0) h) (means-low code today (W .pieces) n o since top (readAs reads h) cl p b w stood (W .means) l)) E (omega (arith, marked-few (n + 1) m)) (W .calm)
+          (rw eo′ (tail-on (not (eqb (o .no) 0)))) (W .top-few)
+        where
+          tail-on : (t : Bool) → cond (true && t) (moreOpen o (length (span at (f .end) s))) o .tail ≤ suc n
+          tail-on true = omega (arith, W .tail-few)
+          tail-on false = omega (arith, W .tail-few)
+
+      -- a field
+      pub walk-field : (i : ℕ) → x ≡ Field i → {cl₁ : Claims} → cl₁ ≡ closeClaims cl o p → {a : Bool} → a ≡ ltb since (getD stood i 0)
+          → {said : Reading} → said ≡ readingOf (classOf i) (textOf (span at (f .end) s))
+          → {o′ : Held} → o′ ≡ cond (eqb since 0) (openLoose (n + 1) own) (openOwn j (cl₁ .kc) (readAs reads h) (n + 1) own a i said)
+          → {cl′ : Claims} → cl′ ≡ cond (eqb since 0) cl₁ (ownClaims cl₁ i said)
+          → {p′ : Pend} → p′ ≡ cond (eqb since 0) p (pendOf p i said)
+          → {stood′ : List ℕ} → stood′ ≡ set stood i (n + 1)
+          → {g′ : Ledger} {ls′ rs′ : List ℕ} → Entered (marked (o .no) (o .marks)) g ls rs g′ ls′ rs′
+          → Walking code today s ls₀ rs₀ j ls′ rs′ stood′ g′ o′ p′ since top reads h cl′ b w (f .next) (n + 1)
+      walk-field i e {cl₁} e₁ {a} ea {said} es {o′} eo′ {cl′} ec {p′} ep {stood′} et E =
+          let y : FieldRow = record { row = row; ident = i } in
+          walk-on (field y) (kind-at ex (Field i) e) (marked (o .no) (o .marks))
+          (field-out code today (W .pieces) n o since top (readAs reads h) cl p b w stood (W .means) y (W .all))
+          (means-as
+          (eo′ ∙ (λ q. cond (eqb since 0) (openLoose (add-one n q) (eo q)) (openOwn (W .job-is q) (e₁ q .kc) (readAs reads h) (add-one n q) (eo q) (ea q) i (es q))))
+          (ec ∙ (λ q. cond (eqb since 0) (e₁ q) (ownClaims (e₁ q) i (es q))))
+          (ep ∙ (λ q. cond (eqb since 0) p (pendOf p i (es q))))
+          (et ∙ ap (set stood i) (add-one n))
+          (means-field code today (W .pieces) n o since top (readAs reads h) cl p b w stood (W .means) y refl (field-is (span at (f .end) s) i (sym ex ∙ e) .2)))
+          E (omega (arith, marked-few (o .no) (o .marks))) (W .calm) (rw eo′ (tail-none (eqb since 0))) (W .top-few)
+        where
+          tail-none : (t : Bool) → cond t (openLoose (n + 1) own) (openOwn j (cl₁ .kc) (readAs reads h) (n + 1) own a i said) .tail ≤ suc n
+          tail-none true = omega arith
+          tail-none false = omega arith
+
+      -- a heading
+      pub walk-head : x ≡ HeadingLine → {r : Read} → r ≡ headingOf (span at (f .end) s)
+          → {o′ : Held} → o′ ≡ noOpen → {h′ : Heading} → h′ ≡ headingIn r h → {reads′ : Bool} → reads′ ≡ not (isUnreadable r) → {cl′ : Claims} → cl′ ≡ noClaims
+          → {b′ : Block} → b′ ≡ closeAs j b w since top (readAs reads h) (closeClaims cl o p) .block
+          → {w′ : Wait} → w′ ≡ closeAs j b w since top (readAs reads h) (closeClaims cl o p) .wait → w′ .marks < 2 ^ 40
+          → {g′ : Ledger} {ls′ rs′ : List ℕ} → Entered (marked (o .no) (o .marks) ++ closeFaults j b w since top (readAs reads h) (closeClaims cl o p)) g ls rs g′ ls′ rs′
+          → Walking code today s ls₀ rs₀ j ls′ rs′ stood g′ o′ p (n + 1) own reads′ h′ cl′ b′ w′ (f .next) (n + 1)
+      walk-head e {r} er {o′} eo′ {h′} eh {reads′} ed {cl′} ec {b′} eb {w′} ew calm E =
+          let c : Claims = closeClaims cl o p in
+          walk-on (heading row) (kind-at ex HeadingLine e) (marked (o .no) (o .marks) ++ closeFaults j b w since top (readAs reads h) c)
+          (head-out code today (W .pieces) n o since top (readAs reads h) cl p b w stood (W .means) row (W .all) ∙ sym (λ i. insertAll (marked (o .no) (o .marks) ++ closeFaults (W .job-is i) b w since top (readAs reads h) c) (W .all)))
+          (head-as eo′ (add-one n) eo ((λ i. readAs (ed i) (eh i)) ∙ reads-again r h ∙ er) ec
+          (eb ∙ (λ i. closeAs (W .job-is i) b w since top (readAs reads h) c .block))
+          (ew ∙ (λ i. closeAs (W .job-is i) b w since top (readAs reads h) c .wait))
+          (means-head code today (W .pieces) n o since top (readAs reads h) cl p b w stood (W .means) row refl)) E (close-few o j b w since top (readAs reads h) c) calm
+          (rw eo′ (omega arith)) (rw eo (own-few row))
 
   -- the end
-  pub walk-end : length s ≤ at → {g′ : Ledger} {ls′ rs′ : List ℕ} → Entered (openFaults j v cl b w stood ++ lastFaults j v cl b w) g ls rs g′ ls′ rs′ → Listed (faultsIn code today s) ls₀ rs₀ g′ ls′ rs′
+  pub walk-end : length s ≤ at → {g′ : Ledger} {ls′ rs′ : List ℕ}
+      → let q = closeAs j b w since top (readAs reads h) (closeClaims cl o p) in
+      Entered ((marked (o .no) (o .marks) ++ closeFaults j b w since top (readAs reads h) (closeClaims cl o p)) ++ marked (q .wait .line) (lastMarks (q .block) (q .wait))) g ls rs g′ ls′ rs′
+      → Listed (faultsIn code today s) ls₀ rs₀ g′ ls′ rs′
   unfolding rowsFrom
-  walk-end h {g′} {ls′} {rs′} E =
+  walk-end q {g′} {ls′} {rs′} E =
+      let c : Claims = closeClaims cl o p in
+      let xs : Job → List Fault = λ k. marked (o .no) (o .marks) ++ closeFaults k b w since top (readAs reads h) c in
+      let ys : Job → List Fault = λ k. marked (closeAs k b w since top (readAs reads h) c .wait .line) (lastMarks (closeAs k b w since top (readAs reads h) c .block) (closeAs k b w since top (readAs reads h) c .wait)) in
       let done : putAll put (final code today (W .pieces)) (W .all) ≡ faultsIn code today s =
-      ap (λ (z : List Sorted). run code today put (W .pieces) (W .all) z) (sym (ap (rowsFrom (suc n)) (lines-past s at h))) ∙ W .rest in
-      let ends : putAll put (final code today (W .pieces)) (W .all) ≡ insertAll (openFaults j v cl b w stood ++ lastFaults j v cl b w) (W .all) =
-      final-out code today (W .pieces) n v cl b w stood (W .meant) (W .all)
-      ∙ sym (λ i. insertAll (lastFaults (W .job-is i) v cl b w) (insertAll (openFaults (W .job-is i) v cl b w stood) (W .all)))
-      ∙ sym (insertAll-append (openFaults j v cl b w stood) (lastFaults j v cl b w) (W .all)) in
+      ap (λ (z : List Sorted). run code today put (W .pieces) (W .all) z) (sym (ap (rowsFrom (suc n)) (lines-past s at q))) ∙ W .rest in
+      let ends : putAll put (final code today (W .pieces)) (W .all) ≡ insertAll (xs j ++ ys j) (W .all) =
+      final-out code today (W .pieces) n o since top (readAs reads h) cl p b w stood (W .means) (W .all)
+      ∙ sym (λ i. insertAll (ys (W .job-is i)) (insertAll (xs (W .job-is i)) (W .all)))
+      ∙ sym (insertAll-append (xs j) (ys j) (W .all)) in
       book-listed (subst (λ (l : List Fault). Book l ls₀ rs₀ g′ ls′ rs′) (sym ends ∙ done) (book-more (W .book) E))

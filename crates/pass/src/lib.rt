@@ -1,19 +1,26 @@
-// One forward pass over the lines of a body: no line is looked at again, and none ahead. A field is entered when the next heading or
-// field comes, a heading when the next heading comes, and the first heading of a block when the block ends or the file does.
+// One forward pass over the lines of a body: no line is looked at again, and none ahead. A field is judged at its own line and entered
+// when the next heading or field comes, a heading when the next heading comes, and the first heading of a block when the block ends or the file does.
 // Promised by `enter_faults`, for every body of at most 10,000,000 bytes and two lent slices of equal length: the slices and the
 // total are those of `faultsIn` of `items`. It judges no rule; the rules and the state stand in `items` and `blocks`, the list in
 // `ledger`, the cut in `lines`, the table of characters in `text`.
 use blocks::Block;
 use blocks::Job;
+use fields::classes;
+use fields::kinds;
+use fields::kinds::Kind;
+use fields::readings;
 use headings::Code;
+use headings::Heading;
+use headings::ItemNo;
+use headings::Read;
 use items::Claims;
-use items::Line;
-use items::Live;
 use items::Wait;
-use items::open;
 use judging::claiming;
 use judging::closing;
 use judging::marking;
+use judging::opening;
+use judging::opening::Open;
+use judging::opening::Pend;
 use ledger::Ledger;
 ghost use mathlib.Core.Path.{_≡_};
 ghost use mathlib.Core.List.{_++_};
@@ -21,7 +28,9 @@ ghost use Prim.Native.Nat.{_≤_, _<_, _^_};
 ghost use lib.Dec.{ltb};
 ghost use lib.ListN.{length, getD, set, replicate};
 ghost use Rattle.ledger.specs.Slices.{Ready, Entered, Listed};
-ghost use Rattle.items.specs.State.{claimsAfter, fieldFaults, itemFaults, openFaults, lastFaults, shutModel};
+ghost use Rattle.ledger.specs.Marks.{marked};
+ghost use Rattle.items.specs.State.{lastMarks};
+ghost use Rattle.judging.specs.Opening.{readAs, closeClaims, closeAs, closeFaults};
 ghost use Rattle.items.specs.Faults.{faultsIn};
 
 // No identifier stood.
@@ -42,54 +51,35 @@ fn again(stood: &mut [u32; 1296], ident: usize, no: u32, since: u32) -> bool
     since < last
 }
 
-// The open field closes.
-fn shut_field(
-    lines: &mut [u32],
-    rules: &mut [u32],
-    stood: &mut [u32; 1296],
-    g: Ledger,
-    job: Job,
-    s: Live,
-    claims: Claims,
-) -> Ledger
-    requires { ⌜ Ready (g .kept) (now lines) (now rules) ⌝ }
-    requires { ⌜ (g .total < 2 ^ 62) × (s .owner .ident < 1296) ⌝ }
-    ensures { λ r. ⌜ Entered (fieldFaults job s claims (now (stood .entry))) g (now (lines .entry)) (now (rules .entry)) r (now (lines .exit)) (now (rules .exit)) ⌝ }
-    ensures { λ _. ⌜ now (stood .exit) ≡ set (now (stood .entry)) (s .owner .ident) (s .owner .no) ⌝ }
-{
-    let stands = again(stood, s.owner.ident, s.owner.no, s.head.no);
-    let kc = claims.kc;
-    let marks = marking::field_marks(job, s, kc, stands);
-    ledger::enter(lines, rules, g, s.owner.no, marks)
-}
-
 pub struct Closed {
     pub ledger: Ledger,
     pub block: Block,
     pub wait: Wait,
 }
 
-// The open item closes.
+// The open item closes, whose heading stands at the line `no` (0: none).
 fn shut_item(
     lines: &mut [u32],
     rules: &mut [u32],
     g: Ledger,
     job: Job,
-    s: Live,
+    no: u32,
+    own: u64,
+    read: Read,
     claims: Claims,
     b: Block,
     w: Wait,
 ) -> Closed
     requires { ⌜ Ready (g .kept) (now lines) (now rules) ⌝ }
-    requires { ⌜ (g .total < 2 ^ 62) × (w .marks < 2 ^ 40) ⌝ }
-    ensures { λ r. ⌜ Entered (itemFaults job b w s claims) g (now (lines .entry)) (now (rules .entry)) (r .ledger) (now (lines .exit)) (now (rules .exit)) ⌝ }
-    ensures { λ r. ⌜ (r .block ≡ shutModel job b w s claims .block) × (r .wait ≡ shutModel job b w s claims .wait) × (r .wait .marks < 2 ^ 40) ⌝ }
+    requires { ⌜ (g .total < 2 ^ 62) × (w .marks < 2 ^ 40) × (own ≤ 18) ⌝ }
+    ensures { λ r. ⌜ Entered (closeFaults job b w no own read claims) g (now (lines .entry)) (now (rules .entry)) (r .ledger) (now (lines .exit)) (now (rules .exit)) ⌝ }
+    ensures { λ r. ⌜ (r .block ≡ closeAs job b w no own read claims .block) × (r .wait ≡ closeAs job b w no own read claims .wait) × (r .wait .marks < 2 ^ 40) ⌝ }
 {
-    let c = closing::close_item(job, b, w, s, claims);
+    let c = closing::close_item(job, b, w, no, own, read, claims);
     let block = c.block;
     let wait = c.wait;
     let first = ledger::enter(lines, rules, g, w.line, c.told);
-    let ledger = ledger::enter(lines, rules, first, s.head.no, c.marks);
+    let ledger = ledger::enter(lines, rules, first, no, c.marks);
     Closed {
         ledger,
         block,
@@ -101,44 +91,65 @@ fn shut_item(
 fn shut_all(
     lines: &mut [u32],
     rules: &mut [u32],
-    stood: &mut [u32; 1296],
     g: Ledger,
     job: Job,
-    s: Live,
+    o: Open,
+    p: Pend,
+    no: u32,
+    own: u64,
+    reads: bool,
+    h: Heading,
     claims: Claims,
     b: Block,
     w: Wait,
 ) -> Closed
     requires { ⌜ Ready (g .kept) (now lines) (now rules) ⌝ }
-    requires { ⌜ (g .total < 2 ^ 61) × (s .owner .ident < 1296) × (w .marks < 2 ^ 40) ⌝ }
-    ensures { λ r. ⌜ Entered (openFaults job s claims b w (now (stood .entry))) g (now (lines .entry)) (now (rules .entry)) (r .ledger) (now (lines .exit)) (now (rules .exit)) ⌝ }
-    ensures { λ _. ⌜ now (stood .exit) ≡ set (now (stood .entry)) (s .owner .ident) (s .owner .no) ⌝ }
-    ensures { λ r. ⌜ (r .block ≡ shutModel job b w s (claimsAfter claims s) .block) × (r .wait ≡ shutModel job b w s (claimsAfter claims s) .wait) × (r .wait .marks < 2 ^ 40) ⌝ }
+    requires { ⌜ (g .total < 2 ^ 61) × (w .marks < 2 ^ 40) × (own ≤ 18) ⌝ }
+    ensures { λ r. ⌜ Entered (marked (o .no) (o .marks) ++ closeFaults job b w no own (readAs reads h) (closeClaims claims o p)) g (now (lines .entry)) (now (rules .entry)) (r .ledger) (now (lines .exit)) (now (rules .exit)) ⌝ }
+    ensures { λ r. ⌜ (r .block ≡ closeAs job b w no own (readAs reads h) (closeClaims claims o p) .block) × (r .wait ≡ closeAs job b w no own (readAs reads h) (closeClaims claims o p) .wait) × (r .wait .marks < 2 ^ 40) ⌝ }
 {
-    let g1 = shut_field(lines, rules, stood, g, job, s, claims);
-    let all = claiming::claims_after(claims, s);
-    shut_item(lines, rules, g1, job, s, all, b, w)
+    let g1 = ledger::enter(lines, rules, g, o.no, o.marks);
+    let all = opening::claims_after(claims, o, p);
+    let read = opening::read_as(reads, h);
+    shut_item(lines, rules, g1, job, no, own, read, all, b, w)
 }
 
 // The file ends: all that is open closes, and the heading that waits for rule 16 has it.
 fn shut_file(
     lines: &mut [u32],
     rules: &mut [u32],
-    stood: &mut [u32; 1296],
     g: Ledger,
     job: Job,
-    s: Live,
+    o: Open,
+    p: Pend,
+    no: u32,
+    own: u64,
+    reads: bool,
+    h: Heading,
     claims: Claims,
     b: Block,
     w: Wait,
 ) -> Ledger
     requires { ⌜ Ready (g .kept) (now lines) (now rules) ⌝ }
-    requires { ⌜ (g .total < 2 ^ 61) × (s .owner .ident < 1296) × (w .marks < 2 ^ 40) ⌝ }
-    ensures { λ r. ⌜ Entered (openFaults job s claims b w (now (stood .entry)) ++ lastFaults job s claims b w) g (now (lines .entry)) (now (rules .entry)) r (now (lines .exit)) (now (rules .exit)) ⌝ }
+    requires { ⌜ (g .total < 2 ^ 61) × (w .marks < 2 ^ 40) × (own ≤ 18) ⌝ }
+    ensures { λ r. ⌜ Entered ((marked (o .no) (o .marks) ++ closeFaults job b w no own (readAs reads h) (closeClaims claims o p)) ++ marked (closeAs job b w no own (readAs reads h) (closeClaims claims o p) .wait .line) (lastMarks (closeAs job b w no own (readAs reads h) (closeClaims claims o p) .block) (closeAs job b w no own (readAs reads h) (closeClaims claims o p) .wait))) g (now (lines .entry)) (now (rules .entry)) r (now (lines .exit)) (now (rules .exit)) ⌝ }
 {
-    let t = shut_all(lines, rules, stood, g, job, s, claims, b, w);
+    let t = shut_all(lines, rules, g, job, o, p, no, own, reads, h, claims, b, w);
     let last = closing::last_marks(t.block, t.wait);
     ledger::enter(lines, rules, t.ledger, t.wait.line, last)
+}
+
+// No heading yet.
+fn no_heading() -> Heading {
+    Heading {
+        kind: 0,
+        day: 0,
+        first: Code(0),
+        number: ItemNo(0),
+        second: Code(0),
+        output: ItemNo(0),
+        third: Code(0),
+    }
 }
 
 // Enters the faults of a body, for the submitter's code and the accounting day.
@@ -151,7 +162,12 @@ pub fn enter_faults(s: &[u8], code: u32, day: u32, lines: &mut [u32], rules: &mu
     let table = text::characters::table();
     let mut stood = unseen();
     let mut g = ledger::empty();
-    let mut live = open::start();
+    let mut open = opening::none_open();
+    let mut pend = opening::no_pend();
+    let mut since: u32 = 0;
+    let mut top: u64 = 0;
+    let mut reads = false;
+    let mut h = no_heading();
     let mut claims = claiming::no_claims();
     let mut block = account::start();
     let mut wait = closing::no_wait();
@@ -160,30 +176,103 @@ pub fn enter_faults(s: &[u8], code: u32, day: u32, lines: &mut [u32], rules: &mu
     while at < s.len() {
         let f = lines::line_from(s, at);
         let end = f.end;
+        let from = at;
         n += 1;
-        let x = items::rows::line_kept(&table, &s[at..end], n, f.odd, f.ended);
+        let bad = text::characters::holds_inadmissible(&table, &s[from..end], f.odd);
+        let own = marking::line_marks(bad, f.ended);
+        let x = kinds::kind_of(&s[from..end]);
         at = f.next;
         match x {
-            Line::OfLow(l) => {
-                g = ledger::enter(lines, rules, g, l.no, marking::low_marks(live, l));
-                live = open::with_low(live, l);
-            }
-            Line::OfField(y) => {
-                g = shut_field(lines, rules, &mut stood, g, job, live, claims);
-                if claiming::is_claim(live) {
-                    claims = claiming::claims_after(claims, live);
-                }
-                live = open::with_field(live, y);
-            }
-            Line::OfHead(k) => {
-                let t = shut_all(lines, rules, &mut stood, g, job, live, claims, block, wait);
+            Kind::Heading => {
+                let t = shut_all(
+                    lines,
+                    rules,
+                    g,
+                    job,
+                    open,
+                    pend,
+                    since,
+                    top,
+                    reads,
+                    h,
+                    claims,
+                    block,
+                    wait,
+                );
                 g = t.ledger;
                 block = t.block;
                 wait = t.wait;
                 claims = claiming::no_claims();
-                live = open::with_head(k);
+                open = opening::none_open();
+                let read = headings::reading::read(&s[from..end]);
+                h = opening::heading_in(read, h);
+                reads = opening::does_read(read);
+                top = own;
+                since = n;
+            }
+            Kind::Continuation => {
+                g = ledger::enter(
+                    lines,
+                    rules,
+                    g,
+                    n,
+                    opening::low_marks(own, since, open.no, true),
+                );
+                reads = reads & !(open.no == 0);
+                open = opening::with_low(open, true, end - from);
+            }
+            Kind::Field(ident) => {
+                g = ledger::enter(lines, rules, g, open.no, open.marks);
+                if 5 <= open.class {
+                    claims = opening::claim_closed(claims, open, pend);
+                }
+                let stands = again(&mut stood, ident, n, since);
+                let class = classes::class_of(ident);
+                let number = opening::code_of(ident, class);
+                let said = readings::read_field(class, &s[from..end]);
+                let kc = claims.kc;
+                open = opening::field_open(
+                    job,
+                    kc,
+                    since,
+                    reads,
+                    h,
+                    n,
+                    own,
+                    stands,
+                    ident,
+                    number,
+                    said,
+                );
+                if !(since == 0) & ((ident == classes::KC) | (5 <= number)) {
+                    claims = opening::claim_own(claims, ident, said);
+                    pend = opening::keep_own(pend, number, ident, said);
+                }
+            }
+            Kind::Other => {
+                g = ledger::enter(
+                    lines,
+                    rules,
+                    g,
+                    n,
+                    opening::low_marks(own, since, open.no, false),
+                );
             }
         }
     }
-    shut_file(lines, rules, &mut stood, g, job, live, claims, block, wait)
+    shut_file(
+        lines,
+        rules,
+        g,
+        job,
+        open,
+        pend,
+        since,
+        top,
+        reads,
+        h,
+        claims,
+        block,
+        wait,
+    )
 }

@@ -3,7 +3,8 @@ use native.Mathlib.Omega.{arith}
 use Rattle.ledger.specs.Marks.{marked}
 use Rattle.ledger.proofs.Entering.{entered-both}
 use Rattle.items.specs.State.{lastMarks}
-use Rattle.pass.proofs.Walk.{entered-list, open-few}
+use Rattle.judging.specs.Opening.{readAs, closeClaims}
+use Rattle.pass.proofs.Walk.{entered-list, close-few}
 use borrow.Author.Needs.{needs}
 use Rattle.pass.proofs.shut_file.Statement.{statement}
 use Rattle.pass.proofs.shut_file.Tie as tie
@@ -12,14 +13,14 @@ shut-all-requires : tie.Need-shut-all-requires
 shut-all-requires c κs = search needs
 
 last-marks-requires : tie.Need-last-marks-requires
-last-marks-requires c κs = c .before .before .before .before .shut-all .ensures .1 .1 .2
+last-marks-requires c κs = c .before .before .before .before .shut-all .ensures .1 .2
 
 enter-requires : tie.Need-enter-requires
 enter-requires c κs =
-    let start = c .before .before .before .before .before .before .before .before .before .before .before .before .before in
+    let start = c .before .before .before .before .before .before .before .before .before .before .before .before in
     let a = start .args in
     let E = c .before .before .before .before .before .before .before .shut-all .ensures .0 in
-    (E .put .ready, omega (arith, E .sum, start .pre .1 .0, open-few (a .job) (a .s) (a .claims) (a .b) (a .w) (a .stood .now)))
+    (E .put .ready, omega (arith, E .sum, start .pre .1 .0, close-few (a .o) (a .job) (a .b) (a .w) (a .no) (a .own) (readAs (a .reads) (a .h)) (closeClaims (a .claims) (a .o) (a .p))))
 
 same-length : tie.Need-same-length
 same-length c = search needs
@@ -29,11 +30,11 @@ same-length-2 c = search needs
 
 returns : tie.Need-returns
 returns c =
-    let start = c .before .before .before .before .before .before .before .before .before .before .before .before .before .before .before .before .before .before in
+    let start = c .before .before .before .before .before .before .before .before .before .before .before .before .before .before .before .before .before in
     let all = c .before .before .before .before .before .before .before .before .before .before .before .before .shut-all .ensures in
     let last = c .before .before .before .before .before .before .before .last-marks .ensures .0 in
-    let eb = all .1 .1 .0 in
-    let ew = all .1 .1 .1 in
+    let eb = all .1 .0 in
+    let ew = all .1 .1 in
     entered-both (start .pre .0) (all .0)
     (entered-list (ap (marked _) last ∙ (λ i. marked (ew i .line) (lastMarks (eb i) (ew i)))) (c .before .before .before .before .enter .ensures .0))
 

@@ -27,7 +27,7 @@ returns c =
     let a = c .before .before .before .before .before .before .before .before .before .before .before .before .before .before .before .before .before .before .before .args in
     let e = c .before .before .before .before .before .before .before .before .before .before .before .before .before .before .before .before .close-item .ensures .0 in (
       entered-both (c .before .before .before .before .before .before .before .before .before .before .before .before .before .before .before .before .before .before .before .pre .0) (entered-list (ap (λ (x : Shut). marked (a .w .line) (x .told)) e) (c .before .before .before .before .before .before .before .before .before .before .before .enter .ensures .0))
-          (entered-list (ap (λ (x : Shut). marked (a .s .head .no) (x .marks)) e) (c .before .before .before .before .enter2 .ensures .0)),
+          (entered-list (ap (λ (x : Shut). marked (a .no) (x .marks)) e) (c .before .before .before .before .enter2 .ensures .0)),
       (ap (λ (x : Shut). x .block) e, ap (λ (x : Shut). x .wait) e, c .before .before .before .before .before .before .before .before .before .before .before .before .before .before .before .before .close-item .ensures .1),
     )
 

@@ -1,0 +1,132 @@
+-- The open field as four numbers: its line, its marks as they stand, the number of its class, its continuations so far.
+use Prim.Native.Nat.{ℕ, suc, _+_, _%_}
+use mathlib.Core.Bool.{Bool, true, false, cond, not, _&&_, _||_}
+use mathlib.Core.List.{List, _++_}
+use lib.Dec.{eqb, ltb, leb}
+use Rattle.laws.specs.Tests.{mark}
+use Rattle.ledger.specs.Faults.{Fault}
+use Rattle.ledger.specs.Marks.{marked}
+use Rattle.headings.specs.declared.Heading.{Heading}
+use Rattle.headings.specs.declared.Read.{Read}
+use Rattle.headings.specs.declared.Read.the-variants.{Reads, Unreadable}
+use Rattle.fields.specs.declared.classes.Class.{Class}
+use Rattle.fields.specs.declared.classes.Class.the-variants.{Money, Number, Range, Group, Account, Text, Free}
+use Rattle.fields.specs.declared.readings.Reading.{Reading}
+use Rattle.fields.specs.declared.readings.Reading.the-variants.{Plain}
+use Rattle.fields.specs.Kinds.{named}
+use Rattle.fields.specs.Classes.{classOf}
+use Rattle.fields.specs.Readings.{ifFits}
+use Rattle.fields.specs.Tails.{isBroken}
+use Rattle.blocks.specs.declared.Job.{Job}
+use Rattle.blocks.specs.declared.Kc.{Kc}
+use Rattle.blocks.specs.declared.Block.{Block}
+use Rattle.blocks.specs.declared.Item.{Item as Digest}
+use Rattle.blocks.specs.OwnRules.{noKc}
+use Rattle.blocks.specs.Items.{closesAt}
+use Rattle.blocks.specs.Model.{closeModel as blockModel}
+use Rattle.items.specs.declared.Claims.{Claims}
+use Rattle.items.specs.declared.Wait.{Wait}
+use Rattle.items.specs.declared.Shut.{Shut}
+use Rattle.items.specs.Fields.{failsCheck}
+use Rattle.items.specs.Headings.{isUnreadable}
+use Rattle.items.specs.State.{claimsWith, kcMarks, shutAs}
+use Rattle.judging.specs.declared.opening.Pend.{Pend}
+use Rattle.judging.specs.declared.opening.Open.{Open}
+
+-- ---- classes as numbers: 1 takes any tail and claims at once; 5 and above claim when they close
+abbrev pub codeBy : Class → ℕ
+codeBy Free = 0
+codeBy Money = 1
+codeBy Number = 2
+codeBy Account = 3
+codeBy Text = 4
+codeBy Range = 5
+codeBy Group = 6
+
+-- that of an identifier; an S9 has any text, but is claimed
+unfoldable pub codeOf : ℕ → ℕ
+codeOf i = cond (eqb i (named "S9")) 7 (codeBy (classOf i))
+
+-- a field of a class may not go on with so many continuations, the last of so many bytes
+abbrev pub breaksTail : ℕ → ℕ → ℕ → Bool
+breaksTail k tail n = ((eqb k 2 || eqb k 3) || (eqb k 5 || eqb k 6)) || (eqb k 4 && (ltb 3 tail || ltb 38 n))
+
+-- ---- the open field
+abbrev pub noOpen : Open
+noOpen = record { no = 0; marks = 0; class = 0; tail = 0 }
+
+-- a field that its tail breaks: 6, and neither 7 nor 8 nor 9
+abbrev pub brokenBy : Bool → ℕ → ℕ
+brokenBy breaks m = cond breaks (m % 64 + 64) m
+
+abbrev pub moreOpen : Open → ℕ → Open
+moreOpen o n =
+    record { no = o .no; marks = brokenBy (breaksTail (o .class) (o .tail + 1) n) (o .marks); class = o .class; tail = o .tail + 1 }
+
+-- a continuation or a line of no kind below it, where there is one
+abbrev pub lowOpen : Bool → Open → ℕ → Open
+lowOpen continues o n = cond (continues && not (eqb (o .no) 0)) (moreOpen o n) o
+
+-- 6 to 9, by what the field's own line says
+unfoldable pub saidMarks : Job → Bool → Read → Reading → ℕ
+saidMarks j first h said = mark 6 (isBroken said) + mark 7 (failsCheck said) + kcMarks j first h said
+
+-- it reads: by bit 6 of its marks
+abbrev pub fitsBy : ℕ → Bool
+fitsBy m = ltb (m % 128) 64
+
+-- ---- what is claimed
+-- the heading of the open item
+abbrev pub readAs : Bool → Heading → Read
+readAs reads h = cond reads (Reads h) Unreadable
+
+-- what is kept of a heading that reads
+abbrev pub headingIn : Read → Heading → Heading
+headingIn (Reads h) old = h
+headingIn Unreadable old = old
+
+-- a field at its own line: a KC takes any tail, so its claim is made at once
+abbrev pub ownClaims : Claims → ℕ → Reading → Claims
+ownClaims c ident said = cond (eqb ident (named "KC")) (claimsWith c ident said) c
+
+-- a field that closes: IN and S0 to S9
+abbrev pub closeClaims : Claims → Open → Pend → Claims
+closeClaims c o p = cond (leb 5 (o .class)) (claimsWith c (p .ident) (ifFits (fitsBy (o .marks)) (p .said))) c
+
+abbrev pub noPend : Pend
+noPend = record { ident = 0; said = Plain }
+
+-- what is kept of it until then
+abbrev pub pendOf : Pend → ℕ → Reading → Pend
+pendOf p ident said = cond (leb 5 (codeOf ident)) (record { ident = ident; said = said }) p
+
+-- a field of an item whose heading reads as r, by its own line: its marks 1 and 4, whether its identifier stood already, the first KC
+abbrev pub openOwn : Job → Kc → Read → ℕ → ℕ → Bool → ℕ → Reading → Open
+openOwn j kc r n own again ident said =
+    record {
+      no = n;
+      marks = own + mark 5 again + saidMarks j (eqb ident (named "KC") && noKc kc) r said;
+      class = codeOf ident;
+      tail = 0;
+    }
+
+-- a field above every heading
+abbrev pub openLoose : ℕ → ℕ → Open
+openLoose n own = record { no = n; marks = own + 8; class = 0; tail = 0 }
+
+-- a continuation or a line of no kind: since is the heading's line, no the field's
+abbrev pub lowMarksAt : ℕ → ℕ → ℕ → Bool → ℕ
+lowMarksAt own since n continues = own + mark 2 ((eqb since 0 && eqb n 0) || not continues) + mark 3 (eqb since 0)
+
+-- ---- an item closes, whose heading stands at the line n (0: none), has the marks m of its line and reads as r
+abbrev pub itemOf : ℕ → Read → Claims → Digest
+itemOf n r c = record { line = n; head = r; kc = c .kc; span = c .span; sums = c .sums; s9 = c .s9 }
+
+unfoldable pub closeAs : Job → Block → Wait → ℕ → ℕ → Read → Claims → Shut
+closeAs j b w n m r c =
+    let closed = blockModel j b (itemOf n r c) in
+    shutAs (not (eqb n 0)) (closesAt r) (b .any) b (closed .block) w n (m + mark 6 (isUnreadable r) + closed .marks)
+
+-- what is entered then
+abbrev pub closeFaults : Job → Block → Wait → ℕ → ℕ → Read → Claims → List Fault
+closeFaults j b w n m r c = marked (w .line) (closeAs j b w n m r c .told) ++ marked n (closeAs j b w n m r c .marks)

@@ -1,0 +1,252 @@
+// The open field: it is judged at its own line, and only its marks are kept. A continuation can only break it.
+use crate::claiming;
+use blocks::Job;
+use blocks::Kc;
+use blocks::marks::flag;
+use fields::classes;
+use fields::classes::Class;
+use fields::readings;
+use fields::readings::Reading;
+use headings::Heading;
+use headings::Read;
+use items::Claims;
+ghost use mathlib.Core.Path.{_≡_};
+ghost use mathlib.Core.Bool.{cond, not};
+ghost use Prim.Native.Nat.{_≤_, _<_, _^_};
+ghost use lib.Dec.{eqb};
+ghost use Rattle.fields.specs.Classes.{classOf};
+ghost use Rattle.fields.specs.Readings.{ifFits};
+ghost use Rattle.items.specs.Headings.{isUnreadable};
+ghost use Rattle.items.specs.State.{claimsWith};
+ghost use Rattle.judging.specs.Opening.{codeBy, codeOf, breaksTail, brokenBy, noOpen, moreOpen, lowOpen, readAs, saidMarks, fitsBy, ownClaims, closeClaims, headingIn, noPend, pendOf, openOwn, openLoose, lowMarksAt};
+
+// Its line (0: none), its marks as they stand, the number of its class, its continuations.
+pub struct Open {
+    pub no: u32,
+    pub marks: u64,
+    pub class: u8,
+    pub tail: u32,
+}
+
+// What a field that is claimed when it closes says by its own line: an IN, an S0 to S9.
+pub struct Pend {
+    pub ident: usize,
+    pub said: Reading,
+}
+
+pub fn none_open() -> Open
+    ensures { λ r. ⌜ r ≡ noOpen ⌝ }
+{
+    Open {
+        no: 0,
+        marks: 0,
+        class: 0,
+        tail: 0,
+    }
+}
+
+pub fn no_pend() -> Pend
+    ensures { λ r. ⌜ r ≡ noPend ⌝ }
+{
+    Pend {
+        ident: 0,
+        said: Reading::Plain,
+    }
+}
+
+// Whether a field of a class may not go on with so many continuations, the last of so many bytes.
+fn breaks_tail(class: u8, tail: u32, length: usize) -> bool
+    ensures { λ r. ⌜ r ≡ breaksTail class tail length ⌝ }
+{
+    (((class == 2) | (class == 3)) | ((class == 5) | (class == 6)))
+        | ((class == 4) & ((3 < tail) | (38 < length)))
+}
+
+fn broken_by(breaks: bool, marks: u64) -> u64
+    ensures { λ r. ⌜ r ≡ brokenBy breaks marks ⌝ }
+{
+    if breaks { marks % 64 + 64 } else { marks }
+}
+
+// One continuation more: where the class does not let it, the field is broken, and 7 falls away.
+fn with_more(o: Open, length: usize) -> Open
+    requires { ⌜ o .tail < 2 ^ 31 ⌝ }
+    ensures { λ r. ⌜ r ≡ moreOpen o length ⌝ }
+{
+    let tail = o.tail + 1;
+    let marks = broken_by(breaks_tail(o.class, tail, length), o.marks);
+    Open {
+        no: o.no,
+        marks,
+        class: o.class,
+        tail,
+    }
+}
+
+// A continuation, or a line of no kind.
+pub fn with_low(o: Open, continues: bool, length: usize) -> Open
+    requires { ⌜ o .tail < 2 ^ 31 ⌝ }
+    ensures { λ r. ⌜ r ≡ lowOpen continues o length ⌝ }
+{
+    if continues & !(o.no == 0) {
+        return with_more(o, length);
+    }
+    o
+}
+
+// The marks of such a line; `since` is the line of the open heading, `no` that of the open field.
+pub fn low_marks(own: u64, since: u32, no: u32, continues: bool) -> u64
+    requires { ⌜ own ≤ 18 ⌝ }
+    ensures { λ r. ⌜ r ≡ lowMarksAt own since no continues ⌝ }
+{
+    own + flag(((since == 0) & (no == 0)) | !continues, 4) + flag(since == 0, 8)
+}
+
+fn code_by(class: Class) -> u8
+    ensures { λ r. ⌜ r ≡ codeBy class ⌝ }
+{
+    match class {
+        Class::Free => 0,
+        Class::Money => 1,
+        Class::Number => 2,
+        Class::Account => 3,
+        Class::Text => 4,
+        Class::Range => 5,
+        Class::Group => 6,
+    }
+}
+
+// The number of the class of an identifier.
+pub fn code_of(ident: usize, class: Class) -> u8
+    requires { ⌜ class ≡ classOf ident ⌝ }
+    ensures { λ r. ⌜ r ≡ codeOf ident ⌝ }
+{
+    if ident == classes::S9 {
+        return 7;
+    }
+    code_by(class)
+}
+
+// 6 to 9; 8 and 9 only where it is the item's first KC, and the heading reads.
+fn said_marks(job: Job, first: bool, reads: bool, h: Heading, said: Reading) -> u64
+    ensures { λ r. ⌜ (r ≡ saidMarks job first (readAs reads h) said) × (r ≤ 768) ⌝ }
+{
+    match said {
+        Reading::Broken => 64,
+        Reading::Plain => 0,
+        Reading::Paid(amount, day) => {
+            flag(
+                (first & reads) & blocks::own_rules::breaks_eight(job, h.kind, day),
+                256,
+            )
+                + flag(
+                    (first & reads) & blocks::own_rules::breaks_nine(h.kind, amount),
+                    512,
+                )
+        }
+        Reading::Span(_, _) => 0,
+        Reading::Stated(_, _) => 0,
+        Reading::Party(holds) => flag(!holds, 128),
+    }
+}
+
+// The claim of a field that closes: an IN, an S0 to S9. Whether it fits is bit 6 of its marks.
+pub fn claim_closed(claims: Claims, o: Open, p: Pend) -> Claims
+    ensures { λ r. ⌜ r ≡ claimsWith claims (p .ident) (ifFits (fitsBy (o .marks)) (p .said)) ⌝ }
+{
+    let said = p.said;
+    claiming::with_claim(claims, p.ident, readings::if_fits(o.marks % 128 < 64, said))
+}
+
+// A KC is claimed at its own line.
+pub fn claim_own(claims: Claims, ident: usize, said: Reading) -> Claims
+    ensures { λ r. ⌜ r ≡ ownClaims claims ident said ⌝ }
+{
+    if ident == classes::KC {
+        return claiming::with_claim(claims, ident, said);
+    }
+    claims
+}
+
+// An IN or an S0 to S9 is kept until it closes.
+pub fn keep_own(pend: Pend, class: u8, ident: usize, said: Reading) -> Pend
+    requires { ⌜ class ≡ codeOf ident ⌝ }
+    ensures { λ r. ⌜ r ≡ pendOf pend ident said ⌝ }
+{
+    if 5 <= class {
+        return Pend { ident, said };
+    }
+    pend
+}
+
+// A field opens; `kc` is the item's first KC above it, `again` says whether its identifier stood already in the item.
+pub fn field_open(
+    job: Job,
+    kc: Kc,
+    since: u32,
+    reads: bool,
+    h: Heading,
+    no: u32,
+    own: u64,
+    again: bool,
+    ident: usize,
+    class: u8,
+    said: Reading,
+) -> Open
+    requires { ⌜ (class ≡ codeOf ident) × (own ≤ 18) ⌝ }
+    ensures { λ r. ⌜ r ≡ cond (eqb since 0) (openLoose no own) (openOwn job kc (readAs reads h) no own again ident said) ⌝ }
+{
+    if since == 0 {
+        return Open {
+            no,
+            marks: own + 8,
+            class: 0,
+            tail: 0,
+        };
+    }
+    let first = (ident == classes::KC) & blocks::own_rules::has_no_kc(kc);
+    Open {
+        no,
+        marks: own + flag(again, 32) + said_marks(job, first, reads, h, said),
+        class,
+        tail: 0,
+    }
+}
+
+// The claims with that of the open field, which closes.
+pub fn claims_after(claims: Claims, o: Open, p: Pend) -> Claims
+    ensures { λ r. ⌜ r ≡ closeClaims claims o p ⌝ }
+{
+    if 5 <= o.class {
+        return claim_closed(claims, o, p);
+    }
+    claims
+}
+
+// The heading of the open item.
+pub fn read_as(reads: bool, h: Heading) -> Read
+    ensures { λ r. ⌜ r ≡ readAs reads h ⌝ }
+{
+    if reads {
+        return Read::Reads(h);
+    }
+    Read::Unreadable
+}
+
+pub fn heading_in(read: Read, old: Heading) -> Heading
+    ensures { λ r. ⌜ r ≡ headingIn read old ⌝ }
+{
+    match read {
+        Read::Reads(h) => h,
+        Read::Unreadable => old,
+    }
+}
+
+pub fn does_read(read: Read) -> bool
+    ensures { λ r. ⌜ r ≡ not (isUnreadable read) ⌝ }
+{
+    match read {
+        Read::Reads(_) => true,
+        Read::Unreadable => false,
+    }
+}
