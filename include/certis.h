@@ -1,16 +1,18 @@
 /* certis.h: the proved CERTIS library for hosts in C.
  *
- * The rules, the refusals and their numbers are those of document 01. Every
- * function returns 0, or the number of the refusal. A refusal leaves everything
- * behind the pointers as it stood. No function keeps a pointer, allocates,
- * fails in any other way or runs for ever; calls from several threads do not
- * disturb each other.
+ * The rules, the refusals and their numbers are those of documents 01 and 02.
+ * Every function returns 0, or the number of the refusal, but for
+ * certis_turnover_text, which refuses nothing and returns a length. A refusal
+ * leaves everything behind the pointers as it stood. No function keeps a
+ * pointer, allocates, fails in any other way or runs for ever; calls from
+ * several threads do not disturb each other.
  *
  * What a caller owes, for every function:
  *   - each pointer is not null and properly aligned;
  *   - behind a pointer with a length stand that many elements (a length of 0 is
  *     fine: nothing is then read or written there);
- *   - behind a pointer without a length stands one element;
+ *   - behind a pointer without a length stands one element, or as many as the
+ *     comment beside it says;
  *   - no region that is written overlaps any other region given.
  * Nothing is asked of the values: every byte, number and length has an answer.
  */
@@ -99,6 +101,82 @@ uint32_t certis_derive(const uint8_t *heading, size_t heading_len,
 uint32_t certis_account(const uint8_t *prefix, size_t prefix_len,
                         const uint8_t *number, size_t number_len,
                         bool *good);
+
+/* The turnover sheet.
+ *
+ * A sheet holds the turnovers of up to CERTIS_LISTED participants, for a list
+ * of their codes. It is CERTIS_TURNOVERS numbers in the caller's memory, in
+ * hundredths as KC has them; of the participant codes[i] they are
+ *
+ *   turnovers[4 * i]        the debit
+ *   turnovers[4 * i + 1]    the credit
+ *   turnovers[4 * i + 2]    the debit of the second sheet
+ *   turnovers[4 * i + 3]    the credit of the second sheet
+ *
+ * The caller keeps the list and the sheet together: the same codes in the same
+ * order at every call.
+ */
+#define CERTIS_LISTED 64
+#define CERTIS_TURNOVERS 256
+
+/* Opening a sheet.
+ *
+ * Sets all CERTIS_TURNOVERS numbers to 0. An empty list is fine.
+ *
+ * Refusal:
+ *   19  the list has more than CERTIS_LISTED codes, repeats one, or has one that
+ *       is not 1 to 9999
+ */
+uint32_t certis_sheet_open(const uint32_t *codes, size_t codes_len,
+                           int64_t *turnovers /* CERTIS_TURNOVERS */);
+
+/* Posting a file.
+ *
+ * Checks the file as certis_total does and, if it has no fault, posts its items
+ * in their order, all of them or none. Payer and beneficiary are the second and
+ * third code of a 35, 37 or 45, and the first and second of any other item. The
+ * amount is that of the item's KC:
+ *
+ *   01 11 12 21 35 45   added to the payer's debit and the beneficiary's credit
+ *   13 14 37            taken from the payer's credit and the beneficiary's debit
+ *   32                  added to the sender's credit and the other's debit,
+ *                       on the second sheet
+ *   33                  taken from the sender's debit and the other's credit,
+ *                       on the second sheet
+ *   44 51 55            nothing is posted, and nobody need be listed
+ *
+ * Over any row of postings on a new sheet, refused ones among them, the debits
+ * of the first sheet together are the posted additions less the posted
+ * cancellations (13, 14, 37), and so are the credits. One sheet may take files
+ * of several submitters and days; that a file is posted once only is the
+ * caller's affair. Nothing is asked of the turnovers: a sheet that no posting
+ * could have left is posted on as any other.
+ *
+ * Refusals, the first that applies:
+ *   19  the list, as in certis_sheet_open
+ *   1   the code is not 1 to 9999
+ *   2   the day is not a real day from 20000101 to 20991231
+ *   3   the file has more than 10,000,000 bytes, those after the 1A included
+ *   5   there is no byte 1A in the file
+ *   6   the first byte of the file is 1A
+ *   20  the file has faults
+ *   21  payer or beneficiary of an item that posts is not listed; it may be one
+ *       of the amount 0
+ *   22  after some item a turnover that it moved would have passed
+ *       99,999,999,999,999,999 either way, whatever later items make of it
+ */
+uint32_t certis_sheet_post(const uint32_t *codes, size_t codes_len,
+                           int64_t *turnovers /* CERTIS_TURNOVERS */,
+                           const uint8_t *file, size_t file_len,
+                           uint32_t code, uint32_t day);
+
+/* A turnover as it is shown.
+ *
+ * Writes the sign, + or -, and the digits with no zero in front, nought as +0,
+ * and returns how many bytes that is, 2 to 20; the bytes after them are kept.
+ * Every number has an answer.
+ */
+size_t certis_turnover_text(int64_t turnover, uint8_t *text /* 20 bytes */);
 
 #ifdef __cplusplus
 }
