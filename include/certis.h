@@ -22,6 +22,8 @@
 #include <stddef.h>
 #include <stdint.h>
 
+#define CERTIS_VERSION "1.0"
+
 #ifdef __cplusplus
 extern "C" {
 #endif
