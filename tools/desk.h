@@ -26,12 +26,13 @@
 /* Exit statuses. */
 enum {
     GOOD = 0,   /* done, and nothing is wrong with what was given */
-    FAULTS = 1, /* done, and there are faults */
+    FAULTS = 1, /* done, and there are faults, or some of many was refused */
     FAILED = 2  /* refused, cannot be read or written, or wrong arguments */
 };
 
 /* The subcommands. */
 int desk_list(int count, char **words);
+int desk_sheet(int count, char **words);
 
 /* Arguments */
 

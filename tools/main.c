@@ -22,6 +22,7 @@ struct command {
 
 static const struct command COMMANDS[] = {
     { "list", desk_list, "lists the faults of input files" },
+    { "sheet", desk_sheet, "posts input files and shows the turnovers" },
 };
 
 #define COMMAND_COUNT (sizeof COMMANDS / sizeof COMMANDS[0])

@@ -1,4 +1,4 @@
-/* The rules and refusals of document 01 in words. */
+/* The rules and refusals of documents 01 and 02 in words. */
 
 #include "desk.h"
 
@@ -54,6 +54,10 @@ static const char *const REFUSALS[] = {
     [13] = "The outcome is not 1 to 7.",
     [14] = "The table of outgoing types has no entry for this type and outcome.",
     [15] = "The output number is not in the class of the input type.",
+    [19] = "The list has more than 64 codes, repeats one, or has one that is not 1 to 9999.",
+    [20] = "The file has faults.",
+    [21] = "Payer or beneficiary of an item is not listed.",
+    [22] = "A turnover would pass 999999999999999.99 either way.",
 };
 
 #define COUNT(table) (sizeof(table) / sizeof((table)[0]))
