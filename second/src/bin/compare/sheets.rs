@@ -176,12 +176,12 @@ fn limits(judge: &mut Judge, dice: &mut Dice, _: u64) {
 
 fn preset(dice: &mut Dice) -> i64 {
     let few = dice.below(3) as i64;
-    let size = match dice.below(8) {
-        0..=2 => 0,
-        3 => LARGEST - few,
-        4 => LARGEST + few,
-        5 => LARGEST - LARGEST_AMOUNT as i64 + 1 - few,
-        6 => dice.pick(&[i64::MAX - few, i64::MAX - LARGEST_AMOUNT as i64 + 1 - few]),
+    let size = match dice.below(16) {
+        0..=10 => 0,
+        11 => LARGEST - few,
+        12 => LARGEST + few,
+        13 => LARGEST - LARGEST_AMOUNT as i64 + 1 - few,
+        14 => dice.pick(&[i64::MAX - few, i64::MAX - LARGEST_AMOUNT as i64 + 1 - few]),
         _ => (dice.throw() >> 1) as i64,
     };
     // The least number has no opposite.
