@@ -1,8 +1,11 @@
 // The C face: numbers and bytes only. Each function answers 0, or the number of the refusal by document 01, and a refusal leaves
 // everything behind the pointers as it was. The promises are those of the jobs below, said with numbers: `listing` for checking,
-// `outcomes` for deriving, `figures` for the account check.
+// `outcomes` for deriving, `figures` for the account check, `sheet` for the turnovers.
 use figures::accounts;
 use listing::checking;
+use sheet::opening;
+use sheet::posting;
+use sheet::showing;
 ghost use mathlib.Core.Path.{_≡_};
 ghost use mathlib.Core.Bool.{cond};
 ghost use lib.Dec.{eqb};
@@ -12,6 +15,8 @@ ghost use Rattle.outcomes.specs.Deriving.{deriveRefusals, derivedTarget};
 ghost use Rattle.figures.specs.Accounts.{accountRefusals, accountHolds};
 ghost use Rattle.items.specs.Faults.{faults};
 ghost use Rattle.listing.specs.Checking.{checkRefusals};
+ghost use Rattle.sheet.specs.Posting.{openRefusals, opened, postRefusals, posted};
+ghost use Rattle.sheet.specs.Shown.{Shows};
 ghost use Rattle.host.specs.Face.{totalAfter, ListedAt};
 
 #[no_mangle]
@@ -19,9 +24,7 @@ pub extern "C" fn certis_total(file: &[u8], code: u32, day: u32, total: &mut u64
     ensures number { λ r. ⌜ r ≡ first (checkRefusals (now (file .entry)) code day 0 0) ⌝ }
     ensures after { λ _. ⌜ now (total .exit) ≡ totalAfter (first (checkRefusals (now (file .entry)) code day 0 0)) (faults code day (now (file .entry))) (now (total .entry)) ⌝ }
 {
-    let mut lines = [0u32; 0];
-    let mut rules = [0u32; 0];
-    let answer = checking::check(file, code, day, &mut lines, &mut rules);
+    let answer = checking::total(file, code, day);
     *total = checking::total_or(answer, *total);
     checking::number_of(answer)
 }
@@ -60,4 +63,36 @@ pub extern "C" fn certis_account(prefix: &[u8], number: &[u8], good: &mut bool) 
     let answer = accounts::check(prefix, number);
     *good = accounts::value_of(answer, *good);
     accounts::number_of(answer)
+}
+
+// A new sheet for at most 64 participants: of participant i, [4 * i] is the debit, [4 * i + 1] the credit, and the next two the same on
+// the second sheet.
+#[no_mangle]
+pub extern "C" fn certis_sheet_open(codes: &[u32], turnovers: &mut [i64; 256]) -> u32
+    ensures number { λ r. ⌜ r ≡ first (openRefusals (now (codes .entry))) ⌝ }
+    ensures after { λ _. ⌜ now (turnovers .exit) ≡ opened (now (codes .entry)) (now (turnovers .entry)) ⌝ }
+{
+    opening::number_of(opening::open(codes, turnovers))
+}
+
+#[no_mangle]
+pub extern "C" fn certis_sheet_post(
+    codes: &[u32],
+    turnovers: &mut [i64; 256],
+    file: &[u8],
+    code: u32,
+    day: u32,
+) -> u32
+    ensures number { λ r. ⌜ r ≡ first (postRefusals (now (codes .entry)) (now (turnovers .entry)) (now (file .entry)) code day) ⌝ }
+    ensures after { λ _. ⌜ now (turnovers .exit) ≡ posted (now (codes .entry)) (now (turnovers .entry)) (now (file .entry)) code day ⌝ }
+{
+    posting::number_of(posting::post(codes, turnovers, file, code, day))
+}
+
+// Writes a turnover with its sign at the front of 20 bytes, and answers how many it took. It refuses nothing.
+#[no_mangle]
+pub extern "C" fn certis_turnover_text(turnover: i64, target: &mut [u8; 20]) -> usize
+    ensures { λ r. ⌜ Shows (now (target .entry)) turnover (now (target .exit)) r ⌝ }
+{
+    showing::show(turnover, target)
 }

@@ -14,52 +14,54 @@ use Rattle.ledger.specs.Slices.{Listed}
 use Rattle.ledger.specs.declared.Ledger.{Ledger}
 use Rattle.items.specs.Faults.{faults, faultsIn}
 use Rattle.listing.specs.declared.checking.Checked.{Checked}
-use Rattle.listing.specs.declared.checking.Checked.the-variants.{Total, BadCode, BadDay, TooLong, UnequalRooms, NoMark, StartsWithMark}
-use Rattle.listing.specs.Checking.{isCode, isAccountingDay, checkRefusals, checkedNumber, checkedOr, Checks}
+use Rattle.listing.specs.declared.checking.Checked.the-variants.{Total, Refused}
+use Rattle.listing.specs.declared.checking.Unchecked.{Unchecked}
+use Rattle.listing.specs.declared.checking.Unchecked.the-variants.{BadCode, BadDay, TooLong, UnequalRooms, NoMark, StartsWithMark}
+use Rattle.listing.specs.Checking.{isCode, isAccountingDay, checkRefusals, uncheckedNumber, checkedNumber, checkedOr, Checks}
 
 module _ (file : List ℕ) (code day : ℕ) (ls rs : List ℕ) where
   abbrev refusal : ℕ
   refusal = first (checkRefusals file code day (length ls) (length rs))
 
   -- a refusal leaves all as it was
-  refused : (r : Checked) → checkedNumber r ≡ refusal → eqb refusal 0 ≡ false → ((old : ℕ) → checkedOr r old ≡ old) → Checks file code day ls rs r ls rs
-  refused r e z t = record { number = e; total = λ old. rw z (t old); lines = rw z; rules = rw z }
+  refused : (u : Unchecked) → uncheckedNumber u ≡ refusal → eqb refusal 0 ≡ false → Checks file code day ls rs (Refused u) ls rs
+  refused u e z = record { number = e; total = λ old. rw z; lines = rw z; rules = rw z }
 
-  pub bad-code : not (isCode code) ≡ true → Checks file code day ls rs BadCode ls rs
-  bad-code a = refused BadCode (rw a) (rw a) (λ old. refl)
+  pub bad-code : not (isCode code) ≡ true → Checks file code day ls rs (Refused BadCode) ls rs
+  bad-code a = refused BadCode (rw a) (rw a)
 
   module _ (a : not (isCode code) ≡ false) where
-    pub bad-day : not (isAccountingDay day) ≡ true → Checks file code day ls rs BadDay ls rs
-    bad-day b = refused BadDay (rw (a, b)) (rw (a, b)) (λ old. refl)
+    pub bad-day : not (isAccountingDay day) ≡ true → Checks file code day ls rs (Refused BadDay) ls rs
+    bad-day b = refused BadDay (rw (a, b)) (rw (a, b))
 
     module _ (b : not (isAccountingDay day) ≡ false) where
-      pub too-long : 10000000 < length file → Checks file code day ls rs TooLong ls rs
-      too-long h = let c = lt-ltb 10000000 (length file) h in refused TooLong (rw (a, b, c)) (rw (a, b, c)) (λ old. refl)
+      pub too-long : 10000000 < length file → Checks file code day ls rs (Refused TooLong) ls rs
+      too-long h = let c = lt-ltb 10000000 (length file) h in refused TooLong (rw (a, b, c)) (rw (a, b, c))
 
       module _ (h : length file ≤ 10000000) where
         c : ltb 10000000 (length file) ≡ false
         c = le-ltb 10000000 (length file) h
 
-        pub unequal-rooms : (length ls ≡ length rs → ⊥) → Checks file code day ls rs UnequalRooms ls rs
-        unequal-rooms n = let d = ne-eqb (length ls) (length rs) n in refused UnequalRooms (rw (a, b, c, d)) (rw (a, b, c, d)) (λ old. refl)
+        pub unequal-rooms : (length ls ≡ length rs → ⊥) → Checks file code day ls rs (Refused UnequalRooms) ls rs
+        unequal-rooms n = let d = ne-eqb (length ls) (length rs) n in refused UnequalRooms (rw (a, b, c, d)) (rw (a, b, c, d))
 
         module _ (e : length ls ≡ length rs) where
           d : eqb (length ls) (length rs) ≡ true
           d = eq-eqb (length ls) (length rs) e
 
-          pub no-mark : (n : ℕ) → n ≡ length (body file) → length file ≤ n → Checks file code day ls rs NoMark ls rs
+          pub no-mark : (n : ℕ) → n ≡ length (body file) → length file ≤ n → Checks file code day ls rs (Refused NoMark) ls rs
           no-mark n q k =
               let m : hasMark file ≡ false = sym (body-shorter file) ∙ le-ltb (length (body file)) (length file) (omega arith) in
-              refused NoMark (rw (a, b, c, d, m)) (rw (a, b, c, d, m)) (λ old. refl)
+              refused NoMark (rw (a, b, c, d, m)) (rw (a, b, c, d, m))
 
           module _ (n : ℕ) (q : n ≡ length (body file)) (k : n < length file) where
             m : hasMark file ≡ true
             m = sym (body-shorter file) ∙ lt-ltb (length (body file)) (length file) (omega arith)
 
-            pub starts-with-mark : n ≡ 0 → Checks file code day ls rs StartsWithMark ls rs
+            pub starts-with-mark : n ≡ 0 → Checks file code day ls rs (Refused StartsWithMark) ls rs
             starts-with-mark z =
                 let s : startsWithMark file ≡ true = body-empty file ∙ rw (eq-eqb (length (body file)) 0 (omega arith), m) in
-                refused StartsWithMark (rw (a, b, c, d, m, s)) (rw (a, b, c, d, m, s)) (λ old. refl)
+                refused StartsWithMark (rw (a, b, c, d, m, s)) (rw (a, b, c, d, m, s))
 
             pub body-is : take n file ≡ body file
             body-is = rw q (body-take file)

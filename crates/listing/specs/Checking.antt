@@ -10,8 +10,10 @@ use Rattle.days.specs.Days.{isReal}
 use Rattle.lines.specs.Lines.{hasMark, startsWithMark}
 use Rattle.ledger.specs.Faults.{Fault, written}
 use Rattle.items.specs.Faults.{faults}
+use Rattle.listing.specs.declared.checking.Unchecked.{Unchecked}
+use Rattle.listing.specs.declared.checking.Unchecked.the-variants.{BadCode, BadDay, TooLong, UnequalRooms, NoMark, StartsWithMark}
 use Rattle.listing.specs.declared.checking.Checked.{Checked}
-use Rattle.listing.specs.declared.checking.Checked.the-variants.{Total, BadCode, BadDay, TooLong, UnequalRooms, NoMark, StartsWithMark}
+use Rattle.listing.specs.declared.checking.Checked.the-variants.{Total, Refused}
 
 abbrev pub isCode : ℕ → Bool
 isCode code = leb 1 code && leb code 9999
@@ -30,25 +32,23 @@ checkRefusals file code day m n =
     (5 if not (hasMark file)) ∷
     (6 if startsWithMark file) ∷ []
 
--- document 01's number for each answer
+-- document 01's number for each refusal, and for each answer
+abbrev pub uncheckedNumber : Unchecked → ℕ
+uncheckedNumber BadCode = 1
+uncheckedNumber BadDay = 2
+uncheckedNumber TooLong = 3
+uncheckedNumber UnequalRooms = 4
+uncheckedNumber NoMark = 5
+uncheckedNumber StartsWithMark = 6
+
 abbrev pub checkedNumber : Checked → ℕ
 checkedNumber (Total t) = 0
-checkedNumber BadCode = 1
-checkedNumber BadDay = 2
-checkedNumber TooLong = 3
-checkedNumber UnequalRooms = 4
-checkedNumber NoMark = 5
-checkedNumber StartsWithMark = 6
+checkedNumber (Refused u) = uncheckedNumber u
 
 -- its total, or another number where it is a refusal: 'a refusal returns its number, no total'
 abbrev pub checkedOr : Checked → ℕ → ℕ
 checkedOr (Total t) old = t
-checkedOr BadCode old = old
-checkedOr BadDay old = old
-checkedOr TooLong old = old
-checkedOr UnequalRooms old = old
-checkedOr NoMark old = old
-checkedOr StartsWithMark old = old
+checkedOr (Refused u) old = old
 
 -- what a lent slice holds after: the first numbers that fit, then what it held; on a refusal what it held
 abbrev pub slicesAfter : ℕ → (Fault → ℕ) → List Fault → List ℕ → List ℕ
@@ -60,3 +60,8 @@ pub record Checks (file : List ℕ) (code day : ℕ) (ls₀ rs₀ : List ℕ) (r
   pub total : (old : ℕ) → checkedOr r old ≡ cond (eqb (first (checkRefusals file code day (length ls₀) (length rs₀))) 0) (length (faults code day file)) old
   pub lines : ls ≡ slicesAfter (first (checkRefusals file code day (length ls₀) (length rs₀))) (λ (f : Fault). f .line) (faults code day file) ls₀
   pub rules : rs ≡ slicesAfter (first (checkRefusals file code day (length ls₀) (length rs₀))) (λ (f : Fault). f .rule) (faults code day file) rs₀
+
+-- .. with no slices lent
+pub record Totals (file : List ℕ) (code day : ℕ) (r : Checked) : Type 0 where
+  pub number : checkedNumber r ≡ first (checkRefusals file code day 0 0)
+  pub total : (old : ℕ) → checkedOr r old ≡ cond (eqb (first (checkRefusals file code day 0 0)) 0) (length (faults code day file)) old

@@ -1,17 +1,22 @@
 // The job at the counter: a file, the submitter's code and the accounting day are checked, and the first pairs of a line and a rule
 // broken there are written into two lent slices.
 ghost use mathlib.Core.Path.{_≡_};
-ghost use Rattle.listing.specs.Checking.{isCode, isAccountingDay, Checks, checkedNumber, checkedOr};
+ghost use Rattle.listing.specs.Checking.{isCode, isAccountingDay, Checks, Totals, uncheckedNumber, checkedNumber, checkedOr};
 
-// One answer for each refusal; the total otherwise.
-pub enum Checked {
-    Total(u64),
+// Checking's own refusals, which other jobs answer too.
+pub enum Unchecked {
     BadCode,
     BadDay,
     TooLong,
     UnequalRooms,
     NoMark,
     StartsWithMark,
+}
+
+// The total, or a refusal.
+pub enum Checked {
+    Total(u64),
+    Refused(Unchecked),
 }
 
 fn is_code(code: u32) -> bool
@@ -31,26 +36,49 @@ pub fn check(file: &[u8], code: u32, day: u32, lines: &mut [u32], rules: &mut [u
     ensures { λ r. ⌜ Checks (now (file .entry)) code day (now (lines .entry)) (now (rules .entry)) r (now (lines .exit)) (now (rules .exit)) ⌝ }
 {
     if !is_code(code) {
-        return Checked::BadCode;
+        return Checked::Refused(Unchecked::BadCode);
     }
     if !is_accounting_day(day) {
-        return Checked::BadDay;
+        return Checked::Refused(Unchecked::BadDay);
     }
     if 10000000 < file.len() {
-        return Checked::TooLong;
+        return Checked::Refused(Unchecked::TooLong);
     }
     if lines.len() != rules.len() {
-        return Checked::UnequalRooms;
+        return Checked::Refused(Unchecked::UnequalRooms);
     }
     let n = lines::body_len(file);
     if file.len() <= n {
-        return Checked::NoMark;
+        return Checked::Refused(Unchecked::NoMark);
     }
     if n == 0 {
-        return Checked::StartsWithMark;
+        return Checked::Refused(Unchecked::StartsWithMark);
     }
     let g = pass::enter_faults(&file[..n], code, day, lines, rules);
     Checked::Total(g.total)
+}
+
+// The total alone: no fault is written down.
+pub fn total(file: &[u8], code: u32, day: u32) -> Checked
+    ensures { λ r. ⌜ Totals (now (file .entry)) code day r ⌝ }
+{
+    let mut lines = [0u32; 0];
+    let mut rules = [0u32; 0];
+    check(file, code, day, &mut lines, &mut rules)
+}
+
+// Document 01's number of a refusal.
+pub fn refusal_number(u: Unchecked) -> u32
+    ensures { λ r. ⌜ r ≡ uncheckedNumber u ⌝ }
+{
+    match u {
+        Unchecked::BadCode => 1,
+        Unchecked::BadDay => 2,
+        Unchecked::TooLong => 3,
+        Unchecked::UnequalRooms => 4,
+        Unchecked::NoMark => 5,
+        Unchecked::StartsWithMark => 6,
+    }
 }
 
 // Document 01's number of an answer, 0 for a total.
@@ -59,12 +87,7 @@ pub fn number_of(c: Checked) -> u32
 {
     match c {
         Checked::Total(_) => 0,
-        Checked::BadCode => 1,
-        Checked::BadDay => 2,
-        Checked::TooLong => 3,
-        Checked::UnequalRooms => 4,
-        Checked::NoMark => 5,
-        Checked::StartsWithMark => 6,
+        Checked::Refused(u) => refusal_number(u),
     }
 }
 
@@ -74,11 +97,6 @@ pub fn total_or(c: Checked, old: u64) -> u64
 {
     match c {
         Checked::Total(n) => n,
-        Checked::BadCode => old,
-        Checked::BadDay => old,
-        Checked::TooLong => old,
-        Checked::UnequalRooms => old,
-        Checked::NoMark => old,
-        Checked::StartsWithMark => old,
+        Checked::Refused(_) => old,
     }
 }

@@ -1,0 +1,6 @@
+pub mod Conserving
+pub mod Answers
+pub mod Unique
+pub mod Signs
+pub mod Fronts
+pub mod Examples
