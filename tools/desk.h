@@ -30,7 +30,14 @@ enum {
     FAILED = 2  /* refused, cannot be read or written, or wrong arguments */
 };
 
+/* The worst of two exit statuses, for a subcommand that takes several things. */
+static inline int worse(int status, int other)
+{
+    return status > other ? status : other;
+}
+
 /* The subcommands. */
+int desk_account(int count, char **words);
 int desk_list(int count, char **words);
 int desk_sheet(int count, char **words);
 
@@ -112,6 +119,9 @@ bool next_line(struct reader *reader);
 
 /* Showing */
 
+/* Document 01's admissible text bytes. */
+bool admissible(uint8_t byte);
+
 /* Prints bytes of code page 852 in UTF-8, inadmissible ones as <0A>. */
 void show_bytes(const uint8_t *bytes, size_t length);
 
@@ -119,6 +129,9 @@ void show_bytes(const uint8_t *bytes, size_t length);
  * numbers of its own. */
 const char *rule_in_words(uint32_t rule);
 const char *refusal_in_words(uint32_t refusal);
+
+/* Ends a printed line, after a colon and the words unless they are NULL. */
+void end_line(const char *words);
 
 /* Prints the line 'refused K', with its words if they were asked for. Returns
  * FAILED. */

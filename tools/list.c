@@ -1,81 +1,74 @@
-/* list: the faults of an input file.
+/* list: the faults of input files.
  *
- *   list [--explain] [--most N] CODE DAY FILE
- *
- * Prints the listing of document 01 with every fault, or the first N; --explain
- * adds each rule in words and the text of its line.
- * Exit status: 0 no fault; 1 faults; 2 the file was refused or could not be
- * read, or the arguments are wrong.
+ * Prints for each file the listing of document 01 with every fault, or the first
+ * N; or how often each rule is broken; or explains the faults.
  */
 
 #include "certis.h"
-#include "desk.h"
+#include "listing.h"
 
 #include <inttypes.h>
+#include <limits.h>
 #include <stdio.h>
 #include <stdlib.h>
 
-/* A line may be as long as the file; nobody reads more of it than this. */
-#define SHOWN_BYTES ((size_t)160)
-
 static const struct form FORM = {
-    .usage = "[--explain] [--most N] CODE DAY FILE",
+    .usage = "[--explain] [--most N | --summary] CODE DAY FILE...",
     .help = "  CODE       the submitter's code, up to four digits\n"
             "  DAY        the accounting day, as 20240304\n"
-            "  FILE       the input file, or - for standard input\n"
-            "  --explain  say each rule in words and show its line\n"
-            "  --most N   list no more than the first N faults\n"
-            "exit status: 0 no fault; 1 faults; 2 refused, cannot be read, or wrong arguments\n",
+            "  FILE       an input file, or - for standard input\n"
+            "  --explain  say each rule in words, and show the lines\n"
+            "  --most N   list no more than the first N faults of a file\n"
+            "  --summary  count the faults of each rule, and list none\n"
+            "exit status: 0 no fault; 1 faults; 2 a file was refused or cannot be read, or wrong arguments\n",
     .least = 3,
-    .most = 3,
+    .most = INT_MAX,
 };
+
+/* Rules have numbers below this. */
+enum { RULES = 64 };
 
 struct request {
     bool explain;
+    bool summary;
     uint32_t most; /* No file that the library takes can have UINT32_MAX faults. */
     uint32_t code;
     uint32_t day;
 };
 
-struct faults {
-    uint32_t *lines;
-    uint32_t *rules;
-    size_t listed;
-    uint64_t total;
-};
-
-static void show_text(const struct reader *reader)
+static void show_pairs(const struct faults *found)
 {
-    size_t shown = reader->length < SHOWN_BYTES ? reader->length : SHOWN_BYTES;
-    fputs("    |", stdout);
-    show_bytes(reader->text, shown);
-    if (shown < reader->length) {
-        printf(" ... (%zu bytes)", reader->length);
+    for (size_t i = 0; i < found->count; i++) {
+        printf("line %" PRIu32 " rule %" PRIu32 "\n", found->lines[i], found->rules[i]);
     }
-    putchar('\n');
 }
 
-static void show_fault(const struct request *asked, uint32_t line, uint32_t rule)
+static void show_summary(const struct faults *found, bool in_words)
 {
-    const char *words = rule_in_words(rule);
-    printf("line %" PRIu32 " rule %" PRIu32, line, rule);
-    if (asked->explain && words != NULL) {
-        printf(": %s", words);
+    size_t counts[RULES] = { 0 };
+    for (size_t i = 0; i < found->count; i++) {
+        counts[found->rules[i] % RULES] += 1;
     }
-    putchar('\n');
+    for (uint32_t rule = 0; rule < RULES; rule++) {
+        if (counts[rule] > 0) {
+            printf("rule %" PRIu32 " count %zu", rule, counts[rule]);
+            end_line(in_words ? rule_in_words(rule) : NULL);
+        }
+    }
 }
 
-static int show_listing(const struct request *asked, const struct faults *found, struct reader reader)
+static int show_listing(const struct request *asked, const struct bytes *file, const struct faults *found)
 {
     printf("checked %04" PRIu32 " %08" PRIu32 "\n", asked->code, asked->day);
-    for (size_t i = 0; i < found->listed; i++) {
-        show_fault(asked, found->lines[i], found->rules[i]);
-        if (asked->explain) {
-            /* The pairs stand in the order of their lines: one walk serves all. */
-            while (reader.line < found->lines[i] && next_line(&reader)) {
-            }
-            show_text(&reader);
-        }
+    if (asked->explain) {
+        show_hints(file);
+    }
+    if (asked->summary) {
+        show_summary(found, asked->explain);
+    } else if (asked->explain) {
+        explain_faults(file, found, asked->most);
+    } else {
+        show_pairs(found);
     }
     printf("faults %" PRIu64 "\n", found->total);
     return found->total == 0 ? GOOD : FAULTS;
@@ -83,12 +76,18 @@ static int show_listing(const struct request *asked, const struct faults *found,
 
 static int list_faults(const struct request *asked, const struct bytes *file, struct faults *found)
 {
-    uint32_t refusal = certis_check(file->at, file->length, asked->code, asked->day, found->lines, found->listed,
-                                    found->rules, found->listed, &found->total);
+    uint32_t refusal = certis_check(file->at, file->length, asked->code, asked->day, found->lines, found->count,
+                                    found->rules, found->count, &found->total);
     if (refusal != 0) {
         return show_refusal(refusal, asked->explain);
     }
-    return show_listing(asked, found, before_lines(file->at, file->length));
+    return show_listing(asked, file, found);
+}
+
+/* How many pairs are needed of so many: to explain or to count them takes all. */
+static size_t wanted(const struct request *asked, uint64_t total)
+{
+    return asked->explain || asked->summary || total < asked->most ? (size_t)total : asked->most;
 }
 
 static int check_file(const struct request *asked, const struct bytes *file)
@@ -98,10 +97,10 @@ static int check_file(const struct request *asked, const struct bytes *file)
     if (refusal != 0) {
         return show_refusal(refusal, asked->explain);
     }
-    found.listed = found.total < asked->most ? (size_t)found.total : asked->most;
+    found.count = wanted(asked, found.total);
     /* Room for one more than is listed: the library wants a place to point at. */
-    found.lines = calloc(found.listed + 1, sizeof *found.lines);
-    found.rules = calloc(found.listed + 1, sizeof *found.rules);
+    found.lines = calloc(found.count + 1, sizeof *found.lines);
+    found.rules = calloc(found.count + 1, sizeof *found.rules);
     int status = FAILED;
     if (found.lines != NULL && found.rules != NULL) {
         status = list_faults(asked, file, &found);
@@ -113,25 +112,43 @@ static int check_file(const struct request *asked, const struct bytes *file)
     return status;
 }
 
+static int list_file(const struct request *asked, const char *name, bool named)
+{
+    struct bytes file;
+    if (!read_file(name, FILE_ROOM, &file)) {
+        return FAILED;
+    }
+    if (named) {
+        printf("file %s\n", name);
+    }
+    int status = check_file(asked, &file);
+    free_bytes(&file);
+    return status;
+}
+
 int desk_list(int count, char **words)
 {
     struct request asked = { .most = UINT32_MAX };
     const struct option options[] = {
         { .name = "--explain", .flag = &asked.explain },
+        { .name = "--summary", .flag = &asked.summary },
         { .name = "--most", .number = &asked.most },
         { .name = NULL },
     };
     int status = FAILED;
-    if (read_arguments(count, words, &FORM, options, &status) < 0) {
+    int kept = read_arguments(count, words, &FORM, options, &status);
+    if (kept < 0) {
         return status;
+    }
+    if (asked.summary && asked.most != UINT32_MAX) {
+        return wrong_arguments(&FORM, "--summary lists no fault: --most has no place with it");
     }
     if (!take_number(&FORM, "CODE", words[1], &asked.code) || !take_number(&FORM, "DAY", words[2], &asked.day)) {
         return FAILED;
     }
-    struct bytes file;
-    if (read_file(words[3], FILE_ROOM, &file)) {
-        status = check_file(&asked, &file);
-        free_bytes(&file);
+    status = GOOD;
+    for (int at = 3; at <= kept; at++) {
+        status = worse(status, list_file(&asked, words[at], kept > 3));
     }
     return status;
 }

@@ -21,6 +21,7 @@ struct command {
 };
 
 static const struct command COMMANDS[] = {
+    { "account", desk_account, "checks account numbers" },
     { "list", desk_list, "lists the faults of input files" },
     { "sheet", desk_sheet, "posts input files and shows the turnovers" },
 };

@@ -20,17 +20,22 @@ static const uint16_t PAGE[256] = {
     [0xFC] = 0x0158, [0xFD] = 0x0159,
 };
 
-/* Each of these characters has two bytes in UTF-8. */
+bool admissible(uint8_t byte)
+{
+    return (byte >= 0x20 && byte <= 0x7E) || PAGE[byte] != 0;
+}
+
+/* Each of the 45 characters has two bytes in UTF-8. */
 static void show_byte(uint8_t byte)
 {
     unsigned point = PAGE[byte];
-    if (byte >= 0x20 && byte <= 0x7E) {
+    if (!admissible(byte)) {
+        printf("<%02X>", byte);
+    } else if (point == 0) {
         putchar(byte);
-    } else if (point != 0) {
+    } else {
         putchar((int)(0xC0 | point >> 6));
         putchar((int)(0x80 | (point & 0x3F)));
-    } else {
-        printf("<%02X>", byte);
     }
 }
 

@@ -72,13 +72,17 @@ const char *refusal_in_words(uint32_t refusal)
     return refusal < COUNT(REFUSALS) ? REFUSALS[refusal] : NULL;
 }
 
-int show_refusal(uint32_t refusal, bool in_words)
+void end_line(const char *words)
 {
-    const char *words = refusal_in_words(refusal);
-    printf("refused %" PRIu32, refusal);
-    if (in_words && words != NULL) {
+    if (words != NULL) {
         printf(": %s", words);
     }
     putchar('\n');
+}
+
+int show_refusal(uint32_t refusal, bool in_words)
+{
+    printf("refused %" PRIu32, refusal);
+    end_line(in_words ? refusal_in_words(refusal) : NULL);
     return FAILED;
 }

@@ -28,10 +28,9 @@ pub fn small(dice: &mut Dice) -> Draft {
     small_by(Author::new(dice))
 }
 
-/// The same, from one of these participants and to them, with amounts up to
-/// `most`.
-pub fn small_among(dice: &mut Dice, codes: &[u32], most: u64) -> Draft {
-    small_by(Author::among(dice, codes, most))
+/// The same, from one of these participants and to them.
+pub fn small_among(dice: &mut Dice, codes: &[u32]) -> Draft {
+    small_by(Author::among(dice, codes, LARGEST_AMOUNT))
 }
 
 fn small_by(mut author: Author) -> Draft {

@@ -6,7 +6,7 @@ use second::samples::dice::Dice;
 use second::samples::draft::{Draft, Payment};
 use second::samples::mutations::ALL as MUTATIONS;
 use second::samples::{Job, Sample};
-use second::sheet::{self, LISTED, SIDES, Side, TURNOVERS};
+use second::sheet::{self, LISTED, SIDES, TURNOVERS};
 
 use crate::groups::Group;
 use crate::judge::Judge;
@@ -20,9 +20,7 @@ const LARGEST: i64 = 99_999_999_999_999_999;
 /// A 32 has no larger amount.
 const LARGEST_REQUEST: u64 = 100_000_000_000;
 
-type Turnovers = [i64; TURNOVERS];
-
-const NEW: Turnovers = [0; TURNOVERS];
+const NEW: [i64; TURNOVERS] = [0; TURNOVERS];
 
 /// The random groups take their share of the files of a round.
 pub fn all(files: u64) -> Vec<Group> {
@@ -113,7 +111,7 @@ fn lengths(judge: &mut Judge, _: &mut Dice, case: u64) {
     let mut sample = block(CODE, &[(11, 710, 0, 1)]);
     sample.file.resize(10_000_000 + case as usize, b'x');
     for codes in [&[][..], &[300, 710], &[0]] {
-        judge.post(codes, &mut NEW.clone(), sample.job());
+        judge.post(codes, &mut [0; TURNOVERS], sample.job());
     }
 }
 
@@ -201,8 +199,9 @@ fn amount(dice: &mut Dice, kind: u32) -> u64 {
 // Rows of files.
 
 /// A day on a new sheet: files that are posted, with faulty, unlisted, too
-/// large and refused ones among them. After each the columns agree with what
-/// was posted so far.
+/// large and refused ones among them. After each "the debits of the first sheet
+/// together equal the posted additions less the posted cancellations, and so do
+/// the credits"; and so it is on the second sheet.
 fn row(judge: &mut Judge, dice: &mut Dice, _: u64) {
     let codes = participants(dice);
     let mut turnovers = NEW;
@@ -214,13 +213,9 @@ fn row(judge: &mut Judge, dice: &mut Dice, _: u64) {
                 net[posting.payer.1 as usize / 2] += posting.amount;
             }
         }
-        if !is_conserved(&turnovers, net) {
-            judge.fail(|| {
-                format!(
-                    "not conserved: {net:?} in {:?}",
-                    SIDES.map(|side| sheet::together(&turnovers, side))
-                )
-            });
+        let columns = SIDES.map(|side| sheet::together(&turnovers, side));
+        if columns != [net[0], net[0], net[1], net[1]] {
+            judge.fail(|| format!("not conserved: {columns:?}, and posted was {net:?}"));
         }
     }
 }
@@ -243,7 +238,7 @@ fn file_of_row(dice: &mut Dice, codes: &[u32]) -> Sample {
     let mut draft = match dice.below(8) {
         0 => clean::small(dice),
         1 | 2 => heavy(dice, codes),
-        _ => clean::small_among(dice, codes, LARGEST_AMOUNT),
+        _ => clean::small_among(dice, codes),
     };
     if dice.once_in(6) {
         let mutation = &MUTATIONS[dice.place(MUTATIONS.len())];
@@ -271,16 +266,6 @@ fn heavy(dice: &mut Dice, codes: &[u32]) -> Draft {
         draft.block(&vec![(kind, other, 0, amount); dice.range(1, 100) as usize]);
     }
     draft
-}
-
-/// "the debits of the first sheet together equal the posted additions less the
-/// posted cancellations, and so do the credits"; and so on the second sheet.
-fn is_conserved(turnovers: &Turnovers, [first, second]: [i128; 2]) -> bool {
-    let net = |side| match side {
-        Side::Debit | Side::Credit => first,
-        Side::SecondDebit | Side::SecondCredit => second,
-    };
-    SIDES.into_iter().all(|side| sheet::together(turnovers, side) == net(side))
 }
 
 /// As many items as a file can have, on a full list.
