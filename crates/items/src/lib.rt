@@ -12,6 +12,7 @@ use fields::readings::Reading;
 use fields::tails::Tail;
 use headings::Read;
 
+pub mod firsts;
 pub mod open;
 pub mod rows;
 

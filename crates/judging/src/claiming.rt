@@ -7,10 +7,12 @@ use blocks::Sums;
 use fields::classes;
 use fields::readings::Reading;
 use items::Claims;
+use items::firsts::kc_by;
+use items::firsts::kc_kept;
 ghost use mathlib.Core.Path.{_≡_};
 ghost use Prim.Native.Nat.{_<_};
-ghost use Rattle.items.specs.State.{noClaims, kcKept, spanKept, statedKept, groupClaims, claimsWith};
-ghost use Rattle.items.specs.Headings.{kcBy, spanBy, statedBy};
+ghost use Rattle.items.specs.State.{noClaims, spanKept, statedKept, groupClaims, claimsWith};
+ghost use Rattle.items.specs.Headings.{spanBy, statedBy};
 
 pub fn no_claims() -> Claims
     ensures { λ r. ⌜ r ≡ noClaims ⌝ }
@@ -28,30 +30,6 @@ pub fn no_claims() -> Claims
     }
 }
 
-fn kc_by(said: Reading) -> Kc
-    ensures { λ r. ⌜ r ≡ kcBy said ⌝ }
-{
-    match said {
-        Reading::Paid(amount, day) => Kc::Paid(amount, day),
-        Reading::Broken => Kc::BrokenKc,
-        Reading::Plain => Kc::BrokenKc,
-        Reading::Span(_, _) => Kc::BrokenKc,
-        Reading::Stated(_, _) => Kc::BrokenKc,
-        Reading::Party(_) => Kc::BrokenKc,
-    }
-}
-
-// The first of two.
-fn kc_kept(first: Kc, then: Kc) -> Kc
-    ensures { λ r. ⌜ r ≡ kcKept first then ⌝ }
-{
-    match first {
-        Kc::NoKc => then,
-        Kc::BrokenKc => first,
-        Kc::Paid(_, _) => first,
-    }
-}
-
 fn span_by(said: Reading) -> Span
     ensures { λ r. ⌜ r ≡ spanBy said ⌝ }
 {
@@ -65,6 +43,7 @@ fn span_by(said: Reading) -> Span
     }
 }
 
+// The first of two.
 fn span_kept(first: Span, then: Span) -> Span
     ensures { λ r. ⌜ r ≡ spanKept first then ⌝ }
 {

@@ -4,3 +4,5 @@ pub mod Finite
 pub mod OneOf
 pub mod Any
 pub mod Put
+pub mod Truth
+pub mod Refusals

@@ -1,4 +1,4 @@
--- Rows written one after the other, and a text written at the start of lent bytes.
+-- Numbers and rows written one after the other, and a text written at the start of lent bytes.
 use mathlib.Core.Path.{_≡_, ap, sym, _∙_}
 use mathlib.Core.List.{List, [], _∷_, _++_, append-assoc, append-nil, zipWith}
 use Prim.Native.Nat.{ℕ, zero, suc, _+_, _≤_, _<_}
@@ -8,11 +8,17 @@ use native.Mathlib.Omega.{arith}
 use lib.ListN.{length, getD}
 use lib.Seq.{length-take-le}
 use Rattle.laws.proofs.Put.{put-is, put-none}
+use Rattle.text.specs.Decimals.{decimal}
 use Rattle.text.specs.Strings.{Wrote}
+use Rattle.text.proofs.Bare.{decimal-length}
 use Rattle.text.proofs.Wrote.{then, same-length}
 use Rattle.ledger.specs.Faults.{fault}
 use Rattle.ledger.specs.Slices.{held}
 use Rattle.report.specs.Printing.{rowText, rowTexts, Begins}
+
+-- a number has 20 digits at most
+pub room-for : (v at n : ℕ) → at + 20 ≤ n → at + length (decimal v) ≤ n
+room-for v at n h = omega (arith, h, decimal-length v)
 
 pub rows-none : (before : List ℕ) (at : ℕ) → at ≤ length before → Wrote before at (rowTexts []) before at
 unfolding rowTexts

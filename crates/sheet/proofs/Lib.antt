@@ -1,6 +1,7 @@
-pub mod Conserving
 pub mod Answers
 pub mod Unique
+pub mod Conserving
+pub mod Whole
 pub mod Signs
-pub mod Fronts
+pub mod Written
 pub mod Examples

@@ -7,10 +7,11 @@ use native.Mathlib.Nat.{div-eq-of-lt, le-div-iff-mul-le, div-lt-iff-lt-mul, mod-
 use native.Mathlib.Numerals.{add-one}
 use native.Mathlib.Omega.{arith}
 use lib.Dec.{leb, eqb}
+use lib.ListN.{length}
 use borrow.Author.Tests.{leb-true, leb-false, ne-eqb, eqb-true}
 use Rattle.text.specs.Digits.{digits, valueAfter, value}
 use Rattle.text.specs.Decimals.{bare, decimal}
-use Rattle.text.proofs.Widths.{read-written}
+use Rattle.text.proofs.Widths.{read-written, length-digits}
 
 ten-pos : (n : ℕ) → 0 < 10 ^ n
 ten-pos n = one-le-pow n 10 (omega arith)
@@ -49,6 +50,28 @@ least-width (suc zero) v o l h f = sym (width-free 0 v (omega arith) h)
 least-width (suc (suc n)) v o l h f =
     let e : suc (suc n) - 1 ≡ suc n = omega arith in
     sym (width-free (suc n) v (omega arith) h ∙ full n v (rw e at (f (omega arith))) h)
+
+-- ---- how long it is
+
+bare-length : (bs : List ℕ) → length (bare bs) ≤ length bs
+unfolding bare
+bare-length [] = omega arith
+bare-length (b ∷ []) = omega arith
+bare-length (b ∷ d ∷ bs) = go (eqb b 48) (bare-length (d ∷ bs))
+  where
+    go : (t : Bool) → length (bare (d ∷ bs)) ≤ length (d ∷ bs) → length (cond t (bare (d ∷ bs)) (b ∷ d ∷ bs)) ≤ length (b ∷ d ∷ bs)
+    go true h = omega (arith, h)
+    go false h = omega arith
+
+pub decimal-length : (v : ℕ) → length (decimal v) ≤ 20
+unfolding decimal
+decimal-length v = omega (arith, bare-length (digits 20 v), length-digits 20 v)
+
+-- .. no longer than a width that holds the number
+pub decimal-within : (n v : ℕ) → n ≤ 19 → v < 10 ^ suc n → length (decimal v) ≤ suc n
+decimal-within n v l h = omega (arith, ap length (width-free n v l h), bare-length (digits (suc n) v), length-digits (suc n) v)
+
+-- ---- what it stands for
 
 -- zeros in front add nothing
 bare-value : (bs : List ℕ) → value (bare bs) ≡ value bs

@@ -21,9 +21,9 @@ fn width(v: u64) -> usize
     n
 }
 
-// Writes a number from a place on and answers the place after it. A caller lends room for the widest.
+// Writes a number from a place on and answers the place after it.
 pub fn put_decimal(out: &mut [u8], at: usize, v: u64) -> usize
-    requires { ⌜ at + 20 ≤ length (now out) ⌝ }
+    requires { ⌜ at + length (decimal v) ≤ length (now out) ⌝ }
     ensures text { λ r. ⌜ Wrote (now (out .entry)) at (decimal v) (now (out .exit)) r ⌝ }
     ensures end { λ r. ⌜ r ≤ at + 20 ⌝ }
 {

@@ -1,6 +1,6 @@
 use Rattle.text.proofs.Wrote.{then}
 use Rattle.report.specs.Printing.{refusedText}
-use Rattle.report.proofs.Listings.{at-start}
+use Rattle.report.proofs.Listings.{room-for, at-start}
 use borrow.Author.Needs.{needs}
 use Rattle.report.proofs.printing.put_refused.Statement.{statement}
 use Rattle.report.proofs.printing.put_refused.Tie as tie
@@ -12,7 +12,7 @@ put-requires : tie.Need-put-requires
 put-requires c κs = search needs
 
 put-decimal-requires : tie.Need-put-decimal-requires
-put-decimal-requires c κs = search needs
+put-decimal-requires c κs = room-for _ _ _ (search needs)
 
 slice-aggregate-put-2 : tie.Need-slice-aggregate-put-2
 slice-aggregate-put-2 c = search needs

@@ -1,5 +1,6 @@
 use Rattle.text.proofs.Wrote.{then}
 use Rattle.report.specs.Printing.{rowText}
+use Rattle.report.proofs.Listings.{room-for}
 use borrow.Author.Needs.{needs}
 use Rattle.report.proofs.printing.put_row.Statement.{statement}
 use Rattle.report.proofs.printing.put_row.Tie as tie
@@ -11,7 +12,7 @@ put-requires : tie.Need-put-requires
 put-requires c κs = search needs
 
 put-decimal-requires : tie.Need-put-decimal-requires
-put-decimal-requires c κs = search needs
+put-decimal-requires c κs = room-for _ _ _ (search needs)
 
 slice-aggregate-put-2 : tie.Need-slice-aggregate-put-2
 slice-aggregate-put-2 c = search needs
@@ -20,7 +21,7 @@ put-requires-2 : tie.Need-put-requires-2
 put-requires-2 c κs = search needs
 
 put-decimal-requires-2 : tie.Need-put-decimal-requires-2
-put-decimal-requires-2 c κs = search needs
+put-decimal-requires-2 c κs = room-for _ _ _ (search needs)
 
 slice-aggregate-put-3 : tie.Need-slice-aggregate-put-3
 slice-aggregate-put-3 c = search needs

@@ -1,8 +1,11 @@
 use Prim.Native.Nat.{ℕ}
-use mathlib.Core.Path.{_≡_}
+use native.Mathlib.Omega.{arith}
+use mathlib.Core.Path.{_≡_, ap}
 use mathlib.Core.List.{List}
+use lib.ListN.{length}
 use borrow.Author.Needs.{needs}
 use Rattle.text.specs.Strings.{Wrote}
+use Rattle.text.proofs.Widths.{length-digits}
 use Rattle.text.proofs.decimals.put_decimal.Statement.{statement}
 use Rattle.text.proofs.decimals.put_decimal.Tie as tie
 
@@ -13,7 +16,9 @@ width-requires : tie.Need-width-requires
 width-requires c κs = search needs
 
 put-digits-requires : tie.Need-put-digits-requires
-put-digits-requires c κs = search needs
+put-digits-requires c κs =
+    let w = c .before in
+    omega (arith, length-digits (w .width .result) (w .before .before .args .v), ap length (w .width .ensures .1), w .before .before .pre)
 
 same-length : tie.Need-same-length
 same-length c = search needs

@@ -1,6 +1,6 @@
 use borrow.Author.Needs.{needs}
-use Rattle.judging.proofs.claiming.kc_by.Statement.{statement}
-use Rattle.judging.proofs.claiming.kc_by.Tie as tie
+use Rattle.items.proofs.firsts.kc_by.Statement.{statement}
+use Rattle.items.proofs.firsts.kc_by.Tie as tie
 
 enum-known-said : tie.Need-enum-known-said
 enum-known-said c = search needs

@@ -1,0 +1,66 @@
+-- Nothing of a file that was posted is left out: it has no faults, so each item reads, and what does not need an amount posts nothing.
+use Prim.Native.Nat.{ℕ}
+use mathlib.Core.Path.{_≡_, refl, sym, ap, subst, _∙_}
+use mathlib.Core.Bool.{Bool, true, false, not, _&&_, false≢true}
+use mathlib.Core.List.{List, [], _∷_}
+use lib.Dec.{eqb}
+use lib.ListN.{length}
+use lib.IntN.{ℤ}
+use borrow.Author.Tests.{eqb-true}
+use Rattle.laws.specs.Refusals.{first}
+use Rattle.laws.proofs.Truth.{not-false}
+use Rattle.laws.proofs.Refusals.{none-applies}
+use Rattle.headings.specs.declared.Heading.{Heading}
+use Rattle.headings.specs.declared.Read.{Read}
+use Rattle.headings.specs.declared.Read.the-variants.{Reads}
+use Rattle.headings.specs.ItemTypes.{isInput, isPayment}
+use Rattle.headings.specs.HeadRules.{rule10}
+use Rattle.blocks.specs.declared.Kc.{Kc}
+use Rattle.blocks.specs.declared.Kc.the-variants.{NoKc, BrokenKc, Paid}
+use Rattle.items.specs.Faults.{faults}
+use Rattle.item_reader.specs.declared.Slip.{Slip}
+use Rattle.item_reader.specs.Slips.{amountOf}
+use Rattle.item_reader.specs.Accepted.{Fine, Each}
+use Rattle.item_reader.proofs.Accepted.{accepted}
+use Rattle.turnovers.specs.declared.Scheme.the-variants.{PostsNothing}
+use Rattle.turnovers.specs.Scheme.{schemeOf, postingBy, postingAt, postingOf}
+use Rattle.sheet.specs.Posting.{slips, postRefusals}
+use Rattle.sheet.specs.Whole.{InFull}
+
+closing : (kind : ℕ) → isInput kind ≡ true → isPayment kind ≡ false → kind ≡ 51
+unfolding isPayment
+closing kind i p = eqb-true kind 51 (go (isInput kind) (eqb kind 51) i p)
+  where
+    go : (a b : Bool) → a ≡ true → (a && not b) ≡ false → b ≡ true
+    go true b e f = not-false b f
+    go false b e f = absurd (false≢true e)
+
+scheme-none : (kind : ℕ) → kind ≡ 51 → schemeOf kind ≡ PostsNothing
+unfolding schemeOf
+scheme-none kind e = ap schemeOf e
+
+-- a closing item posts nothing, whatever its KC
+silent : (h : Heading) (k : Kc) → h .kind ≡ 51 → postingAt (Reads h) k ≡ postingBy h (amountOf k) (schemeOf (h .kind))
+silent h (Paid a d) e = refl
+silent h NoKc e = sym (ap (postingBy h 0) (scheme-none (h .kind) e))
+silent h BrokenKc e = sym (ap (postingBy h 0) (scheme-none (h .kind) e))
+
+in-full : (code day : ℕ) (s : Slip) → Fine code day s → InFull code day s
+unfolding postingOf rule10
+in-full code day s F = record {
+  fine = F;
+  posts = ap (λ (r : Read). postingAt r (s .kc)) (F .reads) ∙ go (isPayment (F .heading .kind)) refl;
+}
+  where
+    go : (t : Bool) → isPayment (F .heading .kind) ≡ t → postingAt (Reads (F .heading)) (s .kc) ≡ postingBy (F .heading) (amountOf (s .kc)) (schemeOf (F .heading .kind))
+    go true e = let p = F .paid e in subst (λ (k : Kc). postingAt (Reads (F .heading)) k ≡ postingBy (F .heading) (amountOf k) (schemeOf (F .heading .kind))) (sym (p .2)) refl
+    go false e = silent (F .heading) (s .kc) (closing (F .heading .kind) (not-false (isInput (F .heading .kind)) (F .kind)) e)
+
+all-full : (code day : ℕ) (ss : List Slip) → Each (Fine code day) ss → Each (InFull code day) ss
+all-full code day [] E = tt
+all-full code day (s ∷ ss) E = (in-full code day s (E .0), all-full code day ss (E .1))
+
+pub nothing-dropped : (codes : List ℕ) (sheet : List ℤ) (file : List ℕ) (code day : ℕ) → first (postRefusals codes sheet file code day) ≡ 0 → Each (InFull code day) (slips file)
+nothing-dropped codes sheet file code day e =
+    let f = none-applies (postRefusals codes sheet file code day) tt e .1 .1 .1 .1 .1 .1 .1 .0 in
+    all-full code day (slips file) (accepted code day file (eqb-true (length (faults code day file)) 0 (not-false (eqb (length (faults code day file)) 0) f)))
