@@ -98,11 +98,17 @@ static void derive_one(struct tally *tally)
     uint8_t heading[HEADING];
     uint8_t target[HEADING + 1] = { 0 };
     vary(heading, HEADINGS[below(3)], HEADING);
+    uint32_t type = 0;
+    uint32_t recipient = 0;
     uint32_t outcome = below(9);
+    uint32_t standing = 1 + below(9) / 4;
     uint32_t number = below(10000001);
     size_t room = HEADING + 1 - below(3);
-    uint32_t refusal = certis_derive(heading, HEADING, outcome, number, target, room);
+    uint32_t untold = certis_tell(heading, HEADING, outcome, standing, &type, &recipient);
+    uint32_t refusal = certis_derive(heading, HEADING, outcome, standing, number, target, room);
     tally->answered += refusal == 0;
+    fold(tally, untold);
+    fold(tally, (uint64_t)type << 32 | recipient);
     fold(tally, refusal);
     for (size_t i = 0; i <= HEADING; i++) {
         fold(tally, target[i]);

@@ -47,11 +47,20 @@ static void *check(void *ignored)
     return ignored;
 }
 
+static const char heading[] = "HD:12 20240304 0000300 0000017 0000710 0000000 0000000";
+
+static void *tell(void *ignored)
+{
+    uint32_t type = 0;
+    uint32_t recipient = 0;
+    certis_tell((const uint8_t *)heading, CERTIS_HEADING, 6, 1, &type, &recipient);
+    return ignored;
+}
+
 static void *derive(void *ignored)
 {
-    static const char heading[] = "HD:12 20240304 0000300 0000017 0000710 0000000 0000000";
     static uint8_t target[CERTIS_HEADING];
-    certis_derive((const uint8_t *)heading, CERTIS_HEADING, 6, 42, target, sizeof target);
+    certis_derive((const uint8_t *)heading, CERTIS_HEADING, 6, 1, 42, target, sizeof target);
     return ignored;
 }
 
@@ -108,8 +117,10 @@ int main(int count, char **words)
     static const struct {
         const char *name;
         void *(*run)(void *);
-    } JOBS[] = { { "certis_total", total }, { "certis_check", check }, { "certis_derive", derive }, { "certis_account", account },
-                 { "certis_sheet_post", post } };
+    } JOBS[] = {
+        { "certis_total", total },   { "certis_check", check },     { "certis_tell", tell },
+        { "certis_derive", derive }, { "certis_account", account }, { "certis_sheet_post", post },
+    };
     unsigned passed = 0;
     unsigned failed = 0;
     bool readable = count > 2 && read_sample(words[1], &faulty) && read_sample(words[2], &clean);

@@ -1,4 +1,4 @@
-/* The rules and refusals of documents 01 and 02 in words. */
+/* The rules, refusals and outcomes of documents 01 and 02 in words. */
 
 #include "desk.h"
 
@@ -50,14 +50,24 @@ static const char *const REFUSALS[] = {
     [6] = "The file is empty: it begins with the end mark (byte 1A).",
     [10] = "The prefix is not 0 to 6 digits, or the number not 1 to 10.",
     [11] = "The text is not 54 bytes in the layout of a heading.",
-    [12] = "The heading is a 51, or breaks rule 10, 13 or 14.",
-    [13] = "The outcome is not 1 to 7.",
-    [14] = "The table of outgoing types has no entry for this type and outcome.",
+    [12] = "The heading is a 51, or breaks rule 10, 13 or 14, or is none that a third party may send.",
+    [13] = "The outcome is not 1 to 7, or the standing not 1 or 2.",
+    [14] = "The table of outgoing types has no entry for this type and outcome, or none for a direct sender.",
     [15] = "The output number is not in the class of the input type.",
     [19] = "The list has more than 64 codes, repeats one, or has one that is not 1 to 9999.",
     [20] = "The file has faults.",
     [21] = "Payer or beneficiary of an item is not listed.",
     [22] = "A turnover would pass 999999999999999.99 either way.",
+};
+
+static const char *const OUTCOMES[] = {
+    [1] = "Beneficiary, payment made.",
+    [2] = "Beneficiary, no funds.",
+    [3] = "Payer, payment made.",
+    [4] = "Payer, no funds.",
+    [5] = "Sender, payment made.",
+    [6] = "Sender, no funds.",
+    [7] = "Formal error.",
 };
 
 #define COUNT(table) (sizeof(table) / sizeof((table)[0]))
@@ -70,6 +80,11 @@ const char *rule_in_words(uint32_t rule)
 const char *refusal_in_words(uint32_t refusal)
 {
     return refusal < COUNT(REFUSALS) ? REFUSALS[refusal] : NULL;
+}
+
+const char *outcome_in_words(uint32_t outcome)
+{
+    return outcome < COUNT(OUTCOMES) ? OUTCOMES[outcome] : NULL;
 }
 
 void end_line(const char *words)
