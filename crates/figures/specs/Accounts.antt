@@ -1,10 +1,11 @@
 -- The account check (document 01, 'Account check'; 002, 3.2; decree 169/2011), and the open job.
 use Prim.Native.Nat.{ℕ, _+_, _-_, _*_, _%_, _^_}
+use mathlib.Core.Path.{_≡_}
 use mathlib.Core.Bool.{Bool, true, false, not, _&&_, cond}
 use mathlib.Core.List.{List, [], _∷_}
 use lib.ListN.{length}
 use lib.Dec.{eqb}
-use Rattle.laws.specs.Refusals.{Refusal, _if_}
+use Rattle.laws.specs.Refusals.{Refusal, _if_, first}
 use Rattle.text.specs.Digits.{value}
 use Rattle.figures.specs.declared.accounts.Account.{Account}
 use Rattle.figures.specs.declared.accounts.Account.the-variants.{Holds, Fails, NotDigits}
@@ -62,3 +63,7 @@ abbrev pub accountValue : Account → Bool → Bool
 accountValue Holds old = true
 accountValue Fails old = false
 accountValue NotDigits old = old
+
+-- what the open job promises of its answer: document 01's number for it, and which of the three it is
+abbrev pub Judges : List ℕ → List ℕ → Account → Type 0
+Judges prefix number r = (accountNumber r ≡ first (accountRefusals prefix number)) × (r ≡ accountOf prefix number)

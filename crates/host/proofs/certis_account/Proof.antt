@@ -18,8 +18,8 @@ number-of-requires c κs = search needs
 returns : tie.Need-returns
 returns c =
     let a = c .before .before .before .before .before .args in (
-      c .number-of .ensures ∙ c .before .before .check .ensures .1,
-      c .before .value-of .ensures ∙ ap (λ (r : Account). accountValue r (a .good .now)) (c .before .before .check .ensures .0) ∙ value-is (a .prefix .now) (a .number .now) (a .good .now),
+      c .number-of .ensures ∙ c .before .before .check .ensures .0,
+      c .before .value-of .ensures ∙ ap (λ (r : Account). accountValue r (a .good .now)) (c .before .before .check .ensures .1) ∙ value-is (a .prefix .now) (a .number .now) (a .good .now),
     )
 
 pub certis-account-spec : {M : Type 1} → statement M
