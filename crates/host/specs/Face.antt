@@ -1,4 +1,4 @@
--- What a C host finds behind its pointers after a call.
+-- What a C host is answered and finds behind its pointers after a call, each call's whole promise one record.
 use Prim.Native.Nat.{ℕ}
 use mathlib.Core.Path.{_≡_}
 use mathlib.Core.Bool.{cond}
@@ -6,15 +6,28 @@ use mathlib.Core.List.{List}
 use lib.Dec.{eqb}
 use lib.ListN.{length}
 use Rattle.laws.specs.Refusals.{first}
+use Rattle.figures.specs.Accounts.{accountRefusals, accountHolds}
 use Rattle.ledger.specs.Faults.{Fault}
 use Rattle.items.specs.Faults.{faults}
 use Rattle.listing.specs.Checking.{checkRefusals, slicesAfter}
 
--- the true total, or on a refusal what stood there
-abbrev pub totalAfter : ℕ → List Fault → ℕ → ℕ
-totalAfter refusal all before = cond (eqb refusal 0) (length all) before
+-- 'A refusal returns its number, no total, and changes no lent byte': a value, or on a refusal what stood there
+abbrev pub storedAt : ℕ → ℕ → ℕ → ℕ
+storedAt refusal value before = cond (eqb refusal 0) value before
 
--- the two slices after a check
-pub record ListedAt (file : List ℕ) (code day : ℕ) (ls₀ rs₀ ls rs : List ℕ) : Type 0 where
-  pub lines : ls ≡ slicesAfter (first (checkRefusals file code day (length ls₀) (length rs₀))) (λ (f : Fault). f .line) (faults code day file) ls₀
-  pub rules : rs ≡ slicesAfter (first (checkRefusals file code day (length ls₀) (length rs₀))) (λ (f : Fault). f .rule) (faults code day file) rs₀
+-- certis_total: the refusal or 0, and the true total
+pub record TotalAt (file : List ℕ) (code day before r after : ℕ) : Type 0 where
+  pub number : r ≡ first (checkRefusals file code day 0 0)
+  pub total : after ≡ storedAt r (length (faults code day file)) before
+
+-- certis_check: the same with two lent slices, and these
+pub record CheckedAt (file : List ℕ) (code day : ℕ) (ls₀ rs₀ : List ℕ) (before r : ℕ) (ls rs : List ℕ) (after : ℕ) : Type 0 where
+  pub number : r ≡ first (checkRefusals file code day (length ls₀) (length rs₀))
+  pub total : after ≡ storedAt r (length (faults code day file)) before
+  pub lines : ls ≡ slicesAfter r (λ (f : Fault). f .line) (faults code day file) ls₀
+  pub rules : rs ≡ slicesAfter r (λ (f : Fault). f .rule) (faults code day file) rs₀
+
+-- certis_account: the refusal or 0, and 1 where both parts hold, 0 where one does not
+pub record AccountAt (prefix number : List ℕ) (before r after : ℕ) : Type 0 where
+  pub refusal : r ≡ first (accountRefusals prefix number)
+  pub good : after ≡ storedAt r (cond (accountHolds prefix number) 1 0) before

@@ -1,29 +1,62 @@
 // The C face: numbers and bytes only. Each function answers 0, or the number of the refusal by document 01, and a refusal leaves
-// everything behind the pointers as it was. The promises are those of the jobs below, said with numbers: `listing` for checking,
-// `outcomes` for deriving, `figures` for the account check.
+// everything behind the pointers as it was: a total or an answer is stored where nothing is refused, and is never loaded. The promises
+// are those of the jobs below, said with numbers: `listing` for checking, `outcomes` for deriving, `figures` for the account check.
 use figures::accounts;
 use listing::checking;
+use listing::checking::Checked;
 ghost use mathlib.Core.Path.{_≡_};
 ghost use mathlib.Core.Bool.{cond};
 ghost use lib.Dec.{eqb};
 ghost use lib.ListN.{length};
 ghost use Rattle.laws.specs.Refusals.{first};
 ghost use Rattle.outcomes.specs.Deriving.{deriveRefusals, derivedTarget};
-ghost use Rattle.figures.specs.Accounts.{accountRefusals, accountHolds};
-ghost use Rattle.items.specs.Faults.{faults};
-ghost use Rattle.listing.specs.Checking.{checkRefusals};
-ghost use Rattle.host.specs.Face.{totalAfter, ListedAt};
+ghost use Rattle.listing.specs.Checking.{checkedNumber, checkedOr};
+ghost use Rattle.host.specs.Face.{TotalAt, CheckedAt, AccountAt};
+
+// A total behind a pointer, where the job is done.
+fn store_total(at: &mut u64, done: bool, total: u64)
+    ensures { λ _. ⌜ now (at .exit) ≡ cond done total (now (at .entry)) ⌝ }
+{
+    if done {
+        *at = total;
+    }
+}
+
+// The refusal of a check, 0 for none; then its total stands behind the pointer.
+fn leave_total(answer: Checked, total: &mut u64) -> u32
+    ensures number { λ r. ⌜ r ≡ checkedNumber answer ⌝ }
+    ensures after { λ _. ⌜ now (total .exit) ≡ cond (eqb (checkedNumber answer) 0) (checkedOr answer 0) (now (total .entry)) ⌝ }
+{
+    let refusal = checking::number_of(answer);
+    let sum = checking::total_or(answer, 0);
+    store_total(total, refusal == 0, sum);
+    refusal
+}
+
+// A number behind a pointer, where the job is done.
+fn store_answer(at: &mut u32, done: bool, answer: u32)
+    ensures { λ _. ⌜ now (at .exit) ≡ cond done answer (now (at .entry)) ⌝ }
+{
+    if done {
+        *at = answer;
+    }
+}
+
+// 1 for yes, 0 for no.
+fn one_if(yes: bool) -> u32
+    ensures { λ r. ⌜ r ≡ cond yes 1 0 ⌝ }
+{
+    if yes { 1 } else { 0 }
+}
 
 #[no_mangle]
 pub extern "C" fn certis_total(file: &[u8], code: u32, day: u32, total: &mut u64) -> u32
-    ensures number { λ r. ⌜ r ≡ first (checkRefusals (now (file .entry)) code day 0 0) ⌝ }
-    ensures after { λ _. ⌜ now (total .exit) ≡ totalAfter (first (checkRefusals (now (file .entry)) code day 0 0)) (faults code day (now (file .entry))) (now (total .entry)) ⌝ }
+    ensures { λ r. ⌜ TotalAt (now (file .entry)) code day (now (total .entry)) r (now (total .exit)) ⌝ }
 {
     let mut lines = [0u32; 0];
     let mut rules = [0u32; 0];
     let answer = checking::check(file, code, day, &mut lines, &mut rules);
-    *total = checking::total_or(answer, *total);
-    checking::number_of(answer)
+    leave_total(answer, total)
 }
 
 #[no_mangle]
@@ -35,13 +68,10 @@ pub extern "C" fn certis_check(
     rules: &mut [u32],
     total: &mut u64,
 ) -> u32
-    ensures number { λ r. ⌜ r ≡ first (checkRefusals (now (file .entry)) code day (length (now (lines .entry))) (length (now (rules .entry)))) ⌝ }
-    ensures after { λ _. ⌜ now (total .exit) ≡ totalAfter (first (checkRefusals (now (file .entry)) code day (length (now (lines .entry))) (length (now (rules .entry))))) (faults code day (now (file .entry))) (now (total .entry)) ⌝ }
-    ensures listed { λ _. ⌜ ListedAt (now (file .entry)) code day (now (lines .entry)) (now (rules .entry)) (now (lines .exit)) (now (rules .exit)) ⌝ }
+    ensures { λ r. ⌜ CheckedAt (now (file .entry)) code day (now (lines .entry)) (now (rules .entry)) (now (total .entry)) r (now (lines .exit)) (now (rules .exit)) (now (total .exit)) ⌝ }
 {
     let answer = checking::check(file, code, day, lines, rules);
-    *total = checking::total_or(answer, *total);
-    checking::number_of(answer)
+    leave_total(answer, total)
 }
 
 #[no_mangle]
@@ -53,11 +83,12 @@ pub extern "C" fn certis_derive(heading: &[u8], outcome: u32, number: u32, targe
 }
 
 #[no_mangle]
-pub extern "C" fn certis_account(prefix: &[u8], number: &[u8], good: &mut bool) -> u32
-    ensures number { λ r. ⌜ r ≡ first (accountRefusals (now (prefix .entry)) (now (number .entry))) ⌝ }
-    ensures after { λ _. ⌜ now (good .exit) ≡ cond (eqb (first (accountRefusals (now (prefix .entry)) (now (number .entry)))) 0) (accountHolds (now (prefix .entry)) (now (number .entry))) (now (good .entry)) ⌝ }
+pub extern "C" fn certis_account(prefix: &[u8], number: &[u8], good: &mut u32) -> u32
+    ensures { λ r. ⌜ AccountAt (now (prefix .entry)) (now (number .entry)) (now (good .entry)) r (now (good .exit)) ⌝ }
 {
     let answer = accounts::check(prefix, number);
-    *good = accounts::value_of(answer, *good);
-    accounts::number_of(answer)
+    let refusal = accounts::number_of(answer);
+    let holds = accounts::value_of(answer, false);
+    store_answer(good, refusal == 0, one_if(holds));
+    refusal
 }

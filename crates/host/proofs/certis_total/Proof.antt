@@ -1,4 +1,6 @@
 use mathlib.Core.Path.{_∙_}
+use Prim.Native.Nat.{ℕ}
+use Rattle.host.proofs.Stored.{stored}
 use borrow.Author.Needs.{needs}
 use Rattle.host.proofs.certis_total.Statement.{statement}
 use Rattle.host.proofs.certis_total.Tie as tie
@@ -12,14 +14,16 @@ slice-aggregate-check-2 c = search needs
 check-requires : tie.Need-check-requires
 check-requires c κs = search needs
 
-total-or-requires : tie.Need-total-or-requires
-total-or-requires c κs = search needs
-
-number-of-requires : tie.Need-number-of-requires
-number-of-requires c κs = search needs
+leave-total-requires : tie.Need-leave-total-requires
+leave-total-requires c κs = search needs
 
 returns : tie.Need-returns
-returns c = (c .number-of .ensures ∙ c .before .before .before .before .before .check .ensures .number, c .before .total-or .ensures ∙ c .before .before .before .before .before .check .ensures .total (c .before .before .before .before .before .before .before .before .before .args .total .now))
+returns c =
+    let k = c .before .before .before .before in
+    record {
+      number = c .leave-total .ensures .0 ∙ k .check .ensures .number;
+      total = rw (c .leave-total .ensures .0) (c .leave-total .ensures .1 ∙ stored (λ (x : ℕ). x) _ 0 _ (k .check .ensures .number) (k .check .ensures .total 0));
+    }
 
 pub certis-total-spec : {M : Type 1} → statement M
 certis-total-spec =
@@ -28,6 +32,5 @@ certis-total-spec =
     slice-aggregate-check
     slice-aggregate-check-2
     check-requires
-    total-or-requires
-    number-of-requires
+    leave-total-requires
     returns)

@@ -130,7 +130,7 @@ fn small_calls(rounds: u32) -> u32 {
         Contestant::new("account check, proved", || {
             for call in 0..CALLS {
                 let (prefix, number) = black_box(accounts[of(call)]);
-                black_box(face::account(prefix, number, black_box(&mut false)));
+                black_box(face::account(prefix, number, black_box(&mut 0)));
             }
         }),
         Contestant::new("account check, second program", || {
