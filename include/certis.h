@@ -12,8 +12,9 @@
  *   - each pointer is not null and properly aligned;
  *   - behind a pointer with a length stand that many elements (a length of 0 is
  *     fine: nothing is then read or written there);
- *   - behind a pointer without a length stands one element, or as many as the
- *     comment beside it says;
+ *   - behind a pointer without a length is room for one element, which need not
+ *     be initialised: it is written where nothing is refused, and never read; or
+ *     for as many as the comment beside it says;
  *   - no region that is written overlaps any other region given.
  * Nothing is asked of the values: every byte, number and length has an answer.
  */
@@ -21,7 +22,6 @@
 #ifndef CERTIS_H
 #define CERTIS_H
 
-#include <stdbool.h>
 #include <stddef.h>
 #include <stdint.h>
 
@@ -168,16 +168,16 @@ uint32_t certis_derive(const uint8_t *heading, size_t heading_len,
 
 /* The account check.
  *
- * Takes both parts of an account number as digits and sets *good to whether
- * both hold: each part is secured by modulo 11, and the second is not zero. An
- * empty first part holds.
+ * Takes both parts of an account number as digits and sets *good to 1 where
+ * both hold, to 0 where one does not: each part is secured by modulo 11, and
+ * the second is not zero. An empty first part holds.
  *
  * Refusal:
  *   10  the first part is not 0 to 6 digits, or the second not 1 to 10
  */
 uint32_t certis_account(const uint8_t *prefix, size_t prefix_len,
                         const uint8_t *number, size_t number_len,
-                        bool *good);
+                        uint32_t *good);
 
 /* The turnover sheet.
  *

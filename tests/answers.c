@@ -119,7 +119,7 @@ static void account_one(struct tally *tally)
 {
     static const char DIGITS[] = "0000192000145399";
     uint8_t digits[16];
-    bool good = false;
+    uint32_t good = 0;
     vary(digits, DIGITS, 16);
     size_t first = below(7);
     size_t second = below(11);

@@ -375,36 +375,40 @@ static void test_standings(void)
 
 /* The account check */
 
-static void judges(const char *prefix, const char *number, bool expected)
+static void judges(const char *prefix, const char *number, uint32_t expected)
 {
-    bool good = !expected;
+    uint32_t good = PATTERN;
     expect(certis_account(bytes_of(prefix), strlen(prefix), bytes_of(number), strlen(number), &good) == 0
                && good == expected,
            number);
 }
 
-/* A refusal leaves the answer as it was, whichever it was. */
+/* A refusal leaves the answer as it was, whatever value each of its bytes had. */
 static void account_refuses(const char *what, const char *prefix, const char *number)
 {
-    bool yes = true;
-    bool no = false;
-    expect(certis_account(bytes_of(prefix), strlen(prefix), bytes_of(number), strlen(number), &yes) == 10
-               && certis_account(bytes_of(prefix), strlen(prefix), bytes_of(number), strlen(number), &no) == 10
-               && yes && !no,
-           what);
+    bool kept = true;
+    for (uint32_t byte = 0; byte < 256; byte++) {
+        for (unsigned shift = 0; shift < 32; shift += 8) {
+            uint32_t before = (PATTERN & ~(UINT32_C(255) << shift)) | byte << shift;
+            uint32_t good = before;
+            kept &= certis_account(bytes_of(prefix), strlen(prefix), bytes_of(number), strlen(number), &good) == 10
+                    && good == before;
+        }
+    }
+    expect(kept, what);
 }
 
 static void test_accounts(void)
 {
-    judges("", "2000145399", true);
-    judges("", "2000145398", false);
-    judges("", "0", false);
-    judges("", "0000000000", false);
-    judges("19", "2000145399", true);
-    judges("20", "2000145399", false);
-    judges("000019", "2000145399", true);
-    judges("000000", "2000145399", true);
-    judges("19", "2000145398", false);
+    judges("", "2000145399", 1);
+    judges("", "2000145398", 0);
+    judges("", "0", 0);
+    judges("", "0000000000", 0);
+    judges("19", "2000145399", 1);
+    judges("20", "2000145399", 0);
+    judges("000019", "2000145399", 1);
+    judges("000000", "2000145399", 1);
+    judges("19", "2000145398", 0);
     account_refuses("10: prefix of seven digits", "0000019", "2000145399");
     account_refuses("10: number of eleven digits", "19", "02000145399");
     account_refuses("10: no number", "19", "");

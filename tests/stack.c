@@ -66,7 +66,7 @@ static void *derive(void *ignored)
 
 static void *account(void *ignored)
 {
-    bool good = false;
+    uint32_t good;
     certis_account((const uint8_t *)"19", 2, (const uint8_t *)"2000145399", 10, &good);
     return ignored;
 }

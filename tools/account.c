@@ -21,7 +21,7 @@ static int check_account(const char *account, bool explain)
     const char *dash = strchr(account, '-');
     const char *number = dash == NULL ? account : dash + 1;
     size_t prefix_length = dash == NULL ? 0 : (size_t)(dash - account);
-    bool good = false;
+    uint32_t good = 0;
     uint32_t refusal = certis_account((const uint8_t *)account, prefix_length, (const uint8_t *)number, strlen(number), &good);
     printf("%s ", account);
     if (refusal != 0) {

@@ -48,7 +48,7 @@ mod raw {
             prefix_len: usize,
             number: *const u8,
             number_len: usize,
-            good: *mut bool,
+            good: *mut u32,
         ) -> u32;
 
         pub fn certis_sheet_open(codes: *const u32, codes_len: usize, turnovers: *mut i64) -> u32;
@@ -124,7 +124,7 @@ pub fn derive(heading: &[u8], outcome: u32, standing: u32, number: u32, target: 
     }
 }
 
-pub fn account(prefix: &[u8], number: &[u8], good: &mut bool) -> u32 {
+pub fn account(prefix: &[u8], number: &[u8], good: &mut u32) -> u32 {
     unsafe {
         raw::certis_account(prefix.as_ptr(), prefix.len(), number.as_ptr(), number.len(), good)
     }

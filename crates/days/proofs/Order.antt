@@ -10,10 +10,10 @@ use lib.ListN.{getD, take}
 use native.Mathlib.Numerals.{add-one}
 use lib.Arith.{lt-of-le-ne}
 use lib.Dec.{leb, ltb, eqb, leb→le}
-use borrow.Author.Tests.{leb-true, ltb-true, ltb-false, le-leb, eqb-true, eqb-false}
+use borrow.Author.Tests.{leb-true, ltb-true, ltb-false, le-leb, lt-ltb, le-ltb, eqb-true, eqb-false}
 use Rattle.laws.proofs.Every.{each-holds}
 use Rattle.laws.proofs.Entries.{at}
-use Rattle.days.specs.Days.{isLeap, row, sum, daysBefore, dayNumber, yearOf, monthOf, dateOf, realTests, isReal, monthLength, next, on}
+use Rattle.days.specs.Days.{isLeap, row, sum, daysBefore, dayNumber, yearOf, monthOf, dateOf, realTests, isReal, monthLength, later, next, on}
 use Rattle.days.proofs.Calendar.{sum-more, month-le}
 
 -- what the test of a real day says, part by part
@@ -252,6 +252,10 @@ module _ (a b : ℕ) (ra : Real a) (rb : Real b) where
       go false p true q = absurd (omega (arith, later-number b a rb ra (ltb-true b a q)))
       go false p false q = le-antisymm (ltb-false b a q) (ltb-false a b p)
 
+-- a day that is no later has no greater number
+no-later : (a b : ℕ) → Real a → Real b → a ≤ b → dayNumber a ≤ dayNumber b
+no-later a b ra rb h = ⊎-elim (λ e. rw e (le-refl _)) (λ l. omega (arith, later-number a b ra rb l)) (eq-or-lt-of-le h)
+
 last-real : Real 99991231
 unfolding isReal monthLength row isLeap
 last-real = real-parts 99991231 refl
@@ -265,3 +269,13 @@ days-on (suc k) n r h =
     let f = follows n r in
     let t = days-on k (next n) (next-real n r m) (omega (arith, f)) in
     (t .0, omega (arith, f, t .1))
+
+-- so 'more than k days later' says: after the day k days on
+pub later-on : (k day than : ℕ) → Real day → Real than → dayNumber than + k ≤ dayNumber 99991231 → later day than k ≡ ltb (on k than) day
+later-on k day than d t h =
+    let o = days-on k than t h in
+    rw (← o .1) (go (ltb (on k than) day) refl (o .0))
+  where
+    go : (b : Bool) → ltb (on k than) day ≡ b → Real (on k than) → ltb (dayNumber (on k than)) (dayNumber day) ≡ ltb (on k than) day
+    go true e r = lt-ltb _ _ (later-number (on k than) day r d (ltb-true _ _ e)) ∙ sym e
+    go false e r = le-ltb _ _ (no-later day (on k than) d r (ltb-false _ _ e)) ∙ sym e

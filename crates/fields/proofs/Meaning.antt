@@ -13,8 +13,8 @@ use Rattle.fields.specs.declared.classes.Class.{Class}
 use Rattle.fields.specs.declared.classes.Class.the-variants.{Money, Number, Range, Group, Account, Text, Free}
 use Rattle.figures.specs.Layouts.{Part, some, lit, mayEnd, rest, run, isEmpty, headIs, fits, part}
 use Rattle.figures.specs.Described.{allOf, Described, whole, stretch, stands, stops, goes-on, left}
-use Rattle.fields.specs.Readings.{textOf, layoutOf}
-use Rattle.fields.specs.Tails.{takes, reads}
+use Rattle.fields.specs.Readings.{textOf, layoutOf, saidBy, readingOf}
+use Rattle.fields.specs.Tails.{takes, reads, saysOf}
 use Rattle.figures.proofs.Tests.{and-parts}
 use Rattle.figures.proofs.Runs.{run-le, run-length, run-all}
 
@@ -145,3 +145,10 @@ reads-described k l ls e =
 pub described-reads : (k : Class) (l : List ℕ) (ls us : List (List ℕ)) → Described (layoutOf k .own) (textOf l) us → takes (layoutOf k .more) ls ≡ true → reads k l ls ≡ true
 unfolding reads
 described-reads k l ls us d e = rw (fits-described (layoutOf k .own) (textOf l) (clear-all k) d, e)
+
+-- and what it says is said of its stretches
+pub says-described : (k : Class) (l : List ℕ) (ls us : List (List ℕ)) → Described (layoutOf k .own) (textOf l) us → takes (layoutOf k .more) ls ≡ true → saysOf k l ls ≡ saidBy k (getD us 0 []) (getD us 1 [])
+unfolding saysOf readingOf
+says-described k l ls us d e =
+    let c = clear-all k in
+    rw (e, fits-described (layoutOf k .own) (textOf l) c d, part-described 0 (layoutOf k .own) (textOf l) c d, part-described 1 (layoutOf k .own) (textOf l) c d)

@@ -2,11 +2,11 @@
 use mathlib.Core.Path.{_≡_, refl, ap, _∙_, sym}
 use mathlib.Core.Bool.{Bool, true, false, _&&_, _||_, cond, true≢false}
 use mathlib.Core.List.{List, [], _∷_}
-use Prim.Native.Nat.{ℕ, zero, suc, _+_, _-_, _≤_, _<_}
+use Prim.Native.Nat.{ℕ, zero, suc, _+_, _-_, _*_, _≤_, _<_}
 use mathlib.Core.Logic.{⊎-elim}
 use native.Mathlib.Nat.{eq-or-lt-of-le}
 use native.Mathlib.Omega.{arith}
-use lib.ListN.{length}
+use lib.ListN.{length, getD}
 use lib.Dec.{leb, ltb, eqb, eqb→eq, leb·suc-suc}
 use borrow.Author.Tests.{ne-eqb, le-leb, lt-ltb, leb-true, ltb-true, eqb-true, eqb-false}
 use Rattle.laws.specs.Tests.{among}
@@ -15,7 +15,7 @@ use Rattle.laws.proofs.OneOf.{one-of}
 use Rattle.figures.proofs.Tests.{and-parts}
 use Rattle.fields.specs.declared.classes.Class.{Class}
 use Rattle.fields.specs.declared.classes.Class.the-variants.{Money, Number, Range, Group, Account, Text, Free}
-use Rattle.fields.specs.Kinds.{symbols, place, named}
+use Rattle.fields.specs.Kinds.{symbols, place, identOf, named, isField}
 use Rattle.fields.specs.Classes.{moneyFields, numberFields, rangeFields, groupFields, accountFields, textFields, classBy, classOf, groupOf}
 
 -- a number stands in a list just where its place is in it
@@ -27,6 +27,32 @@ place-in x (y ∷ ys) = go (eqb x y) (place-in x ys)
     go : (t : Bool) → ltb (place x ys) (length ys) ≡ among x ys → ltb (cond t 0 (suc (place x ys))) (suc (length ys)) ≡ (t || among x ys)
     go true e = lt-ltb 0 (suc (length ys)) (omega arith)
     go false e = simp leb·suc-suc e
+
+-- what stands at the place of a number that is in a list is that number
+at-place : (x : ℕ) (ys : List ℕ) → among x ys ≡ true → getD ys (place x ys) 0 ≡ x
+unfolding place
+at-place x [] e = absurd (true≢false (sym e))
+at-place x (y ∷ ys) e = go (eqb x y) refl e (at-place x ys)
+  where
+    go : (t : Bool) → eqb x y ≡ t → (t || among x ys) ≡ true → (among x ys ≡ true → getD ys (place x ys) 0 ≡ x) → getD (y ∷ ys) (cond t 0 (suc (place x ys))) 0 ≡ x
+    go true p q r = sym (eqb-true x y p)
+    go false p q r = r q
+
+same-place : (x y : ℕ) (ys : List ℕ) → among x ys ≡ true → among y ys ≡ true → place x ys ≡ place y ys → x ≡ y
+same-place x y ys p q e = sym (at-place x ys p) ∙ ap (λ (k : ℕ). getD ys k 0) e ∙ at-place y ys q
+
+two-digits : (a b c d : ℕ) → b < 36 → d < 36 → a * 36 + b ≡ c * 36 + d → (a ≡ c) × (b ≡ d)
+two-digits a b c d h k e = (omega arith, omega arith)
+
+-- fields with one number have one identifier: rule 5 and 'first KC' ask for numbers and mean identifiers
+pub same-identifier : (l m : List ℕ) → isField l ≡ true → isField m ≡ true → identOf l ≡ identOf m → (getD l 0 0 ≡ getD m 0 0) × (getD l 1 0 ≡ getD m 1 0)
+same-identifier l m p q e =
+    let f = and-parts (among (getD l 0 0) symbols) (among (getD l 1 0) symbols) (and-parts (among (getD l 0 0) symbols && among (getD l 1 0) symbols) (eqb (getD l 2 0) 0x3A) p .0) in
+    let g = and-parts (among (getD m 0 0) symbols) (among (getD m 1 0) symbols) (and-parts (among (getD m 0 0) symbols && among (getD m 1 0) symbols) (eqb (getD m 2 0) 0x3A) q .0) in
+    let h : place (getD l 1 0) symbols < 36 = ltb-true _ _ (place-in (getD l 1 0) symbols ∙ f .1) in
+    let k : place (getD m 1 0) symbols < 36 = ltb-true _ _ (place-in (getD m 1 0) symbols ∙ g .1) in
+    let d = two-digits _ _ _ _ h k e in
+    (same-place _ _ symbols (f .0) (g .0) (d .0), same-place _ _ symbols (f .1) (g .1) (d .1))
 
 -- the place of a byte, as the code finds it
 abbrev pub found : ℕ → ℕ

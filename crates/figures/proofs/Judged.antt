@@ -14,7 +14,7 @@ use Rattle.figures.specs.declared.parts.Part.{Part}
 use Rattle.figures.specs.declared.accounts.Account.{Account}
 use Rattle.figures.specs.declared.accounts.Account.the-variants.{Holds, Fails, NotDigits}
 use Rattle.figures.specs.Layouts.{num, run, isEmpty, fits}
-use Rattle.figures.specs.Accounts.{passes, accountHolds, noPart, partOf, areDigits, accountBy, accountOf, accountRefusals, accountNumber, accountValue}
+use Rattle.figures.specs.Accounts.{passes, accountHolds, noPart, partOf, areDigits, accountBy, accountOf, accountRefusals, accountNumber, accountValue, Judges}
 use Rattle.figures.proofs.Runs.{run-length}
 use Rattle.figures.proofs.Endings.{empty-before}
 
@@ -70,12 +70,12 @@ value-is p n old = go (areDigits p n) (accountHolds p n)
     go true false = refl
     go false h = refl
 
-pub answered : (p n : List ℕ) {r : Account} → r ≡ accountOf p n → (r ≡ accountOf p n) × (accountNumber r ≡ first (accountRefusals p n))
-answered p n e = (e, ap accountNumber e ∙ refusal-is p n)
+pub answered : (p n : List ℕ) {r : Account} → r ≡ accountOf p n → Judges p n r
+answered p n e = (ap accountNumber e ∙ refusal-is p n, e)
 
--- two answers that meet the check's contract are one
-pub unique : (p n : List ℕ) {r r′ : Account} → r ≡ accountOf p n → r′ ≡ accountOf p n → r ≡ r′
-unique p n e f = e ∙ sym f
+-- two answers that meet the check's statement are one
+pub judges-unique : (p n : List ℕ) {r r′ : Account} → Judges p n r → Judges p n r′ → r ≡ r′
+judges-unique p n e f = e .1 ∙ sym (f .1)
 
 -- number and value tell the answers apart
 pub told-apart : (r r′ : Account) → accountNumber r ≡ accountNumber r′ → accountValue r false ≡ accountValue r′ false → r ≡ r′

@@ -1,7 +1,7 @@
--- A loop that adds each digit of a part to twice the sum of those to its left: by remainder of 11 that weighs them. Each weight is a power
--- of 2 by remainder of 11.
+-- The weights are document 01's; and a loop that adds each digit of a part to twice the sum of those to its left weighs them, by remainder
+-- of 11.
 use mathlib.Core.Path.{_≡_, refl, sym, ap, _∙_}
-use mathlib.Core.List.{List}
+use mathlib.Core.List.{List, [], _∷_, map}
 use Prim.Native.Nat.{ℕ, suc, _+_, _-_, _*_, _/_, _%_, _^_, _≤_, _<_}
 use native.Mathlib.Nat.{add-mul, mul-assoc, mul-comm, pow-suc, div-add-mod}
 use native.Mathlib.Numerals.{add-one}
@@ -9,13 +9,13 @@ use native.Mathlib.Omega.{arith}
 use lib.ListN.{length, drop, getD, length-drop, drop-of-length-le}
 use lib.Pow.{pow-mono}
 use lib.Seq.{drop-cons}
-use lib.Dec.{eqb, eqb→eq}
-use Rattle.laws.proofs.Finite.{at}
-use Rattle.figures.specs.Accounts.{weights, weighed, passes}
+use lib.Dec.{eqb}
+use Rattle.figures.specs.Accounts.{weight, weighed, passes}
 
-weight-is : (k : ℕ) → k < 10 → getD weights k 0 ≡ 2 ^ k % 11
-unfolding weights
-weight-is k h = eqb→eq (getD weights k 0) (2 ^ k % 11) (at (λ j. eqb (getD weights j 0) (2 ^ j % 11)) 10 tt k h)
+-- 'digits of a part, from the right, times 1, 2, 4, 8, 5, 10, 9, 7, 3, 6' (document 01): no part has an eleventh
+pub as-listed : map weight (0 ∷ 1 ∷ 2 ∷ 3 ∷ 4 ∷ 5 ∷ 6 ∷ 7 ∷ 8 ∷ 9 ∷ []) ≡ 1 ∷ 2 ∷ 4 ∷ 8 ∷ 5 ∷ 10 ∷ 9 ∷ 7 ∷ 3 ∷ 6 ∷ []
+unfolding weight
+as-listed = refl
 
 -- a factor may be taken by its remainder
 remainder : (a b w : ℕ) → (a % 11 * b + w) % 11 ≡ (a * b + w) % 11
@@ -46,10 +46,10 @@ module _ (s : List ℕ) (sum i : ℕ) (g : Going s sum i) where
     p = 2 ^ n
 
     next : weighed (drop i s) ≡ p % 11 * d + weighed (drop (i + 1) s)
-    unfolding weighed p
+    unfolding weighed weight p
     next =
         let m : length s - suc i ≡ n = omega arith in
-        rw (drop-cons s i 0 h, length-drop, m, weight-is n (omega (arith, g .few)), ← e, add-one i) refl
+        rw (drop-cons s i 0 h, length-drop, m, ← e, add-one i) refl
 
     doubled : 2 ^ (length s - i) ≡ p * 2
     unfolding p

@@ -1,24 +1,26 @@
 -- The account check (document 01, 'Account check'; 002, 3.2; decree 169/2011), and the open job.
-use Prim.Native.Nat.{ℕ, _+_, _-_, _*_, _%_}
+use Prim.Native.Nat.{ℕ, _+_, _-_, _*_, _%_, _^_}
+use mathlib.Core.Path.{_≡_}
 use mathlib.Core.Bool.{Bool, true, false, not, _&&_, cond}
 use mathlib.Core.List.{List, [], _∷_}
-use lib.ListN.{length, getD}
+use lib.ListN.{length}
 use lib.Dec.{eqb}
-use Rattle.laws.specs.Refusals.{Refusal, _if_}
+use Rattle.laws.specs.Refusals.{Refusal, _if_, first}
 use Rattle.text.specs.Digits.{value}
 use Rattle.figures.specs.declared.accounts.Account.{Account}
 use Rattle.figures.specs.declared.accounts.Account.the-variants.{Holds, Fails, NotDigits}
 use Rattle.figures.specs.declared.parts.Part.{Part}
 use Rattle.figures.specs.Layouts.{num, fits}
 
--- the weights of digits, counted from the right
-unfoldable pub weights : List ℕ
-weights = 1 ∷ 2 ∷ 4 ∷ 8 ∷ 5 ∷ 10 ∷ 9 ∷ 7 ∷ 3 ∷ 6 ∷ []
+-- the weight of a digit that k others follow (document 02, A6: 'powers of two by remainder of 11'); `as-listed` (proofs/Weights.antt)
+-- computes that for 0 to 9 they are document 01's 1, 2, 4, 8, 5, 10, 9, 7, 3, 6
+unfoldable pub weight : ℕ → ℕ
+weight k = 2 ^ k % 11
 
--- the sum of the digits of a part, each times its weight: as many digits follow it as weights stand before its own
+-- the sum of the digits of a part, each times its weight
 unfoldable pub weighed : List ℕ → ℕ
 weighed [] = 0
-weighed (b ∷ bs) = getD weights (length bs) 0 * (b - 48) + weighed bs
+weighed (b ∷ bs) = weight (length bs) * (b - 48) + weighed bs
 
 -- 'the sum divides by 11'; that of an empty part is 0
 unfoldable pub passes : List ℕ → Bool
@@ -61,3 +63,7 @@ abbrev pub accountValue : Account → Bool → Bool
 accountValue Holds old = true
 accountValue Fails old = false
 accountValue NotDigits old = old
+
+-- what the open job promises of its answer: document 01's number for it, and which of the three it is
+abbrev pub Judges : List ℕ → List ℕ → Account → Type 0
+Judges prefix number r = (accountNumber r ≡ first (accountRefusals prefix number)) × (r ≡ accountOf prefix number)

@@ -1,8 +1,7 @@
 // The account check, an open job, and its answer as document 01's number and value.
 use crate::parts;
 ghost use mathlib.Core.Path.{_≡_};
-ghost use Rattle.laws.specs.Refusals.{first};
-ghost use Rattle.figures.specs.Accounts.{accountBy, accountOf, accountRefusals, accountNumber, accountValue};
+ghost use Rattle.figures.specs.Accounts.{accountBy, accountNumber, accountValue, Judges};
 
 // Both parts hold; one does not; they are no 0 to 6 and 1 to 10 digits.
 pub enum Account {
@@ -25,8 +24,7 @@ fn account_by(digits: bool, hold: bool) -> Account
 
 // Whether the two parts of an account hold. Any bytes may be given.
 pub fn check(prefix: &[u8], number: &[u8]) -> Account
-    ensures answer { λ r. ⌜ r ≡ accountOf (now (prefix .entry)) (now (number .entry)) ⌝ }
-    ensures refusal { λ r. ⌜ accountNumber r ≡ first (accountRefusals (now (prefix .entry)) (now (number .entry))) ⌝ }
+    ensures { λ r. ⌜ Judges (now (prefix .entry)) (now (number .entry)) r ⌝ }
 {
     let a = parts::part_of(prefix, 6);
     let b = parts::part_of(number, 10);

@@ -1,5 +1,6 @@
 -- Reading a heading (document 01, 'Layouts'; 000, 3.1): which texts are one, and what they say.
 use Prim.Native.Nat.{ℕ}
+use mathlib.Core.Path.{_≡_}
 use mathlib.Core.Bool.{Bool, cond, not}
 use mathlib.Core.List.{List, [], _∷_}
 use lib.ListN.{getD}
@@ -44,3 +45,7 @@ readNumber Unreadable = 11
 -- '11: not 54 bytes in the heading layout'
 abbrev pub readRefusals : List ℕ → List Refusal
 readRefusals s = (11 if not (isHeading s)) ∷ []
+
+-- what reading promises of its answer: document 01's number for it, and the heading that the text says
+abbrev pub ReadsAs : List ℕ → Read → Type 0
+ReadsAs s r = (readNumber r ≡ first (readRefusals s)) × (r ≡ headingOf s)

@@ -1,5 +1,6 @@
 -- Writing a heading: its 54 bytes, and what a target holds after.
 use Prim.Native.Nat.{ℕ}
+use mathlib.Core.Path.{_≡_}
 use mathlib.Core.Bool.{Bool, cond, not}
 use mathlib.Core.List.{List, [], _∷_, _++_}
 use lib.ListN.{length, drop}
@@ -45,3 +46,7 @@ writeRefusals h room = (17 if not (fitsHeading h)) ∷ (16 if ltb room 54) ∷ [
 -- the target after writing
 unfoldable pub writtenTarget : Heading → List ℕ → List ℕ
 writtenTarget h target = targetAfter (first (writeRefusals h (length target))) (headingText h) target
+
+-- what writing promises of its answer, and of the target after it
+abbrev pub Writes : Heading → List ℕ → Written → List ℕ → Type 0
+Writes h target w after = (writtenNumber w ≡ first (writeRefusals h (length target))) × (after ≡ writtenTarget h target)

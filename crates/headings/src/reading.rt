@@ -6,12 +6,10 @@ use super::Read;
 use text::forms::has_form;
 use text::forms::part;
 ghost use mathlib.Core.Path.{_≡_};
-ghost use Rattle.laws.specs.Refusals.{first};
-ghost use Rattle.headings.specs.Reading.{headingOf, readNumber, readRefusals};
+ghost use Rattle.headings.specs.Reading.{readNumber, ReadsAs};
 
 pub fn read(text: &[u8]) -> Read
-    ensures number { λ r. ⌜ readNumber r ≡ first (readRefusals (now (text .entry))) ⌝ }
-    ensures answer { λ r. ⌜ r ≡ headingOf (now (text .entry)) ⌝ }
+    ensures { λ r. ⌜ ReadsAs (now (text .entry)) r ⌝ }
 {
     if has_form(
         b"HD:00 00000000 0000000 0000000 0000000 0000000 0000000",

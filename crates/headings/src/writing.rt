@@ -6,9 +6,8 @@ use text::strings::put;
 ghost use mathlib.Core.Path.{_≡_};
 ghost use Prim.Native.Nat.{_+_, _≤_};
 ghost use lib.ListN.{length};
-ghost use Rattle.laws.specs.Refusals.{first};
 ghost use Rattle.text.specs.Strings.{Wrote};
-ghost use Rattle.headings.specs.Writing.{fitsHeading, headingText, sevensText, writtenNumber, writeRefusals, writtenTarget};
+ghost use Rattle.headings.specs.Writing.{fitsHeading, headingText, sevensText, writtenNumber, Writes};
 
 pub enum Written {
     Done,
@@ -56,8 +55,7 @@ pub fn put_heading(out: &mut [u8], at: usize, h: Heading) -> usize
 
 // Writes a heading at a target's start, or leaves the target as it was.
 pub fn write(h: Heading, target: &mut [u8]) -> Written
-    ensures answer { λ r. ⌜ writtenNumber r ≡ first (writeRefusals h (length (now (target .entry)))) ⌝ }
-    ensures after { λ _. ⌜ now (target .exit) ≡ writtenTarget h (now (target .entry)) ⌝ }
+    ensures { λ r. ⌜ Writes h (now (target .entry)) r (now (target .exit)) ⌝ }
 {
     if !fits(h) {
         return Written::TooLarge;

@@ -1,32 +1,57 @@
--- What a C host finds behind its pointers after a call.
+-- What a C host is answered and finds behind its pointers after a call, each call's whole promise one record.
 use Prim.Native.Nat.{ℕ}
 use mathlib.Core.Path.{_≡_}
 use mathlib.Core.Bool.{cond}
 use mathlib.Core.List.{List}
 use lib.Dec.{eqb}
 use lib.ListN.{length}
+use lib.IntN.{ℤ}
 use Rattle.laws.specs.Refusals.{first}
+use Rattle.figures.specs.Accounts.{accountRefusals, accountHolds}
 use Rattle.ledger.specs.Faults.{Fault}
 use Rattle.items.specs.Faults.{faults}
 use Rattle.listing.specs.Checking.{checkRefusals, slicesAfter}
-use Rattle.outcomes.specs.Deriving.{tellRefusals, outgoingKind, recipient, granted, deriveRefusals, derivedTarget}
+use Rattle.outcomes.specs.Deriving.{tellRefusals, outgoingKind, recipient, deriveRefusals, derivedTarget}
+use Rattle.sheet.specs.Posting.{openRefusals, opened, postRefusals, posted}
 
--- the true total, or on a refusal what stood there
-abbrev pub totalAfter : ℕ → List Fault → ℕ → ℕ
-totalAfter refusal all before = cond (eqb refusal 0) (length all) before
+-- 'A refusal returns its number, no total, and changes no lent byte': a value, or on a refusal what stood there
+abbrev pub storedAt : ℕ → ℕ → ℕ → ℕ
+storedAt refusal value before = cond (eqb refusal 0) value before
 
--- the two slices after a check
-pub record ListedAt (file : List ℕ) (code day : ℕ) (ls₀ rs₀ ls rs : List ℕ) : Type 0 where
-  pub lines : ls ≡ slicesAfter (first (checkRefusals file code day (length ls₀) (length rs₀))) (λ (f : Fault). f .line) (faults code day file) ls₀
-  pub rules : rs ≡ slicesAfter (first (checkRefusals file code day (length ls₀) (length rs₀))) (λ (f : Fault). f .rule) (faults code day file) rs₀
+-- certis_total: the refusal or 0, and the true total
+pub record TotalAt (file : List ℕ) (code day before r after : ℕ) : Type 0 where
+  pub number : r ≡ first (checkRefusals file code day 0 0)
+  pub total : after ≡ storedAt r (length (faults code day file)) before
 
--- the answer of telling, and the outgoing type and the recipient's code after it
+-- certis_check: the same with two lent slices, and these
+pub record CheckedAt (file : List ℕ) (code day : ℕ) (ls₀ rs₀ : List ℕ) (before r : ℕ) (ls rs : List ℕ) (after : ℕ) : Type 0 where
+  pub number : r ≡ first (checkRefusals file code day (length ls₀) (length rs₀))
+  pub total : after ≡ storedAt r (length (faults code day file)) before
+  pub lines : ls ≡ slicesAfter r (λ (f : Fault). f .line) (faults code day file) ls₀
+  pub rules : rs ≡ slicesAfter r (λ (f : Fault). f .rule) (faults code day file) rs₀
+
+-- certis_tell: the refusal or 0, the outgoing type and the recipient's code
 pub record ToldAt (s : List ℕ) (o p kind₀ code₀ r kind₁ code₁ : ℕ) : Type 0 where
   pub number : r ≡ first (tellRefusals s o p)
-  pub kind : kind₁ ≡ granted (first (tellRefusals s o p)) (outgoingKind s o) kind₀
-  pub code : code₁ ≡ granted (first (tellRefusals s o p)) (recipient s o) code₀
+  pub kind : kind₁ ≡ storedAt r (outgoingKind s o) kind₀
+  pub code : code₁ ≡ storedAt r (recipient s o) code₀
 
--- the answer of deriving, and the target after it
+-- certis_derive: the refusal or 0, and the target
 pub record DerivedAt (s : List ℕ) (o p n : ℕ) (t₀ : List ℕ) (r : ℕ) (t : List ℕ) : Type 0 where
   pub number : r ≡ first (deriveRefusals s o p (record { 0 = n }) (length t₀))
   pub target : t ≡ derivedTarget s o p (record { 0 = n }) t₀
+
+-- certis_account: the refusal or 0, and 1 where both parts hold, 0 where one does not
+pub record AccountAt (prefix number : List ℕ) (before r after : ℕ) : Type 0 where
+  pub refusal : r ≡ first (accountRefusals prefix number)
+  pub good : after ≡ storedAt r (cond (accountHolds prefix number) 1 0) before
+
+-- certis_sheet_open: the refusal or 0, and the 256 turnovers
+pub record OpenedAt (codes : List ℕ) (before : List ℤ) (r : ℕ) (after : List ℤ) : Type 0 where
+  pub number : r ≡ first (openRefusals codes)
+  pub turnovers : after ≡ opened codes before
+
+-- certis_sheet_post: the refusal or 0, and the 256 turnovers
+pub record PostedAt (codes : List ℕ) (before : List ℤ) (file : List ℕ) (code day r : ℕ) (after : List ℤ) : Type 0 where
+  pub number : r ≡ first (postRefusals codes before file code day)
+  pub turnovers : after ≡ posted codes before file code day

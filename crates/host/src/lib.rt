@@ -1,32 +1,63 @@
 // The C face: numbers and bytes only. Each function answers 0, or the number of the refusal by document 01, and a refusal leaves
-// everything behind the pointers as it was. The promises are those of the jobs below, said with numbers: `listing` for checking,
-// `outcomes` for telling and deriving, `figures` for the account check, `sheet` for the turnovers.
+// everything behind the pointers as it was: a total or an answer is stored where nothing is refused, and is never loaded. The promises
+// are those of the jobs below, said with numbers: `listing` for checking, `outcomes` for telling and deriving, `figures` for the account
+// check, `sheet` for the turnovers.
 use figures::accounts;
 use headings::ItemNo;
 use listing::checking;
+use listing::checking::Checked;
 use sheet::opening;
 use sheet::posting;
 use sheet::showing;
 ghost use mathlib.Core.Path.{_≡_};
 ghost use mathlib.Core.Bool.{cond};
 ghost use lib.Dec.{eqb};
-ghost use lib.ListN.{length};
-ghost use Rattle.laws.specs.Refusals.{first};
-ghost use Rattle.figures.specs.Accounts.{accountRefusals, accountHolds};
-ghost use Rattle.items.specs.Faults.{faults};
-ghost use Rattle.listing.specs.Checking.{checkRefusals};
-ghost use Rattle.sheet.specs.Posting.{openRefusals, opened, postRefusals, posted};
+ghost use Rattle.listing.specs.Checking.{checkedNumber, checkedOr};
 ghost use Rattle.sheet.specs.Shown.{Shows};
-ghost use Rattle.host.specs.Face.{totalAfter, ListedAt, ToldAt, DerivedAt};
+ghost use Rattle.host.specs.Face.{TotalAt, CheckedAt, ToldAt, DerivedAt, AccountAt, OpenedAt, PostedAt};
+
+// A total behind a pointer, where the job is done.
+fn store_total(at: &mut u64, done: bool, total: u64)
+    ensures { λ _. ⌜ now (at .exit) ≡ cond done total (now (at .entry)) ⌝ }
+{
+    if done {
+        *at = total;
+    }
+}
+
+// The refusal of a check, 0 for none; then its total stands behind the pointer.
+fn leave_total(answer: Checked, total: &mut u64) -> u32
+    ensures number { λ r. ⌜ r ≡ checkedNumber answer ⌝ }
+    ensures after { λ _. ⌜ now (total .exit) ≡ cond (eqb (checkedNumber answer) 0) (checkedOr answer 0) (now (total .entry)) ⌝ }
+{
+    let refusal = checking::number_of(answer);
+    let sum = checking::total_or(answer, 0);
+    store_total(total, refusal == 0, sum);
+    refusal
+}
+
+// A number behind a pointer, where the job is done.
+fn store_answer(at: &mut u32, done: bool, answer: u32)
+    ensures { λ _. ⌜ now (at .exit) ≡ cond done answer (now (at .entry)) ⌝ }
+{
+    if done {
+        *at = answer;
+    }
+}
+
+// 1 for yes, 0 for no.
+fn one_if(yes: bool) -> u32
+    ensures { λ r. ⌜ r ≡ cond yes 1 0 ⌝ }
+{
+    if yes { 1 } else { 0 }
+}
 
 #[no_mangle]
 pub extern "C" fn certis_total(file: &[u8], code: u32, day: u32, total: &mut u64) -> u32
-    ensures number { λ r. ⌜ r ≡ first (checkRefusals (now (file .entry)) code day 0 0) ⌝ }
-    ensures after { λ _. ⌜ now (total .exit) ≡ totalAfter (first (checkRefusals (now (file .entry)) code day 0 0)) (faults code day (now (file .entry))) (now (total .entry)) ⌝ }
+    ensures { λ r. ⌜ TotalAt (now (file .entry)) code day (now (total .entry)) r (now (total .exit)) ⌝ }
 {
     let answer = checking::total(file, code, day);
-    *total = checking::total_or(answer, *total);
-    checking::number_of(answer)
+    leave_total(answer, total)
 }
 
 #[no_mangle]
@@ -38,13 +69,10 @@ pub extern "C" fn certis_check(
     rules: &mut [u32],
     total: &mut u64,
 ) -> u32
-    ensures number { λ r. ⌜ r ≡ first (checkRefusals (now (file .entry)) code day (length (now (lines .entry))) (length (now (rules .entry)))) ⌝ }
-    ensures after { λ _. ⌜ now (total .exit) ≡ totalAfter (first (checkRefusals (now (file .entry)) code day (length (now (lines .entry))) (length (now (rules .entry))))) (faults code day (now (file .entry))) (now (total .entry)) ⌝ }
-    ensures listed { λ _. ⌜ ListedAt (now (file .entry)) code day (now (lines .entry)) (now (rules .entry)) (now (lines .exit)) (now (rules .exit)) ⌝ }
+    ensures { λ r. ⌜ CheckedAt (now (file .entry)) code day (now (lines .entry)) (now (rules .entry)) (now (total .entry)) r (now (lines .exit)) (now (rules .exit)) (now (total .exit)) ⌝ }
 {
     let answer = checking::check(file, code, day, lines, rules);
-    *total = checking::total_or(answer, *total);
-    checking::number_of(answer)
+    leave_total(answer, total)
 }
 
 #[no_mangle]
@@ -58,9 +86,10 @@ pub extern "C" fn certis_tell(
     ensures { λ r. ⌜ ToldAt (now (heading .entry)) outcome standing (now (kind .entry)) (now (recipient .entry)) r (now (kind .exit)) (now (recipient .exit)) ⌝ }
 {
     let answer = outcomes::tell(heading, outcome, standing);
-    *kind = outcomes::told_kind(answer, *kind);
-    *recipient = outcomes::told_recipient(answer, *recipient);
-    outcomes::told_number(answer)
+    let refusal = outcomes::told_number(answer);
+    store_answer(kind, refusal == 0, outcomes::told_kind(answer, 0));
+    store_answer(recipient, refusal == 0, outcomes::told_recipient(answer, 0));
+    refusal
 }
 
 #[no_mangle]
@@ -77,21 +106,21 @@ pub extern "C" fn certis_derive(
 }
 
 #[no_mangle]
-pub extern "C" fn certis_account(prefix: &[u8], number: &[u8], good: &mut bool) -> u32
-    ensures number { λ r. ⌜ r ≡ first (accountRefusals (now (prefix .entry)) (now (number .entry))) ⌝ }
-    ensures after { λ _. ⌜ now (good .exit) ≡ cond (eqb (first (accountRefusals (now (prefix .entry)) (now (number .entry)))) 0) (accountHolds (now (prefix .entry)) (now (number .entry))) (now (good .entry)) ⌝ }
+pub extern "C" fn certis_account(prefix: &[u8], number: &[u8], good: &mut u32) -> u32
+    ensures { λ r. ⌜ AccountAt (now (prefix .entry)) (now (number .entry)) (now (good .entry)) r (now (good .exit)) ⌝ }
 {
     let answer = accounts::check(prefix, number);
-    *good = accounts::value_of(answer, *good);
-    accounts::number_of(answer)
+    let refusal = accounts::number_of(answer);
+    let holds = accounts::value_of(answer, false);
+    store_answer(good, refusal == 0, one_if(holds));
+    refusal
 }
 
 // A new sheet for at most 64 participants: of participant i, [4 * i] is the debit, [4 * i + 1] the credit, and the next two the same on
 // the second sheet.
 #[no_mangle]
 pub extern "C" fn certis_sheet_open(codes: &[u32], turnovers: &mut [i64; 256]) -> u32
-    ensures number { λ r. ⌜ r ≡ first (openRefusals (now (codes .entry))) ⌝ }
-    ensures after { λ _. ⌜ now (turnovers .exit) ≡ opened (now (codes .entry)) (now (turnovers .entry)) ⌝ }
+    ensures { λ r. ⌜ OpenedAt (now (codes .entry)) (now (turnovers .entry)) r (now (turnovers .exit)) ⌝ }
 {
     opening::number_of(opening::open(codes, turnovers))
 }
@@ -104,8 +133,7 @@ pub extern "C" fn certis_sheet_post(
     code: u32,
     day: u32,
 ) -> u32
-    ensures number { λ r. ⌜ r ≡ first (postRefusals (now (codes .entry)) (now (turnovers .entry)) (now (file .entry)) code day) ⌝ }
-    ensures after { λ _. ⌜ now (turnovers .exit) ≡ posted (now (codes .entry)) (now (turnovers .entry)) (now (file .entry)) code day ⌝ }
+    ensures { λ r. ⌜ PostedAt (now (codes .entry)) (now (turnovers .entry)) (now (file .entry)) code day r (now (turnovers .exit)) ⌝ }
 {
     posting::number_of(posting::post(codes, turnovers, file, code, day))
 }

@@ -1,4 +1,6 @@
 use mathlib.Core.Path.{_∙_}
+use Prim.Native.Nat.{ℕ}
+use Rattle.host.proofs.Stored.{stored}
 use borrow.Author.Needs.{needs}
 use Rattle.host.proofs.certis_check.Statement.{statement}
 use Rattle.host.proofs.certis_check.Tie as tie
@@ -6,11 +8,8 @@ use Rattle.host.proofs.certis_check.Tie as tie
 check-requires : tie.Need-check-requires
 check-requires c κs = search needs
 
-total-or-requires : tie.Need-total-or-requires
-total-or-requires c κs = search needs
-
-number-of-requires : tie.Need-number-of-requires
-number-of-requires c κs = search needs
+leave-total-requires : tie.Need-leave-total-requires
+leave-total-requires c κs = search needs
 
 same-length : tie.Need-same-length
 same-length c = search needs
@@ -19,15 +18,16 @@ same-length-2 : tie.Need-same-length-2
 same-length-2 c = search needs
 
 returns : tie.Need-returns
-returns c = (c .number-of .ensures ∙ c .before .before .before .before .before .before .before .check .ensures .number, (c .before .total-or .ensures ∙ c .before .before .before .before .before .before .before .check .ensures .total (c .before .before .before .before .before .before .before .before .before .before .before .before .before .args .total .now), record { lines = c .before .before .before .before .before .before .before .check .ensures .lines; rules = c .before .before .before .before .before .before .before .check .ensures .rules }))
+returns c =
+    let k = c .before .before .before .before .before .before in
+    let e = c .leave-total .ensures .0 ∙ k .check .ensures .number in
+    record {
+      number = e;
+      total = rw (c .leave-total .ensures .0) (c .leave-total .ensures .1 ∙ stored (λ (x : ℕ). x) _ 0 _ (k .check .ensures .number) (k .check .ensures .total 0));
+      lines = rw e (k .check .ensures .lines);
+      rules = rw e (k .check .ensures .rules);
+    }
 
 pub certis-check-spec : {M : Type 1} → statement M
 certis-check-spec =
-    tie.close
-    (tie.spec
-    check-requires
-    total-or-requires
-    number-of-requires
-    same-length
-    same-length-2
-    returns)
+    tie.close (tie.spec check-requires leave-total-requires same-length same-length-2 returns)

@@ -170,11 +170,12 @@ impl Judge {
         if let Err(refusal) = answer {
             self.tally.refusal(refusal);
         }
-        // Both values beforehand: one of them would show a write.
-        for before in [false, true] {
+        // Neither answer beforehand, then both: a write and one left out would show.
+        for before in [u32::MAX, 0, 1] {
             let mut good = before;
             let found = face::account(prefix, number, &mut good);
-            if found != answer.err().unwrap_or(0) || good != answer.unwrap_or(before) {
+            let expected = answer.map_or(before, u32::from);
+            if found != answer.err().unwrap_or(0) || good != expected {
                 self.fail(|| report::account(prefix, number, answer, (found, before, good)));
             }
         }

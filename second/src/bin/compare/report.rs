@@ -93,7 +93,7 @@ pub fn account(
     prefix: &[u8],
     number: &[u8],
     expected: Result<bool, u32>,
-    (found, before, after): (u32, bool, bool),
+    (found, before, after): (u32, u32, u32),
 ) -> String {
     let (prefix, number) = (shown(prefix), shown(number));
     format!(

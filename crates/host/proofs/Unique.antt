@@ -1,0 +1,52 @@
+-- Each call's statement determines its answer and what stands behind the pointers after it: two that meet it are equal.
+use mathlib.Core.Path.{_≡_, sym, ap, _∙_}
+use mathlib.Core.Bool.{cond}
+use mathlib.Core.List.{List}
+use Prim.Native.Nat.{ℕ}
+use lib.ListN.{length}
+use Rattle.ledger.specs.Faults.{Fault}
+use Rattle.items.specs.Faults.{faults}
+use Rattle.listing.specs.Checking.{slicesAfter}
+use Rattle.figures.specs.Accounts.{accountHolds}
+use lib.IntN.{ℤ}
+use Rattle.outcomes.specs.Deriving.{outgoingKind, recipient}
+use Rattle.host.specs.Face.{storedAt, TotalAt, CheckedAt, ToldAt, DerivedAt, AccountAt, OpenedAt, PostedAt}
+
+pub total-unique : {file : List ℕ} {code day before r r′ after after′ : ℕ} → TotalAt file code day before r after → TotalAt file code day before r′ after′ → (r ≡ r′) × (after ≡ after′)
+total-unique {file} {code} {day} {before} C D =
+    let e = C .number ∙ sym (D .number) in
+    (e, C .total ∙ ap (λ (k : ℕ). storedAt k (length (faults code day file)) before) e ∙ sym (D .total))
+
+pub checked-unique : {file : List ℕ} {code day : ℕ} {ls₀ rs₀ : List ℕ} {before r r′ : ℕ} {ls ls′ rs rs′ : List ℕ} {after after′ : ℕ} → CheckedAt file code day ls₀ rs₀ before r ls rs after → CheckedAt file code day ls₀ rs₀ before r′ ls′ rs′ after′
+    → (r ≡ r′) × (ls ≡ ls′) × (rs ≡ rs′) × (after ≡ after′)
+checked-unique {file} {code} {day} {ls₀} {rs₀} {before} C D =
+    let e = C .number ∙ sym (D .number) in (
+      e,
+      C .lines ∙ ap (λ (k : ℕ). slicesAfter k (λ (f : Fault). f .line) (faults code day file) ls₀) e ∙ sym (D .lines),
+      C .rules ∙ ap (λ (k : ℕ). slicesAfter k (λ (f : Fault). f .rule) (faults code day file) rs₀) e ∙ sym (D .rules),
+      C .total ∙ ap (λ (k : ℕ). storedAt k (length (faults code day file)) before) e ∙ sym (D .total),
+    )
+
+pub told-unique : {s : List ℕ} {o p kind₀ code₀ r r′ kind kind′ code code′ : ℕ} → ToldAt s o p kind₀ code₀ r kind code → ToldAt s o p kind₀ code₀ r′ kind′ code′
+    → (r ≡ r′) × (kind ≡ kind′) × (code ≡ code′)
+told-unique {s} {o} {p} {kind₀} {code₀} C D =
+    let e = C .number ∙ sym (D .number) in (
+      e,
+      C .kind ∙ ap (λ (k : ℕ). storedAt k (outgoingKind s o) kind₀) e ∙ sym (D .kind),
+      C .code ∙ ap (λ (k : ℕ). storedAt k (recipient s o) code₀) e ∙ sym (D .code),
+    )
+
+pub derived-unique : {s : List ℕ} {o p n : ℕ} {t₀ : List ℕ} {r r′ : ℕ} {t t′ : List ℕ} → DerivedAt s o p n t₀ r t → DerivedAt s o p n t₀ r′ t′ → (r ≡ r′) × (t ≡ t′)
+derived-unique C D = (C .number ∙ sym (D .number), C .target ∙ sym (D .target))
+
+pub account-unique : {prefix number : List ℕ} {before r r′ after after′ : ℕ} → AccountAt prefix number before r after → AccountAt prefix number before r′ after′ → (r ≡ r′) × (after ≡ after′)
+account-unique {prefix} {number} {before} C D =
+    let e = C .refusal ∙ sym (D .refusal) in
+    (e, C .good ∙ ap (λ (k : ℕ). storedAt k (cond (accountHolds prefix number) 1 0) before) e ∙ sym (D .good))
+
+pub opened-unique : {codes : List ℕ} {before : List ℤ} {r r′ : ℕ} {after after′ : List ℤ} → OpenedAt codes before r after → OpenedAt codes before r′ after′ → (r ≡ r′) × (after ≡ after′)
+opened-unique C D = (C .number ∙ sym (D .number), C .turnovers ∙ sym (D .turnovers))
+
+pub posted-unique : {codes : List ℕ} {before : List ℤ} {file : List ℕ} {code day r r′ : ℕ} {after after′ : List ℤ} → PostedAt codes before file code day r after → PostedAt codes before file code day r′ after′
+    → (r ≡ r′) × (after ≡ after′)
+posted-unique C D = (C .number ∙ sym (D .number), C .turnovers ∙ sym (D .turnovers))
