@@ -1,5 +1,6 @@
 -- Deriving (document 01, amended by A12): the refusals in their order, the heading that goes out, what telling answers of it, and what
--- the target holds after. A sender's standing is 1 direct or 2 third party.
+-- the target holds after. Below, s is a heading's text, o an outcome, p the sender's standing (1 direct, 2 third party), n an output
+-- number, t₀ and t a target before and after.
 use Prim.Native.Nat.{ℕ}
 use mathlib.Core.Path.{_≡_}
 use mathlib.Core.Bool.{Bool, true, cond, not, _&&_, _||_}
@@ -24,11 +25,11 @@ use Rattle.outcomes.specs.declared.Derived.{Derived}
 use Rattle.outcomes.specs.declared.Derived.the-variants as derived
 use Rattle.outcomes.specs.Outcomes.{outgoing, codes, inClass}
 
--- 'a 51, or breaks rule 10, 13 or 14'
+-- '12: a 51, or breaks rule 10, 13 or 14'
 unfoldable pub barred : Heading → Bool
 barred h = isClosing (h .kind) || (rule10 h || (rule13 h || rule14 h))
 
--- '12'; and 'A third party may send only 35, 37 and 45; its other headings are refused with 12'
+-- or not this sender's: 'A third party may send only 35, 37 and 45; its other headings are refused with 12'
 unfoldable pub barredTo : ℕ → Heading → Bool
 barredTo p h = barred h || (eqb p 2 && not (isTrilateral (h .kind)))
 
@@ -66,6 +67,7 @@ numbered h n =
 abbrev pub turnRefusals : Heading → ℕ → ℕ → List Refusal
 turnRefusals h o p = (12 if barredTo p h) ∷ (13 if not (isOutcome o && isStanding p)) ∷ (14 if isMissing p (h .kind) o) ∷ []
 
+-- document 01's number for each answer of the first step
 abbrev pub turnNumber : Turned → ℕ
 turnNumber (turning.To g) = 0
 turnNumber turning.Barred = 12
