@@ -66,25 +66,43 @@ uint32_t certis_check(const uint8_t *file, size_t file_len,
                       uint32_t *rules, size_t rules_len,
                       uint64_t *total);
 
-/* Deriving an outgoing heading.
+/* Telling what would go out.
  *
- * Takes the text of an input heading, its outcome and an output number, and
- * writes the outgoing heading into the first 54 bytes of target; a longer
- * target keeps its other bytes. Outcomes: 1 beneficiary, payment made;
- * 2 beneficiary, no funds; 3 payer, payment made; 4 payer, no funds; 5 sender,
- * payment made; 6 sender, no funds; 7 formal error.
+ * Takes the text of an input heading, its outcome and the sender's standing,
+ * and sets *type to the outgoing type and *recipient to the recipient's code:
+ * the second code of the heading that certis_derive would write. No output
+ * number is spent. Outcomes: 1 beneficiary, payment made; 2 beneficiary, no
+ * funds; 3 payer, payment made; 4 payer, no funds; 5 sender, payment made;
+ * 6 sender, no funds; 7 formal error. Standings: 1 direct; 2 third party.
  *
  * Refusals, the first that applies:
  *   11  the text is not 54 bytes in the layout of a heading
- *   12  it is a 51, or breaks rule 10, 13 or 14
- *   13  the outcome is not 1 to 7
- *   14  the table of outgoing types has no entry for the type and the outcome
+ *   12  it is a 51, or breaks rule 10, 13 or 14; or the sender is a third party
+ *       and the type is not 35, 37 or 45
+ *   13  the outcome is not 1 to 7, or the standing is not 1 or 2
+ *   14  the table of outgoing types has no entry for the type and the outcome;
+ *       or the sender is direct, the type 45, and the outcome 5 or 6
+ */
+uint32_t certis_tell(const uint8_t *heading, size_t heading_len,
+                     uint32_t outcome, uint32_t standing,
+                     uint32_t *type, uint32_t *recipient);
+
+/* Deriving an outgoing heading.
+ *
+ * Takes what certis_tell takes and an output number, and writes the outgoing
+ * heading into the first 54 bytes of target; a longer target keeps its other
+ * bytes. Where certis_tell refuses, this refuses with the same number; where it
+ * does not, this refuses with 15 or 16 alone, or writes a heading of the type
+ * and to the recipient that it told.
+ *
+ * Refusals, the first that applies:
+ *   11 to 14, as above
  *   15  the output number is not in the class of the input type: 1 to 5,000,000;
  *       for 01, 21 and 45 5,000,001 to 9,000,000; for 44 9,000,001 to 9,999,999
  *   16  the target has fewer than 54 bytes
  */
 uint32_t certis_derive(const uint8_t *heading, size_t heading_len,
-                       uint32_t outcome, uint32_t number,
+                       uint32_t outcome, uint32_t standing, uint32_t number,
                        uint8_t *target, size_t target_len);
 
 /* The account check.

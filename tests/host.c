@@ -253,6 +253,7 @@ static const char HEADING_12[] = "HD:12 20240304 0000300 0000017 0000710 0000000
 static const char HEADING_35[] = "HD:35 20240304 0000990 0000001 0000300 0000000 0000710";
 static const char HEADING_01[] = "HD:01 20240304 0000300 0000001 0000710 0000000 0000000";
 static const char HEADING_44[] = "HD:44 20240304 0000300 0000001 0000710 0000000 0000000";
+static const char HEADING_45[] = "HD:45 20240304 0000990 0000001 0000300 0000000 0000710";
 static const char HEADING_51[] = "HD:51 20240304 0000300 0000000 0000999 0000000 0000000";
 
 /* Whether the target is as it was but for the given number of lent bytes. */
@@ -267,78 +268,130 @@ static bool target_kept(const uint8_t *target, size_t written)
     return true;
 }
 
-static void derives(const char *heading, uint32_t outcome, uint32_t number, size_t room, const char *derived)
+static void derives(const char *heading, uint32_t outcome, uint32_t standing, uint32_t number, size_t room,
+                    const char *derived)
 {
     uint8_t target[PLACES];
     memset(target, BYTE_PATTERN, sizeof target);
-    uint32_t refusal = certis_derive(bytes_of(heading), strlen(heading), outcome, number, target + EDGE, room);
+    uint32_t refusal =
+        certis_derive(bytes_of(heading), strlen(heading), outcome, standing, number, target + EDGE, room);
     expect(refusal == 0 && memcmp(target + EDGE, derived, HEADING) == 0 && target_kept(target, HEADING), derived);
 }
 
 static void derive_refuses(const char *what, uint32_t refusal, const char *heading, uint32_t outcome,
-                           uint32_t number, size_t room)
+                           uint32_t standing, uint32_t number, size_t room)
 {
     uint8_t target[PLACES];
     memset(target, BYTE_PATTERN, sizeof target);
-    expect(certis_derive(bytes_of(heading), strlen(heading), outcome, number, target + EDGE, room) == refusal
+    expect(certis_derive(bytes_of(heading), strlen(heading), outcome, standing, number, target + EDGE, room) == refusal
                && target_kept(target, 0),
            what);
 }
 
 static void test_derive(void)
 {
-    derives(HEADING_12, 6, 42, HEADING, "HD:62 20240304 0000300 0000017 0000300 0000042 0000710");
-    derives(HEADING_12, 6, 42, HEADING + 6, "HD:62 20240304 0000300 0000017 0000300 0000042 0000710");
-    derives(HEADING_12, 1, 1, HEADING, "HD:12 20240304 0000300 0000017 0000710 0000001 0000000");
-    derives(HEADING_12, 7, 5000000, HEADING, "HD:72 20240304 0000300 0000017 0000300 5000000 0000710");
-    derives(HEADING_35, 1, 7, HEADING, "HD:16 20240304 0000990 0000001 0000710 0000007 0000300");
-    derives(HEADING_35, 4, 7, HEADING, "HD:65 20240304 0000990 0000001 0000300 0000007 0000710");
-    derives(HEADING_35, 7, 7, HEADING, "HD:75 20240304 0000300 0000001 0000990 0000007 0000710");
-    derives(HEADING_01, 1, 5000001, HEADING, "HD:01 20240304 0000300 0000001 0000710 5000001 0000000");
-    derives(HEADING_01, 6, 9000000, HEADING, "HD:61 20240304 0000300 0000001 0000300 9000000 0000710");
-    derives(HEADING_44, 1, 9000001, HEADING, "HD:44 20240304 0000300 0000001 0000710 9000001 0000000");
-    derives(HEADING_44, 7, 9999999, HEADING, "HD:84 20240304 0000300 0000001 0000300 9999999 0000710");
-    derives("HD:11 20239999 9999999 0000001 0000710 0000000 0000000", 1, 1, HEADING,
+    derives(HEADING_12, 6, 1, 42, HEADING, "HD:62 20240304 0000300 0000017 0000300 0000042 0000710");
+    derives(HEADING_12, 6, 1, 42, HEADING + 6, "HD:62 20240304 0000300 0000017 0000300 0000042 0000710");
+    derives(HEADING_12, 1, 1, 1, HEADING, "HD:12 20240304 0000300 0000017 0000710 0000001 0000000");
+    derives(HEADING_12, 7, 1, 5000000, HEADING, "HD:72 20240304 0000300 0000017 0000300 5000000 0000710");
+    derives(HEADING_35, 1, 1, 7, HEADING, "HD:16 20240304 0000990 0000001 0000710 0000007 0000300");
+    derives(HEADING_35, 4, 1, 7, HEADING, "HD:65 20240304 0000990 0000001 0000300 0000007 0000710");
+    derives(HEADING_35, 7, 1, 7, HEADING, "HD:75 20240304 0000300 0000001 0000990 0000007 0000710");
+    derives(HEADING_01, 1, 1, 5000001, HEADING, "HD:01 20240304 0000300 0000001 0000710 5000001 0000000");
+    derives(HEADING_01, 6, 1, 9000000, HEADING, "HD:61 20240304 0000300 0000001 0000300 9000000 0000710");
+    derives(HEADING_44, 1, 1, 9000001, HEADING, "HD:44 20240304 0000300 0000001 0000710 9000001 0000000");
+    derives(HEADING_44, 7, 1, 9999999, HEADING, "HD:84 20240304 0000300 0000001 0000300 9999999 0000710");
+    derives("HD:11 20239999 9999999 0000001 0000710 0000000 0000000", 1, 1, 1, HEADING,
             "HD:11 20239999 9999999 0000001 0000710 0000001 0000000");
 }
 
 static void test_bad_headings(void)
 {
-    derive_refuses("11: no byte", 11, "", 6, 42, HEADING);
-    derive_refuses("11: 53 bytes", 11, "HD:12 20240304 0000300 0000017 0000710 0000000 000000", 6, 42, HEADING);
-    derive_refuses("11: 55 bytes", 11, "HD:12 20240304 0000300 0000017 0000710 0000000 0000000 ", 6, 42, HEADING);
-    derive_refuses("11: a letter", 11, "HD:12 20240304 0000300 00000I7 0000710 0000000 0000000", 6, 42, HEADING);
-    derive_refuses("11: no space", 11, "HD:12 20240304 0000300-0000017 0000710 0000000 0000000", 6, 42, HEADING);
-    derive_refuses("11 before 16", 11, "HD:", 9, 0, 0);
-    derive_refuses("12: a 51", 12, HEADING_51, 1, 1, HEADING);
-    derive_refuses("12: type 02", 12, "HD:02 20240304 0000300 0000017 0000710 0000000 0000000", 1, 1, HEADING);
-    derive_refuses("12: an output number", 12, "HD:12 20240304 0000300 0000017 0000710 0000001 0000000", 1, 1, HEADING);
-    derive_refuses("12: no second code", 12, "HD:12 20240304 0000300 0000017 0000000 0000000 0000000", 1, 1, HEADING);
-    derive_refuses("12: a third code", 12, "HD:12 20240304 0000300 0000017 0000710 0000000 0000001", 1, 1, HEADING);
-    derive_refuses("12: no third code", 12, "HD:35 20240304 0000990 0000001 0000300 0000000 0000000", 1, 1, HEADING);
-    derive_refuses("12 before 13", 12, HEADING_51, 9, 1, HEADING);
+    derive_refuses("11: no byte", 11, "", 6, 1, 42, HEADING);
+    derive_refuses("11: 53 bytes", 11, "HD:12 20240304 0000300 0000017 0000710 0000000 000000", 6, 1, 42, HEADING);
+    derive_refuses("11: 55 bytes", 11, "HD:12 20240304 0000300 0000017 0000710 0000000 0000000 ", 6, 1, 42, HEADING);
+    derive_refuses("11: a letter", 11, "HD:12 20240304 0000300 00000I7 0000710 0000000 0000000", 6, 1, 42, HEADING);
+    derive_refuses("11: no space", 11, "HD:12 20240304 0000300-0000017 0000710 0000000 0000000", 6, 1, 42, HEADING);
+    derive_refuses("11 before 16", 11, "HD:", 9, 1, 0, 0);
+    derive_refuses("12: a 51", 12, HEADING_51, 1, 1, 1, HEADING);
+    derive_refuses("12: type 02", 12, "HD:02 20240304 0000300 0000017 0000710 0000000 0000000", 1, 1, 1, HEADING);
+    derive_refuses("12: an output number", 12, "HD:12 20240304 0000300 0000017 0000710 0000001 0000000", 1, 1, 1, HEADING);
+    derive_refuses("12: no second code", 12, "HD:12 20240304 0000300 0000017 0000000 0000000 0000000", 1, 1, 1, HEADING);
+    derive_refuses("12: a third code", 12, "HD:12 20240304 0000300 0000017 0000710 0000000 0000001", 1, 1, 1, HEADING);
+    derive_refuses("12: no third code", 12, "HD:35 20240304 0000990 0000001 0000300 0000000 0000000", 1, 1, 1, HEADING);
+    derive_refuses("12 before 13", 12, HEADING_51, 9, 1, 1, HEADING);
 }
 
 static void test_bad_outcomes(void)
 {
-    derive_refuses("13: outcome 0", 13, HEADING_12, 0, 42, HEADING);
-    derive_refuses("13: outcome 8", 13, HEADING_12, 8, 42, HEADING);
-    derive_refuses("13: the largest outcome", 13, HEADING_12, UINT32_MAX, 42, HEADING);
-    derive_refuses("13 before 15", 13, HEADING_12, 9, 0, HEADING);
-    derive_refuses("14: a 12, outcome 2", 14, HEADING_12, 2, 42, HEADING);
-    derive_refuses("14: a 35, outcome 5", 14, HEADING_35, 5, 7, HEADING);
-    derive_refuses("14: a 44, outcome 6", 14, HEADING_44, 6, 9000001, HEADING);
-    derive_refuses("14 before 15", 14, HEADING_12, 2, 0, HEADING);
-    derive_refuses("15: number 0", 15, HEADING_12, 6, 0, HEADING);
-    derive_refuses("15: a 12, 5000001", 15, HEADING_12, 6, 5000001, HEADING);
-    derive_refuses("15: an 01, 5000000", 15, HEADING_01, 1, 5000000, HEADING);
-    derive_refuses("15: an 01, 9000001", 15, HEADING_01, 1, 9000001, HEADING);
-    derive_refuses("15: a 44, 9000000", 15, HEADING_44, 1, 9000000, HEADING);
-    derive_refuses("15: a 44, 10000000", 15, HEADING_44, 1, 10000000, HEADING);
-    derive_refuses("15: the largest number", 15, HEADING_12, 6, UINT32_MAX, HEADING);
-    derive_refuses("15 before 16", 15, HEADING_12, 6, 0, 0);
-    derive_refuses("16: room for 53", 16, HEADING_12, 6, 42, HEADING - 1);
-    derive_refuses("16: no room", 16, HEADING_12, 6, 42, 0);
+    derive_refuses("13: outcome 0", 13, HEADING_12, 0, 1, 42, HEADING);
+    derive_refuses("13: outcome 8", 13, HEADING_12, 8, 1, 42, HEADING);
+    derive_refuses("13: the largest outcome", 13, HEADING_12, UINT32_MAX, 1, 42, HEADING);
+    derive_refuses("13 before 15", 13, HEADING_12, 9, 1, 0, HEADING);
+    derive_refuses("14: a 12, outcome 2", 14, HEADING_12, 2, 1, 42, HEADING);
+    derive_refuses("14: a 35, outcome 5", 14, HEADING_35, 5, 1, 7, HEADING);
+    derive_refuses("14: a 44, outcome 6", 14, HEADING_44, 6, 1, 9000001, HEADING);
+    derive_refuses("14 before 15", 14, HEADING_12, 2, 1, 0, HEADING);
+    derive_refuses("15: number 0", 15, HEADING_12, 6, 1, 0, HEADING);
+    derive_refuses("15: a 12, 5000001", 15, HEADING_12, 6, 1, 5000001, HEADING);
+    derive_refuses("15: an 01, 5000000", 15, HEADING_01, 1, 1, 5000000, HEADING);
+    derive_refuses("15: an 01, 9000001", 15, HEADING_01, 1, 1, 9000001, HEADING);
+    derive_refuses("15: a 44, 9000000", 15, HEADING_44, 1, 1, 9000000, HEADING);
+    derive_refuses("15: a 44, 10000000", 15, HEADING_44, 1, 1, 10000000, HEADING);
+    derive_refuses("15: the largest number", 15, HEADING_12, 6, 1, UINT32_MAX, HEADING);
+    derive_refuses("15 before 16", 15, HEADING_12, 6, 1, 0, 0);
+    derive_refuses("16: room for 53", 16, HEADING_12, 6, 1, 42, HEADING - 1);
+    derive_refuses("16: no room", 16, HEADING_12, 6, 1, 42, 0);
+}
+
+/* Telling, and the sender's standing */
+
+/* A refusal leaves both numbers as they were. */
+static void tells(const char *what, uint32_t refusal, const char *heading, uint32_t outcome, uint32_t standing,
+                  uint32_t kind, uint32_t recipient)
+{
+    uint32_t told[2] = {777, 888};
+    uint32_t found = certis_tell(bytes_of(heading), strlen(heading), outcome, standing, &told[0], &told[1]);
+    expect(found == refusal && told[0] == (refusal == 0 ? kind : 777) && told[1] == (refusal == 0 ? recipient : 888), what);
+}
+
+static void test_tell(void)
+{
+    tells("a 12, outcome 6: 62 to 300", 0, HEADING_12, 6, 1, 62, 300);
+    tells("a 12, outcome 1: 12 to 710", 0, HEADING_12, 1, 1, 12, 710);
+    tells("a 35, outcome 1: 16 to 710", 0, HEADING_35, 1, 1, 16, 710);
+    tells("a third party's 35, outcome 1: 16 to 710", 0, HEADING_35, 1, 2, 16, 710);
+    tells("a third party's 45, outcome 5: 05 to 990", 0, HEADING_45, 5, 2, 5, 990);
+    tells("a third party's 45, outcome 6: 69 to 990", 0, HEADING_45, 6, 2, 69, 990);
+    tells("a direct sender's 45, outcome 7: 75 to 990", 0, HEADING_45, 7, 1, 75, 990);
+    tells("11: no byte", 11, "", 6, 1, 0, 0);
+    tells("11 before 13", 11, "HD:", 9, 9, 0, 0);
+    tells("12: a 51", 12, HEADING_51, 1, 1, 0, 0);
+    tells("12: a third party's 12", 12, HEADING_12, 6, 2, 0, 0);
+    tells("12 before 13: a third party's 12, outcome 9", 12, HEADING_12, 9, 2, 0, 0);
+    tells("13: outcome 8", 13, HEADING_12, 8, 1, 0, 0);
+    tells("13: standing 0", 13, HEADING_12, 6, 0, 0, 0);
+    tells("13: standing 3", 13, HEADING_12, 6, 3, 0, 0);
+    tells("13: the largest standing", 13, HEADING_45, 5, UINT32_MAX, 0, 0);
+    tells("13 before 14: a 12, outcome 2, standing 3", 13, HEADING_12, 2, 3, 0, 0);
+    tells("14: a 12, outcome 2", 14, HEADING_12, 2, 1, 0, 0);
+    tells("14: a direct sender's 45, outcome 5", 14, HEADING_45, 5, 1, 0, 0);
+    tells("14: a direct sender's 45, outcome 6", 14, HEADING_45, 6, 1, 0, 0);
+}
+
+static void test_standings(void)
+{
+    derives(HEADING_35, 1, 2, 7, HEADING, "HD:16 20240304 0000990 0000001 0000710 0000007 0000300");
+    derives(HEADING_45, 5, 2, 5000001, HEADING, "HD:05 20240304 0000300 0000001 0000990 5000001 0000710");
+    derives(HEADING_45, 6, 2, 9000000, HEADING, "HD:69 20240304 0000300 0000001 0000990 9000000 0000710");
+    derive_refuses("12: a third party's 12", 12, HEADING_12, 6, 2, 42, HEADING);
+    derive_refuses("12 before 13: a third party's 12, outcome 9", 12, HEADING_12, 9, 2, 42, HEADING);
+    derive_refuses("13: standing 0", 13, HEADING_12, 6, 0, 42, HEADING);
+    derive_refuses("13: standing 3", 13, HEADING_12, 6, 3, 42, HEADING);
+    derive_refuses("13 before 14: standing 3, outcome 2", 13, HEADING_12, 2, 3, 42, HEADING);
+    derive_refuses("14: a direct sender's 45, outcome 5", 14, HEADING_45, 5, 1, 5000001, HEADING);
+    derive_refuses("14: a direct sender's 45, outcome 6", 14, HEADING_45, 6, 1, 5000001, HEADING);
+    derive_refuses("14 before 15: a direct sender's 45, outcome 5", 14, HEADING_45, 5, 1, 0, 0);
 }
 
 /* The account check */
@@ -391,6 +444,8 @@ int main(void)
     test_derive();
     test_bad_headings();
     test_bad_outcomes();
+    test_tell();
+    test_standings();
     test_accounts();
     printf("%u passed, %u failed\n", passed, failed);
     return failed == 0 ? 0 : 1;

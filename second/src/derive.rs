@@ -6,24 +6,53 @@ use crate::heading::{Heading, LENGTH};
 use crate::rules;
 use crate::types;
 
-/// The open job: writes 54 bytes, or gives refusals 11 to 16.
-pub fn derive(text: &[u8], outcome: u32, number: u32, target: &mut [u8]) -> Result<(), u32> {
-    let heading = Heading::read(text).ok_or(11_u32)?;
-    if !is_derivable(&heading) {
-        return Err(12);
-    }
-    if !(1..=7).contains(&outcome) {
-        return Err(13);
-    }
-    let kind = outgoing_type(heading.kind, outcome).ok_or(14_u32)?;
-    if !numbers(heading.kind).contains(&number) {
+/// Who sent the item.
+const DIRECT: u32 = 1;
+const THIRD_PARTY: u32 = 2;
+
+/// The open job that only tells: output type and recipient, or refusals 11 to 14.
+pub fn tell(text: &[u8], outcome: u32, standing: u32) -> Result<(u32, u32), u32> {
+    let (_, outgoing) = turn(text, outcome, standing)?;
+    Ok((outgoing.kind, outgoing.second))
+}
+
+/// The open job that writes: 54 bytes, or refusals 11 to 16.
+pub fn derive(
+    text: &[u8],
+    outcome: u32,
+    standing: u32,
+    number: u32,
+    target: &mut [u8],
+) -> Result<(), u32> {
+    let (kind, outgoing) = turn(text, outcome, standing)?;
+    if !numbers(kind).contains(&number) {
         return Err(15);
     }
     let place = target.get_mut(..LENGTH).ok_or(16_u32)?;
-    let [first, second, third] = outgoing_codes(&heading, outcome);
-    let derived = Heading { kind, first, second, output: number, third, ..heading };
-    place.copy_from_slice(&derived.write());
+    place.copy_from_slice(&Heading { output: number, ..outgoing }.write());
     Ok(())
+}
+
+/// The input type, and the outgoing heading but for its number.
+fn turn(text: &[u8], outcome: u32, standing: u32) -> Result<(u32, Heading), u32> {
+    let heading = Heading::read(text).ok_or(11_u32)?;
+    if !is_derivable(&heading) || !may_send(standing, heading.kind) {
+        return Err(12);
+    }
+    if !(1..=7).contains(&outcome) || ![DIRECT, THIRD_PARTY].contains(&standing) {
+        return Err(13);
+    }
+    let kind = outgoing_type(heading.kind, outcome).ok_or(14_u32)?;
+    if standing == DIRECT && [5, 69].contains(&kind) {
+        return Err(14);
+    }
+    let [first, second, third] = outgoing_codes(&heading, outcome);
+    Ok((heading.kind, Heading { kind, first, second, third, ..heading }))
+}
+
+/// A third party sends only 35, 37 and 45.
+fn may_send(standing: u32, kind: u32) -> bool {
+    standing != THIRD_PARTY || [35, 37, 45].contains(&kind)
 }
 
 /// Not a 51, and rules 10, 13 and 14 hold; no other rule counts here.
@@ -80,8 +109,12 @@ mod tests {
     const TRILATERAL: &str = "HD:35 20240304 0000990 0000001 0000300 0000000 0000710";
 
     fn derived(text: &str, outcome: u32, number: u32) -> Result<String, u32> {
+        derived_for(text, outcome, DIRECT, number)
+    }
+
+    fn derived_for(text: &str, outcome: u32, standing: u32, number: u32) -> Result<String, u32> {
         let mut target = [b'.'; 60];
-        derive(text.as_bytes(), outcome, number, &mut target)?;
+        derive(text.as_bytes(), outcome, standing, number, &mut target)?;
         assert_eq!(target[54..], *b"......");
         Ok(String::from_utf8(target[..54].to_vec()).unwrap())
     }
@@ -102,7 +135,7 @@ mod tests {
     #[test]
     fn codes_of_a_trilateral_item() {
         let text = with_type(TRILATERAL, "45");
-        let codes = |outcome| derived(&text, outcome, 5_000_001).unwrap();
+        let codes = |outcome| derived_for(&text, outcome, THIRD_PARTY, 5_000_001).unwrap();
         let payer = "HD:25 20240304 0000990 0000001 0000300 5000001 0000710";
         assert_eq!(codes(3), payer);
         assert_eq!(codes(4), with_type(payer, "65"));
@@ -164,8 +197,23 @@ mod tests {
         assert_eq!(derived(&with_type(BILATERAL, "51"), 9, 0), Err(12));
         assert_eq!(derived(BILATERAL, 9, 0), Err(13));
         assert_eq!(derived(BILATERAL, 2, 0), Err(14));
-        assert_eq!(derive(BILATERAL.as_bytes(), 1, 0, &mut []), Err(15));
-        assert_eq!(derive(BILATERAL.as_bytes(), 1, 1, &mut [0; 53]), Err(16));
-        assert_eq!(derive(&BILATERAL.as_bytes()[..53], 9, 0, &mut []), Err(11));
+        assert_eq!(derive(BILATERAL.as_bytes(), 1, 1, 0, &mut []), Err(15));
+        assert_eq!(derive(BILATERAL.as_bytes(), 1, 1, 1, &mut [0; 53]), Err(16));
+        assert_eq!(derive(&BILATERAL.as_bytes()[..53], 9, 1, 0, &mut []), Err(11));
+    }
+
+    #[test]
+    fn standings() {
+        let text = with_type(TRILATERAL, "45");
+        assert_eq!(tell(text.as_bytes(), 5, THIRD_PARTY), Ok((5, 990)));
+        assert_eq!(tell(text.as_bytes(), 5, DIRECT), Err(14));
+        assert_eq!(tell(text.as_bytes(), 6, DIRECT), Err(14));
+        assert_eq!(tell(text.as_bytes(), 7, DIRECT), Ok((75, 990)));
+        assert_eq!(derived(&text, 5, 0), Err(14));
+        assert_eq!(tell(BILATERAL.as_bytes(), 6, DIRECT), Ok((62, 300)));
+        assert_eq!(tell(BILATERAL.as_bytes(), 6, THIRD_PARTY), Err(12));
+        assert_eq!(tell(BILATERAL.as_bytes(), 9, THIRD_PARTY), Err(12));
+        assert_eq!(tell(BILATERAL.as_bytes(), 2, 3), Err(13));
+        assert_eq!(tell(TRILATERAL.as_bytes(), 1, 0), Err(13));
     }
 }

@@ -24,10 +24,20 @@ mod raw {
             total: *mut u64,
         ) -> u32;
 
+        pub fn certis_tell(
+            heading: *const u8,
+            heading_len: usize,
+            outcome: u32,
+            standing: u32,
+            kind: *mut u32,
+            recipient: *mut u32,
+        ) -> u32;
+
         pub fn certis_derive(
             heading: *const u8,
             heading_len: usize,
             outcome: u32,
+            standing: u32,
             number: u32,
             target: *mut u8,
             target_len: usize,
@@ -74,13 +84,24 @@ pub fn check(
     }
 }
 
-pub fn derive(heading: &[u8], outcome: u32, number: u32, target: &mut [u8]) -> u32 {
+pub fn tell(
+    heading: &[u8],
+    outcome: u32,
+    standing: u32,
+    kind: &mut u32,
+    recipient: &mut u32,
+) -> u32 {
+    unsafe { raw::certis_tell(heading.as_ptr(), heading.len(), outcome, standing, kind, recipient) }
+}
+
+pub fn derive(heading: &[u8], outcome: u32, standing: u32, number: u32, target: &mut [u8]) -> u32 {
     let target_len = target.len();
     unsafe {
         raw::certis_derive(
             heading.as_ptr(),
             heading.len(),
             outcome,
+            standing,
             number,
             target.as_mut_ptr(),
             target_len,

@@ -11,7 +11,7 @@ use Rattle.laws.specs.Refusals.{first}
 use Rattle.text.specs.Characters.{isAdmissible}
 use Rattle.days.specs.Days.{isReal}
 use Rattle.text.specs.Strings.{begins}
-use Rattle.outcomes.specs.Deriving.{deriveRefusals, derivedTarget}
+use Rattle.outcomes.specs.Deriving.{tellRefusals, outgoingKind, recipient, deriveRefusals, derivedTarget}
 use Rattle.figures.specs.Accounts.{weighed, accountOf, accountValue}
 use Rattle.ledger.specs.Faults.{Fault, fault}
 use Rattle.items.specs.Faults.{faults}
@@ -27,9 +27,12 @@ pub data Case : Type 0 where
   unreal : ℕ → Case
   -- the submitter's code, the accounting day, a file: these are its faults, and there is no other
   faulty : ℕ → ℕ → List String → List Fault → Case
-  -- a heading text, an outcome, an output number: the heading that goes out, or the refusal
-  derives : String → ℕ → ℕ → String → Case
-  refuses : String → ℕ → ℕ → ℕ → Case
+  -- a heading text, an outcome, a standing, an output number: the heading that goes out, or the refusal
+  derives : String → ℕ → ℕ → ℕ → String → Case
+  refuses : String → ℕ → ℕ → ℕ → ℕ → Case
+  -- a heading text, an outcome, a standing: the outgoing type and the recipient, or the refusal
+  tells : String → ℕ → ℕ → ℕ → ℕ → Case
+  untold : String → ℕ → ℕ → ℕ → Case
 
 abbrev pub same : List ℕ → List ℕ → Bool
 same xs ys = begins xs ys && eqb (length xs) (length ys)
@@ -61,8 +64,12 @@ holds (passes prefix number) = accountValue (accountOf (ascii prefix) (ascii num
 holds (fails prefix number) = not (accountValue (accountOf (ascii prefix) (ascii number)) true)
 holds (unreal day) = not (isReal day)
 holds (faulty code today file fs) = sameFaults (faults code today (bytesOf file)) fs
-holds (derives text outcome number out) = same (derivedTarget (ascii text) outcome number blank) (ascii out)
-holds (refuses text outcome number k) = eqb (first (deriveRefusals (ascii text) outcome number (length blank))) k
+holds (derives text outcome standing number out) = same (derivedTarget (ascii text) outcome standing (record { 0 = number }) blank) (ascii out)
+holds (refuses text outcome standing number k) = eqb (first (deriveRefusals (ascii text) outcome standing (record { 0 = number }) (length blank))) k
+holds (tells text outcome standing kind code) =
+    eqb (first (tellRefusals (ascii text) outcome standing)) 0
+    && (eqb (outgoingKind (ascii text) outcome) kind && eqb (recipient (ascii text) outcome) code)
+holds (untold text outcome standing k) = eqb (first (tellRefusals (ascii text) outcome standing)) k
 
 -- a heading day, an amount and its day: a 32 and the 51 that closes its block
 abbrev pub block : String → String → String → List String
@@ -82,6 +89,19 @@ example =
     "IN:1 1" ∷
     "S1:1 12600" ∷ []
 
+-- the headings of the cases of deriving: an 11, a 12, a 35 and a 45
+abbrev pub eleven : String
+eleven = "HD:11 20240304 0000300 0000017 0000710 0000000 0000000"
+
+abbrev pub twelve : String
+twelve = "HD:12 20240304 0000300 0000017 0000710 0000000 0000000"
+
+abbrev pub thirtyFive : String
+thirtyFive = "HD:35 20240304 0000990 0000001 0000300 0000000 0000710"
+
+abbrev pub fortyFive : String
+fortyFive = "HD:45 20240304 0000990 0000001 0000300 0000000 0000710"
+
 abbrev pub marked : List Case
 marked =
     -- 'DE admissible, DF not'
@@ -100,9 +120,31 @@ marked =
     faulty 300 20240304 (block "20240304" "12500" "20240404") (fault 2 8 ∷ []) ∷
     faulty 300 20240304 (block "20240304" "100000000000" "20240304") [] ∷
     faulty 300 20240304 (block "20240304" "100000000001" "20240304") (fault 2 9 ∷ []) ∷
-    -- the two headings, and outcome 5 for the second
-    derives "HD:12 20240304 0000300 0000017 0000710 0000000 0000000" 6 42 "HD:62 20240304 0000300 0000017 0000300 0000042 0000710" ∷
-    derives "HD:35 20240304 0000990 0000001 0000300 0000000 0000710" 1 7 "HD:16 20240304 0000990 0000001 0000710 0000007 0000300" ∷
-    refuses "HD:35 20240304 0000990 0000001 0000300 0000000 0000710" 5 7 14 ∷
+    -- the two headings, and outcome 5 for the second; the first is a direct sender's, the second either's
+    derives twelve 6 1 42 "HD:62 20240304 0000300 0000017 0000300 0000042 0000710" ∷
+    derives thirtyFive 1 1 7 "HD:16 20240304 0000990 0000001 0000710 0000007 0000300" ∷
+    derives thirtyFive 1 2 7 "HD:16 20240304 0000990 0000001 0000710 0000007 0000300" ∷
+    refuses thirtyFive 5 1 7 14 ∷
+    refuses thirtyFive 5 2 7 14 ∷
+    -- A12: told before a number is spent
+    tells twelve 6 1 62 300 ∷
+    tells thirtyFive 1 2 16 710 ∷
+    -- 'A third party may send only 35, 37 and 45; its other headings are refused with 12', also before 13
+    untold twelve 6 2 12 ∷
+    refuses twelve 6 2 42 12 ∷
+    refuses eleven 9 2 1 12 ∷
+    -- '1 direct or 2 third party (13 otherwise)', also before 14
+    untold eleven 1 0 13 ∷
+    untold eleven 1 3 13 ∷
+    refuses eleven 2 3 0 13 ∷
+    -- 'For a direct sender of a 45, outcomes 5 and 6 are refused with 14', also before 15
+    tells fortyFive 4 1 65 300 ∷
+    untold fortyFive 5 1 14 ∷
+    untold fortyFive 6 1 14 ∷
+    refuses fortyFive 5 1 0 14 ∷
+    tells fortyFive 5 2 05 990 ∷
+    tells fortyFive 6 2 69 990 ∷
+    tells fortyFive 7 1 75 990 ∷
+    derives fortyFive 5 2 5000001 "HD:05 20240304 0000300 0000001 0000990 5000001 0000710" ∷
     -- the file of 'The listing program'
     faulty 300 20240304 example (fault 1 12 ∷ fault 3 7 ∷ fault 4 31 ∷ []) ∷ []

@@ -1,18 +1,18 @@
 // The C face: numbers and bytes only. Each function answers 0, or the number of the refusal by document 01, and a refusal leaves
 // everything behind the pointers as it was. The promises are those of the jobs below, said with numbers: `listing` for checking,
-// `outcomes` for deriving, `figures` for the account check.
+// `outcomes` for telling and deriving, `figures` for the account check.
 use figures::accounts;
+use headings::ItemNo;
 use listing::checking;
 ghost use mathlib.Core.Path.{_≡_};
 ghost use mathlib.Core.Bool.{cond};
 ghost use lib.Dec.{eqb};
 ghost use lib.ListN.{length};
 ghost use Rattle.laws.specs.Refusals.{first};
-ghost use Rattle.outcomes.specs.Deriving.{deriveRefusals, derivedTarget};
 ghost use Rattle.figures.specs.Accounts.{accountRefusals, accountHolds};
 ghost use Rattle.items.specs.Faults.{faults};
 ghost use Rattle.listing.specs.Checking.{checkRefusals};
-ghost use Rattle.host.specs.Face.{totalAfter, ListedAt};
+ghost use Rattle.host.specs.Face.{totalAfter, ListedAt, ToldAt, DerivedAt};
 
 #[no_mangle]
 pub extern "C" fn certis_total(file: &[u8], code: u32, day: u32, total: &mut u64) -> u32
@@ -45,11 +45,32 @@ pub extern "C" fn certis_check(
 }
 
 #[no_mangle]
-pub extern "C" fn certis_derive(heading: &[u8], outcome: u32, number: u32, target: &mut [u8]) -> u32
-    ensures number { λ r. ⌜ r ≡ first (deriveRefusals (now (heading .entry)) outcome number (length (now (target .entry)))) ⌝ }
-    ensures after { λ _. ⌜ now (target .exit) ≡ derivedTarget (now (heading .entry)) outcome number (now (target .entry)) ⌝ }
+pub extern "C" fn certis_tell(
+    heading: &[u8],
+    outcome: u32,
+    standing: u32,
+    kind: &mut u32,
+    recipient: &mut u32,
+) -> u32
+    ensures { λ r. ⌜ ToldAt (now (heading .entry)) outcome standing (now (kind .entry)) (now (recipient .entry)) r (now (kind .exit)) (now (recipient .exit)) ⌝ }
 {
-    outcomes::number_of(outcomes::derive(heading, outcome, number, target))
+    let answer = outcomes::tell(heading, outcome, standing);
+    *kind = outcomes::told_kind(answer, *kind);
+    *recipient = outcomes::told_recipient(answer, *recipient);
+    outcomes::told_number(answer)
+}
+
+#[no_mangle]
+pub extern "C" fn certis_derive(
+    heading: &[u8],
+    outcome: u32,
+    standing: u32,
+    number: u32,
+    target: &mut [u8],
+) -> u32
+    ensures { λ r. ⌜ DerivedAt (now (heading .entry)) outcome standing number (now (target .entry)) r (now (target .exit)) ⌝ }
+{
+    outcomes::number_of(outcomes::derive(heading, outcome, standing, ItemNo(number), target))
 }
 
 #[no_mangle]

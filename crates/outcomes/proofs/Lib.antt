@@ -1,7 +1,10 @@
 pub mod Seven
+pub mod Granted
 pub mod Cells
 pub mod Steps
 pub mod Joined
+pub mod Telling
 pub mod Small
 pub mod Sound
 pub mod Unique
+pub mod Asking

@@ -1,15 +1,16 @@
 -- A heading that is derived fits its digits, so its 54 bytes read as that heading: no part is cut.
-use mathlib.Core.Path.{_≡_, refl}
-use mathlib.Core.Bool.{Bool, true, false, cond, not, _&&_, false≢true}
-use mathlib.Core.List.{List, [], _∷_}
+use mathlib.Core.Path.{_≡_}
+use mathlib.Core.Bool.{Bool, true, false, cond, _&&_}
+use mathlib.Core.List.{List}
 use Prim.Native.Nat.{ℕ, _≤_, _<_}
 use native.Mathlib.Omega.{arith}
 use lib.ListN.{length, take, drop}
 use lib.Seq.{take-at}
-use lib.Dec.{eqb, leb, ltb}
-use borrow.Author.Tests.{leb-true, not-false}
-use Rattle.laws.specs.Refusals.{_if_, first}
+use lib.Dec.{eqb, leb}
+use borrow.Author.Tests.{leb-true}
+use Rattle.laws.specs.Refusals.{first}
 use Rattle.headings.specs.declared.Code.{Code}
+use Rattle.headings.specs.declared.ItemNo.{ItemNo}
 use Rattle.headings.specs.declared.Heading.{Heading}
 use Rattle.headings.specs.declared.Read.the-variants.{Reads}
 use Rattle.headings.specs.ItemTypes.{isTrilateral, isPriority}
@@ -17,9 +18,10 @@ use Rattle.headings.specs.Reading.{headingOf}
 use Rattle.headings.specs.Writing.{headingText}
 use Rattle.headings.proofs.Answers.{text-size}
 use Rattle.headings.proofs.RoundTrips.{read-written, fits-read}
-use Rattle.outcomes.specs.Outcomes.{outgoing, codes, inClass}
-use Rattle.outcomes.specs.Deriving.{barred, isOutcome, turned, numbered, deriveRefusals, derivedTarget}
+use Rattle.outcomes.specs.Outcomes.{codes, inClass}
+use Rattle.outcomes.specs.Deriving.{turned, numbered, deriveRefusals, derivedTarget}
 use Rattle.outcomes.proofs.Seven.{seven}
+use Rattle.outcomes.proofs.Granted.{and-parts, one-of-seven, granted}
 use Rattle.outcomes.proofs.Cells.{two-digits}
 use Rattle.outcomes.proofs.Small.{Small, small, fits-small}
 
@@ -30,10 +32,6 @@ small-codes true x y z a b c = seven _ (a, c, b) (a, c, b) (a, b, c) (a, b, c) (
 small-codes false x y z a b c =
     let n : 0 < 10000000 = omega arith in
     seven _ (a, b, n) (a, b, n) (a, b, n) (a, b, n) (a, b, n) (a, a, b) (a, a, b)
-
-and-parts : (a b : Bool) → (a && b) ≡ true → (a ≡ true) × (b ≡ true)
-and-parts true b e = (refl, e)
-and-parts false b e = absurd (false≢true e)
 
 small-number : (kind n : ℕ) → inClass kind n ≡ true → n < 10000000
 unfolding inClass
@@ -47,7 +45,7 @@ small-number kind n e = go (eqb kind 44) (isPriority kind) e
     go false true q = below 5000001 9000000 (omega arith) q
     go false false q = below 1 5000000 (omega arith) q
 
-small-derived : (h : Heading) (o n : ℕ) → Small h → 1 ≤ o → o ≤ 7 → inClass (h .kind) n ≡ true → Small (numbered (turned h o) n)
+small-derived : (h : Heading) (o : ℕ) (n : ItemNo) → Small h → 1 ≤ o → o ≤ 7 → inClass (h .kind) (n .0) ≡ true → Small (numbered (turned h o) n)
 unfolding turned
 small-derived h o n w l g i =
     let cs = small-codes (isTrilateral (h .kind)) (h .first) (h .second) (h .third) (w .first) (w .second) (w .third) o l g in
@@ -57,30 +55,17 @@ small-derived h o n w l g i =
       first = cs .0;
       number = w .number;
       second = cs .1;
-      output = small-number (h .kind) n i;
+      output = small-number (h .kind) (n .0) i;
       third = cs .2;
     }
 
--- where nothing is refused, no condition holds
-none-holds : (a b c d e : Bool) → first ((12 if a) ∷ (13 if b) ∷ (14 if c) ∷ (15 if d) ∷ (16 if e) ∷ []) ≡ 0 → (b ≡ false) × (d ≡ false)
-none-holds true b c d e z = absurd (omega arith)
-none-holds false true c d e z = absurd (omega arith)
-none-holds false false true d e z = absurd (omega arith)
-none-holds false false false true e z = absurd (omega arith)
-none-holds false false false false true z = absurd (omega arith)
-none-holds false false false false false z = (refl, refl)
-
-module _ (s : List ℕ) (o n : ℕ) (t : List ℕ) (h : Heading) (r : headingOf s ≡ Reads h) (z : first (deriveRefusals s o n (length t)) ≡ 0) where
-  granted : (not (isOutcome o) ≡ false) × (not (inClass (h .kind) n) ≡ false)
-  unfolding deriveRefusals
-  granted = none-holds (barred h) (not (isOutcome o)) (eqb (outgoing (h .kind) o) 0) (not (inClass (h .kind) n)) (ltb (length t) 54) (rw r at z)
-
+module _ (s : List ℕ) (o p : ℕ) (n : ItemNo) (t : List ℕ) (h : Heading) (r : headingOf s ≡ Reads h) (z : first (deriveRefusals s o p n (length t)) ≡ 0) where
   -- the first 54 bytes of the target read as the heading that was turned and numbered
-  pub derived-reads : headingOf (take 54 (derivedTarget s o n t)) ≡ Reads (numbered (turned h o) n)
+  pub derived-reads : headingOf (take 54 (derivedTarget s o p n t)) ≡ Reads (numbered (turned h o) n)
   unfolding derivedTarget
   derived-reads =
-      let u : leb 1 o && leb o 7 ≡ true = not-false _ (granted .0) in
-      let v = and-parts (leb 1 o) (leb o 7) u in
-      let w = small-derived h o n (small h (fits-read s h r)) (leb-true 1 o (v .0)) (leb-true o 7 (v .1)) (not-false _ (granted .1)) in
+      let g = granted s o p n (length t) h r z in
+      let v = one-of-seven o (g .outcome) in
+      let w = small-derived h o n (small h (fits-read s h r)) (v .0) (v .1) (g .in-class) in
       rw (z, r) (rw (take-at (headingText (numbered (turned h o) n)) (drop 54 t) 54 (text-size (numbered (turned h o) n)))
       (read-written (numbered (turned h o) n) (fits-small (numbered (turned h o) n) w)))

@@ -1,10 +1,14 @@
--- Deriving (document 01): the refusals in their order, the heading that goes out, and what the target holds after.
+-- Deriving (document 01, amended by A12): the refusals in their order, the heading that goes out, what telling answers of it, and what
+-- the target holds after. Below, s is a heading's text, o an outcome, p the sender's standing (1 direct, 2 third party), n an output
+-- number, t₀ and t a target before and after.
 use Prim.Native.Nat.{ℕ}
-use mathlib.Core.Bool.{Bool, true, not, _&&_, _||_}
+use mathlib.Core.Path.{_≡_}
+use mathlib.Core.Bool.{Bool, true, cond, not, _&&_, _||_}
 use mathlib.Core.List.{List, [], _∷_, _++_}
 use lib.ListN.{length}
 use lib.Dec.{leb, ltb, eqb}
 use Rattle.laws.specs.Refusals.{Refusal, _if_, first}
+use Rattle.headings.specs.declared.ItemNo.{ItemNo}
 use Rattle.headings.specs.declared.Heading.{Heading}
 use Rattle.headings.specs.declared.Read.{Read}
 use Rattle.headings.specs.declared.Read.the-variants.{Reads, Unreadable}
@@ -14,18 +18,36 @@ use Rattle.headings.specs.Reading.{headingOf}
 use Rattle.headings.specs.Writing.{headingText, targetAfter}
 use Rattle.outcomes.specs.declared.Codes.{Codes}
 use Rattle.outcomes.specs.declared.Turned.{Turned}
-use Rattle.outcomes.specs.declared.Turned.the-variants.{To, Barred, NotOutcome, Nowhere}
+use Rattle.outcomes.specs.declared.Turned.the-variants as turning
+use Rattle.outcomes.specs.declared.Told.{Told}
+use Rattle.outcomes.specs.declared.Told.the-variants as telling
 use Rattle.outcomes.specs.declared.Derived.{Derived}
-use Rattle.outcomes.specs.declared.Derived.the-variants.{Done, NoHeading, NotInput, NoOutcome, NoEntry, NotInClass, TooShort}
+use Rattle.outcomes.specs.declared.Derived.the-variants as derived
 use Rattle.outcomes.specs.Outcomes.{outgoing, codes, inClass}
 
 -- '12: a 51, or breaks rule 10, 13 or 14'
 unfoldable pub barred : Heading → Bool
 barred h = isClosing (h .kind) || (rule10 h || (rule13 h || rule14 h))
 
--- one of the seven outcomes
+-- or not this sender's: 'A third party may send only 35, 37 and 45; its other headings are refused with 12'
+unfoldable pub barredTo : ℕ → Heading → Bool
+barredTo p h = barred h || (eqb p 2 && not (isTrilateral (h .kind)))
+
+-- '13: outcome not 1 to 7'
 abbrev pub isOutcome : ℕ → Bool
 isOutcome o = leb 1 o && leb o 7
+
+-- 'the sender's standing, 1 direct or 2 third party (13 otherwise)'
+abbrev pub isStanding : ℕ → Bool
+isStanding p = eqb p 1 || eqb p 2
+
+-- 'For a direct sender of a 45, outcomes 5 and 6 are refused with 14'
+abbrev pub withheld : ℕ → ℕ → ℕ → Bool
+withheld p kind o = eqb p 1 && (eqb kind 45 && (eqb o 5 || eqb o 6))
+
+-- '14: the table has no entry', or the entry isn't for this sender
+abbrev pub isMissing : ℕ → ℕ → ℕ → Bool
+isMissing p kind o = eqb (outgoing kind o) 0 || withheld p kind o
 
 -- a heading with another type and other codes; 'day and input number stay'
 abbrev pub coded : ℕ → Codes → Heading → Heading
@@ -37,58 +59,129 @@ unfoldable pub turned : Heading → ℕ → Heading
 turned h o = coded (outgoing (h .kind) o) (codes (isTrilateral (h .kind)) o (h .first) (h .second) (h .third)) h
 
 -- the output number in its place
-abbrev pub numbered : Heading → ℕ → Heading
+abbrev pub numbered : Heading → ItemNo → Heading
 numbered h n =
-    record { kind = h .kind; day = h .day; first = h .first; number = h .number; second = h .second; output = record { 0 = n }; third = h .third }
+    record { kind = h .kind; day = h .day; first = h .first; number = h .number; second = h .second; output = n; third = h .third }
 
--- the first step: which outgoing type and which codes. '13: outcome not 1 to 7', '14: the table has no entry'
-abbrev pub turnRefusals : Heading → ℕ → List Refusal
-turnRefusals h o = (12 if barred h) ∷ (13 if not (isOutcome o)) ∷ (14 if eqb (outgoing (h .kind) o) 0) ∷ []
+-- the first step: which outgoing type and which codes, of a heading, an outcome and a standing
+abbrev pub turnRefusals : Heading → ℕ → ℕ → List Refusal
+turnRefusals h o p = (12 if barredTo p h) ∷ (13 if not (isOutcome o && isStanding p)) ∷ (14 if isMissing p (h .kind) o) ∷ []
 
+-- document 01's number for each answer of the first step
 abbrev pub turnNumber : Turned → ℕ
-turnNumber (To g) = 0
-turnNumber Barred = 12
-turnNumber NotOutcome = 13
-turnNumber Nowhere = 14
+turnNumber (turning.To g) = 0
+turnNumber turning.Barred = 12
+turnNumber turning.NotOutcome = 13
+turnNumber turning.Nowhere = 14
 
 -- the heading that an answer of the first step carries, or the one given where it carries none
 abbrev pub turnHeading : Turned → Heading → Heading
-turnHeading (To g) h = g
-turnHeading Barred h = h
-turnHeading NotOutcome h = h
-turnHeading Nowhere h = h
+turnHeading (turning.To g) h = g
+turnHeading turning.Barred h = h
+turnHeading turning.NotOutcome h = h
+turnHeading turning.Nowhere h = h
 
 -- the second step: the output number and the bytes. '15: output number not in its class', '16: target under 54 bytes'
-abbrev pub issueRefusals : ℕ → ℕ → ℕ → List Refusal
-issueRefusals kind n room = (15 if not (inClass kind n)) ∷ (16 if ltb room 54) ∷ []
+abbrev pub issueRefusals : ℕ → ItemNo → ℕ → List Refusal
+issueRefusals kind n room = (15 if not (inClass kind (n .0))) ∷ (16 if ltb room 54) ∷ []
 
-unfoldable pub issuedTarget : ℕ → Heading → ℕ → List ℕ → List ℕ
+unfoldable pub issuedTarget : ℕ → Heading → ItemNo → List ℕ → List ℕ
 issuedTarget kind g n target = targetAfter (first (issueRefusals kind n (length target))) (headingText (numbered g n)) target
 
+-- ---- telling
+-- document 01's number for each answer
+abbrev pub toldNumber : Told → ℕ
+toldNumber (telling.Goes kind code) = 0
+toldNumber telling.NoHeading = 11
+toldNumber telling.NotInput = 12
+toldNumber telling.NoOutcome = 13
+toldNumber telling.NoEntry = 14
+
+-- its outgoing type, or another number where it is a refusal
+abbrev pub toldKind : Told → ℕ → ℕ
+toldKind (telling.Goes kind code) old = kind
+toldKind telling.NoHeading old = old
+toldKind telling.NotInput old = old
+toldKind telling.NoOutcome old = old
+toldKind telling.NoEntry old = old
+
+-- its recipient's code, or another number where it is a refusal
+abbrev pub toldRecipient : Told → ℕ → ℕ
+toldRecipient (telling.Goes kind code) old = code .0
+toldRecipient telling.NoHeading old = old
+toldRecipient telling.NotInput old = old
+toldRecipient telling.NoOutcome old = old
+toldRecipient telling.NoEntry old = old
+
+-- '11: not 54 bytes in the heading layout'; then the refusals of the first step
+abbrev pub turnRefusalsOf : Read → ℕ → ℕ → List Refusal
+turnRefusalsOf Unreadable o p = (11 if true) ∷ []
+turnRefusalsOf (Reads h) o p = turnRefusals h o p
+
+-- of a heading text, an outcome and a standing
+unfoldable pub tellRefusals : List ℕ → ℕ → ℕ → List Refusal
+tellRefusals s o p = turnRefusalsOf (headingOf s) o p
+
+abbrev pub kindOf : Read → ℕ → ℕ
+kindOf Unreadable o = 0
+kindOf (Reads h) o = turned h o .kind
+
+-- 'the recipient': the second code of the outgoing heading
+abbrev pub recipientOf : Read → ℕ → ℕ
+recipientOf Unreadable o = 0
+recipientOf (Reads h) o = turned h o .second .0
+
+-- the outgoing type and the recipient of a heading text and an outcome
+unfoldable pub outgoingKind : List ℕ → ℕ → ℕ
+outgoingKind s o = kindOf (headingOf s) o
+
+unfoldable pub recipient : List ℕ → ℕ → ℕ
+recipient s o = recipientOf (headingOf s) o
+
+-- a number where nothing is refused, and on a refusal what stood there
+abbrev pub granted : ℕ → ℕ → ℕ → ℕ
+granted refusal new old = cond (eqb refusal 0) new old
+
+-- what telling answers
+pub record Tells (s : List ℕ) (o p : ℕ) (r : Told) : Type 0 where
+  pub number : toldNumber r ≡ first (tellRefusals s o p)
+  pub kind : (old : ℕ) → toldKind r old ≡ granted (first (tellRefusals s o p)) (outgoingKind s o) old
+  pub code : (old : ℕ) → toldRecipient r old ≡ granted (first (tellRefusals s o p)) (recipient s o) old
+
+-- ---- deriving
 -- document 01's number for each answer
 abbrev pub derivedNumber : Derived → ℕ
-derivedNumber Done = 0
-derivedNumber NoHeading = 11
-derivedNumber NotInput = 12
-derivedNumber NoOutcome = 13
-derivedNumber NoEntry = 14
-derivedNumber NotInClass = 15
-derivedNumber TooShort = 16
+derivedNumber derived.Done = 0
+derivedNumber derived.NoHeading = 11
+derivedNumber derived.NotInput = 12
+derivedNumber derived.NoOutcome = 13
+derivedNumber derived.NoEntry = 14
+derivedNumber derived.NotInClass = 15
+derivedNumber derived.TooShort = 16
 
--- '11: not 54 bytes in the heading layout'; then the refusals of the two steps
-abbrev pub refusalsOf : Read → ℕ → ℕ → ℕ → List Refusal
-refusalsOf Unreadable o n room = (11 if true) ∷ []
-refusalsOf (Reads h) o n room = turnRefusals h o ++ issueRefusals (h .kind) n room
+-- the refusals of the second step
+abbrev pub issueRefusalsOf : Read → ItemNo → ℕ → List Refusal
+issueRefusalsOf Unreadable n room = []
+issueRefusalsOf (Reads h) n room = issueRefusals (h .kind) n room
 
--- of a heading text, an outcome, an output number and a target's length
-unfoldable pub deriveRefusals : List ℕ → ℕ → ℕ → ℕ → List Refusal
-deriveRefusals s o n room = refusalsOf (headingOf s) o n room
+-- of a heading text, an output number and a target's length
+unfoldable pub numberRefusals : List ℕ → ItemNo → ℕ → List Refusal
+numberRefusals s n room = issueRefusalsOf (headingOf s) n room
 
-abbrev pub outgoingText : Read → ℕ → ℕ → List ℕ
+-- '.. with refusals 11 to 14; the other takes the number and writes, with 11 to 16': telling's, and then those of the number
+unfoldable pub deriveRefusals : List ℕ → ℕ → ℕ → ItemNo → ℕ → List Refusal
+deriveRefusals s o p n room = tellRefusals s o p ++ numberRefusals s n room
+
+abbrev pub outgoingText : Read → ℕ → ItemNo → List ℕ
 outgoingText Unreadable o n = []
 outgoingText (Reads h) o n = headingText (numbered (turned h o) n)
 
 -- the target after deriving
-unfoldable pub derivedTarget : List ℕ → ℕ → ℕ → List ℕ → List ℕ
-derivedTarget s o n target =
-    targetAfter (first (deriveRefusals s o n (length target))) (outgoingText (headingOf s) o n) target
+unfoldable pub derivedTarget : List ℕ → ℕ → ℕ → ItemNo → List ℕ → List ℕ
+derivedTarget s o p n target =
+    targetAfter (first (deriveRefusals s o p n (length target))) (outgoingText (headingOf s) o n) target
+
+-- what deriving answers, and the target after
+pub record Derives (s : List ℕ) (o p : ℕ) (n : ItemNo) (t₀ : List ℕ) (r : Derived) (t : List ℕ) : Type 0 where
+  pub number : derivedNumber r ≡ first (deriveRefusals s o p n (length t₀))
+  pub target : t ≡ derivedTarget s o p n t₀

@@ -1,2 +1,3 @@
 pub mod Outcomes
 pub mod Deriving
+pub mod Asking

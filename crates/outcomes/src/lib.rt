@@ -1,8 +1,9 @@
-// Outcomes and outgoing headings: the heading that an outcome derives from a heading's text. Deriving is an open job in two steps:
-// which outgoing type and codes a heading and an outcome give (`turn`), then the output number and the 54 bytes (`issue`).
-// Promised, for every text, outcome, number and target: it refuses by document 01's numbers, 11 to 16, or writes the heading that
-// the tables of specs/Outcomes.antt give, and a refusal changes no lent byte. Stands on reading, writing, the types and the rules
-// of `headings`, on the layouts of `text`, and on `laws`.
+// Outcomes and outgoing headings: the heading that an outcome derives from a heading's text, for a sender of a standing (1 direct,
+// 2 third party). Two open jobs over two steps: which outgoing type and codes a heading and an outcome give (`turn`), then the output
+// number and the 54 bytes (`issue`). `tell` answers the outgoing type and the recipient before a number is spent, `derive` writes.
+// Promised, for every text, outcome, standing, number and target: they refuse by document 01's numbers, 11 to 14 and 11 to 16, or
+// tell of and write the heading that the tables of specs/Outcomes.antt give, and a refusal changes no lent byte. Stands on reading,
+// writing, the types and the rules of `headings`, on the layouts of `text`, and on `laws`.
 use headings::Code;
 use headings::Heading;
 use headings::ItemNo;
@@ -19,7 +20,7 @@ ghost use Prim.Native.Nat.{_≤_};
 ghost use lib.ListN.{length};
 ghost use Rattle.laws.specs.Refusals.{first};
 ghost use Rattle.outcomes.specs.Outcomes.{table, entries, packed, outgoing, three, codes, inClass};
-ghost use Rattle.outcomes.specs.Deriving.{barred, coded, turned, numbered, turnRefusals, turnNumber, turnHeading, issueRefusals, issuedTarget, derivedNumber, deriveRefusals, derivedTarget};
+ghost use Rattle.outcomes.specs.Deriving.{barredTo, isOutcome, isStanding, withheld, coded, turned, numbered, turnRefusals, turnNumber, turnHeading, issueRefusals, issuedTarget, toldNumber, toldKind, toldRecipient, Tells, derivedNumber, Derives};
 
 // A heading's three codes.
 pub struct Codes {
@@ -34,6 +35,15 @@ pub enum Turned {
     Barred,
     NotOutcome,
     Nowhere,
+}
+
+// The outgoing type and the recipient's code, or why there is none.
+pub enum Told {
+    Goes(u32, Code),
+    NoHeading,
+    NotInput,
+    NoOutcome,
+    NoEntry,
 }
 
 pub enum Derived {
@@ -128,7 +138,7 @@ fn coded(kind: u32, cs: Codes, h: Heading) -> Heading
 }
 
 // A heading with another output number.
-fn numbered(h: Heading, n: u32) -> Heading
+fn numbered(h: Heading, n: ItemNo) -> Heading
     ensures { λ r. ⌜ r ≡ numbered h n ⌝ }
 {
     let first = h.first;
@@ -141,47 +151,68 @@ fn numbered(h: Heading, n: u32) -> Heading
         first: first,
         number: number,
         second: second,
-        output: ItemNo(n),
+        output: n,
         third: third,
     }
 }
 
 // Whether an output number is in the class of an input type.
-fn in_class(kind: u32, number: u32) -> bool
-    ensures { λ r. ⌜ r ≡ inClass kind number ⌝ }
+fn in_class(kind: u32, number: ItemNo) -> bool
+    ensures { λ r. ⌜ r ≡ inClass kind (number .0) ⌝ }
 {
+    let n = number.0;
     if kind == 44 {
-        return (9000001 <= number) & (number <= 9999999);
+        return (9000001 <= n) & (n <= 9999999);
     }
     if is_priority(kind) {
-        return (5000001 <= number) & (number <= 9000000);
+        return (5000001 <= n) & (n <= 9000000);
     }
-    (1 <= number) & (number <= 5000000)
+    (1 <= n) & (n <= 5000000)
 }
 
-// Whether a heading is a 51, or breaks a rule that deriving asks it to keep.
-fn is_barred(h: Heading) -> bool
-    ensures { λ r. ⌜ r ≡ barred h ⌝ }
+// Whether a heading is a 51, or breaks a rule that deriving asks it to keep, or is none that a third party may send.
+fn is_barred(h: Heading, standing: u32) -> bool
+    ensures { λ r. ⌜ r ≡ barredTo standing h ⌝ }
 {
-    (h.kind == 51) | (breaks_ten(h) | (breaks_thirteen(h) | breaks_fourteen(h)))
+    ((h.kind == 51) | (breaks_ten(h) | (breaks_thirteen(h) | breaks_fourteen(h))))
+        | ((standing == 2) & !is_trilateral(h.kind))
+}
+
+fn is_outcome(outcome: u32) -> bool
+    ensures { λ r. ⌜ r ≡ isOutcome outcome ⌝ }
+{
+    (1 <= outcome) & (outcome <= 7)
+}
+
+fn is_standing(standing: u32) -> bool
+    ensures { λ r. ⌜ r ≡ isStanding standing ⌝ }
+{
+    (standing == 1) | (standing == 2)
+}
+
+// Whether an entry of the table is kept from a direct sender: 05 and 69.
+fn is_withheld(standing: u32, kind: u32, outcome: u32) -> bool
+    ensures { λ r. ⌜ r ≡ withheld standing kind outcome ⌝ }
+{
+    (standing == 1) & ((kind == 45) & ((outcome == 5) | (outcome == 6)))
 }
 
 // The first step: the outgoing type and codes.
-pub fn turn(h: Heading, outcome: u32) -> Turned
-    ensures number { λ r. ⌜ turnNumber r ≡ first (turnRefusals h outcome) ⌝ }
+pub fn turn(h: Heading, outcome: u32, standing: u32) -> Turned
+    ensures number { λ r. ⌜ turnNumber r ≡ first (turnRefusals h outcome standing) ⌝ }
     ensures heading { λ r. ⌜ turnHeading r (turned h outcome) ≡ turned h outcome ⌝ }
 {
-    if is_barred(h) {
+    if is_barred(h, standing) {
         return Turned::Barred;
     }
-    if outcome < 1 {
-        return Turned::NotOutcome;
-    }
-    if 7 < outcome {
+    if !is_outcome(outcome) {
         return Turned::NotOutcome;
     }
     let kind = outgoing(h.kind, outcome);
-    if kind == 0 {
+    if !is_standing(standing) {
+        return Turned::NotOutcome;
+    }
+    if (kind == 0) | is_withheld(standing, h.kind, outcome) {
         return Turned::Nowhere;
     }
     let x = h.first;
@@ -192,7 +223,7 @@ pub fn turn(h: Heading, outcome: u32) -> Turned
 }
 
 // The second step: the output number, by the class of the input type, and the 54 bytes.
-pub fn issue(kind: u32, g: Heading, number: u32, target: &mut [u8]) -> Derived
+pub fn issue(kind: u32, g: Heading, number: ItemNo, target: &mut [u8]) -> Derived
     ensures answer { λ r. ⌜ derivedNumber r ≡ first (issueRefusals kind number (length (now (target .entry)))) ⌝ }
     ensures after { λ _. ⌜ now (target .exit) ≡ issuedTarget kind g number (now (target .entry)) ⌝ }
 {
@@ -206,14 +237,38 @@ pub fn issue(kind: u32, g: Heading, number: u32, target: &mut [u8]) -> Derived
     Derived::Done
 }
 
-// Writes the heading that goes out for a heading text, an outcome and an output number, or leaves the target as it was.
-pub fn derive(text: &[u8], outcome: u32, number: u32, target: &mut [u8]) -> Derived
-    ensures answer { λ r. ⌜ derivedNumber r ≡ first (deriveRefusals (now (text .entry)) outcome number (length (now (target .entry)))) ⌝ }
-    ensures after { λ _. ⌜ now (target .exit) ≡ derivedTarget (now (text .entry)) outcome number (now (target .entry)) ⌝ }
+// Tells the type and the recipient of the heading that would go out for a heading text, an outcome and the sender's standing.
+pub fn tell(text: &[u8], outcome: u32, standing: u32) -> Told
+    ensures { λ r. ⌜ Tells (now (text .entry)) outcome standing r ⌝ }
+{
+    match read(text) {
+        Read::Unreadable => Told::NoHeading,
+        Read::Reads(h) => match turn(h, outcome, standing) {
+            Turned::Barred => Told::NotInput,
+            Turned::NotOutcome => Told::NoOutcome,
+            Turned::Nowhere => Told::NoEntry,
+            Turned::To(g) => {
+                let second = g.second;
+                Told::Goes(g.kind, second)
+            },
+        },
+    }
+}
+
+// Writes the heading that goes out for a heading text, an outcome, the sender's standing and an output number, or leaves the target
+// as it was.
+pub fn derive(
+    text: &[u8],
+    outcome: u32,
+    standing: u32,
+    number: ItemNo,
+    target: &mut [u8],
+) -> Derived
+    ensures { λ r. ⌜ Derives (now (text .entry)) outcome standing number (now (target .entry)) r (now (target .exit)) ⌝ }
 {
     match read(text) {
         Read::Unreadable => Derived::NoHeading,
-        Read::Reads(h) => match turn(h, outcome) {
+        Read::Reads(h) => match turn(h, outcome, standing) {
             Turned::Barred => Derived::NotInput,
             Turned::NotOutcome => Derived::NoOutcome,
             Turned::Nowhere => Derived::NoEntry,
@@ -222,7 +277,46 @@ pub fn derive(text: &[u8], outcome: u32, number: u32, target: &mut [u8]) -> Deri
     }
 }
 
-// Document 01's number of an answer, 0 where nothing is refused.
+// Document 01's number of an answer of telling, 0 where nothing is refused.
+pub fn told_number(t: Told) -> u32
+    ensures { λ k. ⌜ k ≡ toldNumber t ⌝ }
+{
+    match t {
+        Told::Goes(_, _) => 0,
+        Told::NoHeading => 11,
+        Told::NotInput => 12,
+        Told::NoOutcome => 13,
+        Told::NoEntry => 14,
+    }
+}
+
+// The outgoing type that was told, and what stood there where it is a refusal.
+pub fn told_kind(t: Told, old: u32) -> u32
+    ensures { λ k. ⌜ k ≡ toldKind t old ⌝ }
+{
+    match t {
+        Told::Goes(kind, _) => kind,
+        Told::NoHeading => old,
+        Told::NotInput => old,
+        Told::NoOutcome => old,
+        Told::NoEntry => old,
+    }
+}
+
+// The recipient's code that was told, and what stood there where it is a refusal.
+pub fn told_recipient(t: Told, old: u32) -> u32
+    ensures { λ k. ⌜ k ≡ toldRecipient t old ⌝ }
+{
+    match t {
+        Told::Goes(_, code) => code.0,
+        Told::NoHeading => old,
+        Told::NotInput => old,
+        Told::NoOutcome => old,
+        Told::NoEntry => old,
+    }
+}
+
+// Document 01's number of an answer of deriving, 0 where nothing is refused.
 pub fn number_of(d: Derived) -> u32
     ensures { λ k. ⌜ k ≡ derivedNumber d ⌝ }
 {

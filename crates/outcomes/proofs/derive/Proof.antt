@@ -4,6 +4,7 @@ use Rattle.headings.specs.declared.Heading.{Heading}
 use Rattle.headings.specs.declared.Read.the-variants.{Reads}
 use Rattle.headings.specs.Reading.{headingOf}
 use Rattle.outcomes.specs.declared.Turned.{Turned}
+use Rattle.outcomes.specs.declared.Derived.the-variants.{NotInput, NoOutcome, NoEntry}
 use Rattle.outcomes.specs.Deriving.{turned, turnNumber, turnHeading}
 use Rattle.outcomes.proofs.Joined.{unread, stops, goes-on}
 use Rattle.outcomes.proofs.derive.Statement.{statement}
@@ -49,25 +50,25 @@ issue-requires c κs = search needs
 returns : tie.Need-returns
 returns c =
     let a = c .before .before .before .before .before .args in
-    unread (a .text .now) (a .outcome) (a .number) (a .target .now) (sym (c .before .before .read .ensures .1) ∙ c .enum-told .given .1)
+    unread (a .text .now) (a .outcome) (a .standing) (a .number) (a .target .now) (sym (c .before .before .read .ensures .1) ∙ c .enum-told .given .1)
 
 returns-2 : tie.Need-returns-2
 returns-2 c =
     let m = c .before .before in
     let a = start m .args in
-    stops (a .text .now) (a .outcome) (a .number) (a .target .now) (H m) (was-read m) 12 refl (sym (ap turnNumber (c .enum-told2 .given .1)) ∙ m .turn .ensures .0)
+    stops (a .text .now) (a .outcome) (a .standing) (a .number) (a .target .now) (H m) (was-read m) NotInput refl (sym (ap turnNumber (c .enum-told2 .given .1)) ∙ m .turn .ensures .0)
 
 returns-3 : tie.Need-returns-3
 returns-3 c =
     let m = c .before .before in
     let a = start m .args in
-    stops (a .text .now) (a .outcome) (a .number) (a .target .now) (H m) (was-read m) 13 refl (sym (ap turnNumber (c .enum-told3 .given .1)) ∙ m .turn .ensures .0)
+    stops (a .text .now) (a .outcome) (a .standing) (a .number) (a .target .now) (H m) (was-read m) NoOutcome refl (sym (ap turnNumber (c .enum-told3 .given .1)) ∙ m .turn .ensures .0)
 
 returns-4 : tie.Need-returns-4
 returns-4 c =
     let m = c .before .before in
     let a = start m .args in
-    stops (a .text .now) (a .outcome) (a .number) (a .target .now) (H m) (was-read m) 14 refl (sym (ap turnNumber (c .enum-told4 .given .1)) ∙ m .turn .ensures .0)
+    stops (a .text .now) (a .outcome) (a .standing) (a .number) (a .target .now) (H m) (was-read m) NoEntry refl (sym (ap turnNumber (c .enum-told4 .given .1)) ∙ m .turn .ensures .0)
 
 same-length : tie.Need-same-length
 same-length c = search needs
@@ -78,11 +79,11 @@ returns-5 c =
     let g = i .before .before .before in
     let m = g .before .before in
     let a = start m .args in
-    let d =
-    goes-on (a .text .now) (a .outcome) (a .number) (a .target .now) (H m) (was-read m) (g .g .given .0 .0)
+    goes-on (a .text .now) (a .outcome) (a .standing) (a .number) (a .target .now) (H m) (was-read m) (g .g .given .0 .0) _ _
     (sym (ap turnNumber (g .g .given .1)) ∙ m .turn .ensures .0)
-    (sym (ap (λ (x : Turned). turnHeading x (turned (H m) (a .outcome))) (g .g .given .1)) ∙ m .turn .ensures .1) in
-    (i .issue .ensures .0 ∙ d .0, i .issue .ensures .1 ∙ d .1)
+    (sym (ap (λ (x : Turned). turnHeading x (turned (H m) (a .outcome))) (g .g .given .1)) ∙ m .turn .ensures .1)
+    (i .issue .ensures .0)
+    (i .issue .ensures .1)
 
 pub derive-spec : {M : Type 1} → statement M
 derive-spec =

@@ -1,5 +1,5 @@
 use borrow.Author.Needs.{needs}
-use Rattle.outcomes.specs.Deriving.{barred}
+use Rattle.outcomes.specs.Deriving.{barred, barredTo}
 use Rattle.outcomes.proofs.is_barred.Statement.{statement}
 use Rattle.outcomes.proofs.is_barred.Tie as tie
 
@@ -12,11 +12,14 @@ breaks-thirteen-requires c κs = search needs
 breaks-fourteen-requires : tie.Need-breaks-fourteen-requires
 breaks-fourteen-requires c κs = search needs
 
+is-trilateral-requires : tie.Need-is-trilateral-requires
+is-trilateral-requires c κs = search needs
+
 returns : tie.Need-returns
-unfolding barred
-returns c = rw (c .breaks-fourteen .ensures, c .before .breaks-thirteen .ensures, c .before .before .breaks-ten .ensures)
+unfolding barred barredTo
+returns c = rw (c .is-trilateral .ensures, c .before .breaks-fourteen .ensures, c .before .before .breaks-thirteen .ensures, c .before .before .before .breaks-ten .ensures)
 
 pub is-barred-spec : {M : Type 1} → statement M
 is-barred-spec =
     tie.close
-    (tie.spec breaks-ten-requires breaks-thirteen-requires breaks-fourteen-requires returns)
+    (tie.spec breaks-ten-requires breaks-thirteen-requires breaks-fourteen-requires is-trilateral-requires returns)

@@ -11,7 +11,7 @@ use Rattle.outcomes.proofs.issue.Tie as tie
 abbrev from : tie.Else1 → tie.Start
 from c = c .before .before .before
 
-well : (c : tie.Else1) → inClass (from c .args .kind) (from c .args .number) ≡ true
+well : (c : tie.Else1) → inClass (from c .args .kind) (from c .args .number .0) ≡ true
 well c = sym (c .before .in-class .ensures) ∙ not-false _ (c .if1 .left)
 
 in-class-requires : tie.Need-in-class-requires

@@ -99,7 +99,7 @@ fn clean_file(job: Job, rounds: u32) -> u32 {
         .sum()
 }
 
-/// Deriving and the account check, a hundred thousand calls at a time.
+/// Telling, deriving and the account check, a hundred thousand calls at a time.
 fn small_calls(rounds: u32) {
     let headings = [
         &b"HD:12 20240304 0000300 0000017 0000710 0000000 0000000"[..],
@@ -110,11 +110,29 @@ fn small_calls(rounds: u32) {
     let of = |call: u32| call as usize % 3;
     let (mut target, mut target2) = ([0; 54], [0; 54]);
     let mut all = [
+        Contestant::new("telling, proved", || {
+            for call in 0..CALLS {
+                let (mut kind, mut recipient) = (0, 0);
+                black_box(face::tell(
+                    black_box(headings[of(call)]),
+                    7,
+                    1,
+                    black_box(&mut kind),
+                    black_box(&mut recipient),
+                ));
+            }
+        }),
+        Contestant::new("telling, second program", || {
+            for call in 0..CALLS {
+                black_box(derive::tell(black_box(headings[of(call)]), 7, 1).is_ok());
+            }
+        }),
         Contestant::new("deriving, proved", || {
             for call in 0..CALLS {
                 black_box(face::derive(
                     black_box(headings[of(call)]),
                     7,
+                    1,
                     42,
                     black_box(&mut target),
                 ));
@@ -122,8 +140,13 @@ fn small_calls(rounds: u32) {
         }),
         Contestant::new("deriving, second program", || {
             for call in 0..CALLS {
-                let answer =
-                    derive::derive(black_box(headings[of(call)]), 7, 42, black_box(&mut target2));
+                let answer = derive::derive(
+                    black_box(headings[of(call)]),
+                    7,
+                    1,
+                    42,
+                    black_box(&mut target2),
+                );
                 black_box(answer.is_ok());
             }
         }),

@@ -1,4 +1,4 @@
-//! Groups about deriving and about the account check.
+//! Groups about telling, about deriving and about the account check.
 
 use second::heading::Heading;
 use second::samples::dice::Dice;
@@ -7,6 +7,8 @@ use crate::groups::Group;
 use crate::judge::Judge;
 
 const OUTCOMES: [u32; 16] = [0, 1, 2, 3, 4, 5, 6, 7, 8, 9, 10, 255, 257, 263, 65_537, u32::MAX];
+
+const STANDINGS: [u32; 6] = [0, 1, 2, 3, 257, u32::MAX];
 
 /// The ends of the three classes and beyond.
 const NUMBERS: [u32; 17] = [
@@ -33,7 +35,7 @@ const TARGETS: [usize; 6] = [0, 1, 53, 54, 55, 60];
 
 pub fn all() -> Vec<Group> {
     vec![
-        Group::listed("deriving: every type, outcome and class end", 100, every_type),
+        Group::listed("deriving: every type, outcome, standing and class end", 100, every_type),
         Group::listed("deriving: headings broken at every byte", 54, broken_headings),
         Group::listed("deriving: headings of every length", 120, lengths),
         Group::random("deriving: random headings", 100_000, random_heading),
@@ -59,9 +61,12 @@ fn every_type(judge: &mut Judge, _: &mut Dice, kind: u64) {
         };
         let text = heading.write();
         for outcome in OUTCOMES {
-            for number in NUMBERS {
-                for target in TARGETS {
-                    judge.derive(&text, outcome, number, target);
+            for standing in STANDINGS {
+                judge.tell(&text, outcome, standing);
+                for number in NUMBERS {
+                    for target in TARGETS {
+                        judge.derive(&text, outcome, standing, number, target);
+                    }
                 }
             }
         }
@@ -77,12 +82,14 @@ fn broken_headings(judge: &mut Judge, _: &mut Dice, place: u64) {
         for byte in 0..=255 {
             let mut text = good.to_vec();
             text[place as usize] = byte;
-            judge.derive(&text, 1, 7, 54);
-            judge.derive(&text, 9, 0, 53);
+            judge.tell(&text, 1, 2);
+            judge.derive(&text, 1, 1, 7, 54);
+            judge.derive(&text, 9, 3, 0, 53);
             text[place as usize] = good[place as usize];
             text.insert(place as usize, byte);
-            judge.derive(&text, 1, 7, 54);
-            judge.derive(&text[..54], 1, 7, 60);
+            judge.tell(&text, 1, 1);
+            judge.derive(&text, 1, 1, 7, 54);
+            judge.derive(&text[..54], 1, 1, 7, 60);
         }
     }
 }
@@ -90,9 +97,10 @@ fn broken_headings(judge: &mut Judge, _: &mut Dice, place: u64) {
 fn lengths(judge: &mut Judge, _: &mut Dice, length: u64) {
     let mut text = b"HD:12 20240304 0000300 0000017 0000710 0000000 0000000 0000000".repeat(2);
     text.truncate(length as usize);
+    judge.tell(&text, 6, 1);
     for target in TARGETS {
-        judge.derive(&text, 6, 42, target);
-        judge.derive(&text, 0, 0, target);
+        judge.derive(&text, 6, 1, 42, target);
+        judge.derive(&text, 0, 0, 0, target);
     }
 }
 
@@ -115,9 +123,11 @@ fn random_heading(judge: &mut Judge, dice: &mut Dice, _: u64) {
         text[place] = dice.byte();
     }
     let outcome = if dice.once_in(16) { dice.pick(&OUTCOMES) } else { dice.range(1, 7) as u32 };
+    let standing = if dice.once_in(16) { dice.pick(&STANDINGS) } else { dice.pick(&[1, 1, 2]) };
+    judge.tell(&text, outcome, standing);
     for number in [any(dice), dice.pick(&NUMBERS), dice.range(1, 5_000_000) as u32] {
         let target = dice.pick(&TARGETS).max(dice.place(70));
-        judge.derive(&text, outcome, number, target);
+        judge.derive(&text, outcome, standing, number, target);
     }
 }
 

@@ -115,21 +115,47 @@ impl Judge {
         }
     }
 
-    pub fn derive(&mut self, text: &[u8], outcome: u32, number: u32, target_length: usize) {
+    pub fn tell(&mut self, text: &[u8], outcome: u32, standing: u32) {
+        self.comparisons += 1;
+        let answer = derive::tell(text, outcome, standing);
+        if let Err(refusal) = answer {
+            self.tally.refusal(refusal);
+        }
+        let (mut kind, mut recipient) = (PATTERNS[0], !PATTERNS[0]);
+        let (told_kind, told_recipient) = answer.unwrap_or((kind, recipient));
+        let found = face::tell(text, outcome, standing, &mut kind, &mut recipient);
+        if (found, kind, recipient) != (answer.err().unwrap_or(0), told_kind, told_recipient) {
+            self.fail(|| report::told(text, (outcome, standing), answer, (found, kind, recipient)));
+        }
+    }
+
+    pub fn derive(
+        &mut self,
+        text: &[u8],
+        outcome: u32,
+        standing: u32,
+        number: u32,
+        target_length: usize,
+    ) {
         self.comparisons += 1;
         let mut expected = [0; heading::LENGTH];
         let room = target_length.min(heading::LENGTH);
-        let answer = derive::derive(text, outcome, number, &mut expected[..room]);
+        let answer = derive::derive(text, outcome, standing, number, &mut expected[..room]);
         let written = if answer.is_ok() { &expected[..] } else { &[] };
         if let Err(refusal) = answer {
             self.tally.refusal(refusal);
         }
         let mut target = Lent::new(target_length, 0xA5);
-        let found = face::derive(text, outcome, number, target.lend());
+        let found = face::derive(text, outcome, standing, number, target.lend());
         if found != answer.err().unwrap_or(0) || !target.holds(written.iter().copied()) {
             let target = target.lend();
             self.fail(|| {
-                report::derived(text, outcome, number, (answer, written), (found, target))
+                report::derived(
+                    text,
+                    (outcome, standing, number),
+                    (answer, written),
+                    (found, target),
+                )
             });
         }
     }

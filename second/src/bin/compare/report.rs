@@ -61,13 +61,12 @@ pub fn lists(expected: &[Fault], lines: &[u32], rules: &[u32]) -> String {
 
 pub fn derived(
     text: &[u8],
-    outcome: u32,
-    number: u32,
+    (outcome, standing, number): (u32, u32, u32),
     expected: (Result<(), u32>, &[u8]),
     found: (u32, &[u8]),
 ) -> String {
     format!(
-        "certis_derive, outcome {outcome}, number {number}, target of {} bytes, heading {}\n  \
+        "certis_derive, outcome {outcome}, standing {standing}, number {number}, target of {} bytes, heading {}\n  \
          expected {:?} {}\n  found {} {}",
         found.1.len(),
         shown(text),
@@ -75,6 +74,18 @@ pub fn derived(
         shown(expected.1),
         found.0,
         shown(found.1),
+    )
+}
+
+pub fn told(
+    text: &[u8],
+    (outcome, standing): (u32, u32),
+    expected: Result<(u32, u32), u32>,
+    found: (u32, u32, u32),
+) -> String {
+    format!(
+        "certis_tell, outcome {outcome}, standing {standing}, heading {}\n  expected {expected:?}\n  found {found:?}",
+        shown(text),
     )
 }
 
