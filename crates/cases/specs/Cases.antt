@@ -146,5 +146,8 @@ marked =
     tells fortyFive 6 2 69 990 ∷
     tells fortyFive 7 1 75 990 ∷
     derives fortyFive 5 2 5000001 "HD:05 20240304 0000300 0000001 0000990 5000001 0000710" ∷
+    -- A13's exception is real: an 01 and a 21 returned as 61 under one number
+    derives "HD:01 20240304 0000300 0000017 0000710 0000000 0000000" 6 1 5000001 "HD:61 20240304 0000300 0000017 0000300 5000001 0000710" ∷
+    derives "HD:21 20240304 0000300 0000017 0000710 0000000 0000000" 6 1 5000001 "HD:61 20240304 0000300 0000017 0000300 5000001 0000710" ∷
     -- the file of 'The listing program'
     faulty 300 20240304 example (fault 1 12 ∷ fault 3 7 ∷ fault 4 31 ∷ []) ∷ []

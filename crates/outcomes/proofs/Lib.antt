@@ -8,3 +8,5 @@ pub mod Small
 pub mod Sound
 pub mod Unique
 pub mod Asking
+pub mod Origins
+pub mod Whose

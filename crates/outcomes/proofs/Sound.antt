@@ -33,17 +33,22 @@ small-codes false x y z a b c =
     let n : 0 < 10000000 = omega arith in
     seven _ (a, b, n) (a, b, n) (a, b, n) (a, b, n) (a, b, n) (a, a, b) (a, a, b)
 
-small-number : (kind n : ℕ) → inClass kind n ≡ true → n < 10000000
-unfolding inClass
-small-number kind n e = go (eqb kind 44) (isPriority kind) e
+-- a number of one of three ranges is small where their ends are
+small-of : (n l₁ g₁ l₂ g₂ l₃ g₃ : ℕ) (x p : Bool) → cond x (leb l₃ n && leb n g₃) (cond p (leb l₂ n && leb n g₂) (leb l₁ n && leb n g₁)) ≡ true
+    → g₁ < 10000000 → g₂ < 10000000 → g₃ < 10000000 → n < 10000000
+small-of n l₁ g₁ l₂ g₂ l₃ g₃ x p e u v w = go x p e
   where
     below : (l g : ℕ) → g < 10000000 → (leb l n && leb n g) ≡ true → n < 10000000
     below l g h q = omega (arith, h, leb-true n g (and-parts (leb l n) (leb n g) q .1))
 
-    go : (a b : Bool) → cond a (leb 9000001 n && leb n 9999999) (cond b (leb 5000001 n && leb n 9000000) (leb 1 n && leb n 5000000)) ≡ true → n < 10000000
-    go true b q = below 9000001 9999999 (omega arith) q
-    go false true q = below 5000001 9000000 (omega arith) q
-    go false false q = below 1 5000000 (omega arith) q
+    go : (x p : Bool) → cond x (leb l₃ n && leb n g₃) (cond p (leb l₂ n && leb n g₂) (leb l₁ n && leb n g₁)) ≡ true → n < 10000000
+    go true p q = below l₃ g₃ w q
+    go false true q = below l₂ g₂ v q
+    go false false q = below l₁ g₁ u q
+
+small-number : (kind n : ℕ) → inClass kind n ≡ true → n < 10000000
+unfolding inClass
+small-number kind n e = small-of n _ _ _ _ _ _ (eqb kind 44) (isPriority kind) e (omega arith) (omega arith) (omega arith)
 
 small-derived : (h : Heading) (o : ℕ) (n : ItemNo) → Small h → 1 ≤ o → o ≤ 7 → inClass (h .kind) (n .0) ≡ true → Small (numbered (turned h o) n)
 unfolding turned

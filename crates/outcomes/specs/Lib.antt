@@ -1,3 +1,4 @@
 pub mod Outcomes
 pub mod Deriving
 pub mod Asking
+pub mod Whose
