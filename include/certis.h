@@ -4,7 +4,7 @@
  * function returns 0, or the number of the refusal. A refusal leaves everything
  * behind the pointers as it stood. No function keeps a pointer, allocates,
  * fails in any other way or runs for ever; calls from several threads do not
- * disturb each other.
+ * disturb each other. A call takes less than 16 KB of stack.
  *
  * What a caller owes, for every function:
  *   - each pointer is not null and properly aligned;
@@ -21,6 +21,60 @@
 #include <stdbool.h>
 #include <stddef.h>
 #include <stdint.h>
+
+/* The first number changes where a host that was written for an older header
+ * must change its calls. */
+#define CERTIS_VERSION "2.0"
+
+/* The most bytes of a file that is checked, and the bytes of a heading. */
+#define CERTIS_FILE_MOST 10000000
+#define CERTIS_HEADING 54
+
+/* What the functions return. */
+enum certis_refusal {
+    CERTIS_DONE = 0,
+    CERTIS_BAD_CODE = 1,       /* the code is not 1 to 9999 */
+    CERTIS_BAD_DAY = 2,        /* the day is not real, or not from 20000101 to 20991231 */
+    CERTIS_LONG_FILE = 3,      /* the file has more than CERTIS_FILE_MOST bytes */
+    CERTIS_UNEQUAL_ROOMS = 4,  /* the rooms for lines and rules differ in length */
+    CERTIS_NO_END_MARK = 5,    /* there is no byte 1A in the file */
+    CERTIS_EMPTY_FILE = 6,     /* its first byte is 1A */
+    CERTIS_BAD_PARTS = 10,     /* the parts are not an account number's digits */
+    CERTIS_BAD_LAYOUT = 11,    /* the text does not have a heading's layout */
+    CERTIS_BAD_HEADING = 12,   /* it is a 51, breaks rule 10, 13 or 14, or is none that a third party sends */
+    CERTIS_BAD_OUTCOME = 13,   /* the outcome is not 1 to 7, or the standing not 1 or 2 */
+    CERTIS_NO_OUTGOING = 14,   /* the table of outgoing types has no entry for this sender */
+    CERTIS_BAD_NUMBER = 15,    /* the output number is not in its class */
+    CERTIS_SHORT_TARGET = 16   /* the target has fewer than CERTIS_HEADING bytes */
+};
+
+/* The rules of document 01, as checking lists them. */
+enum certis_rule {
+    CERTIS_RULE_CHARACTER = 1, /* a line: an inadmissible byte */
+    CERTIS_RULE_KIND = 2,      /* none of the kinds of lines, or continues nothing */
+    CERTIS_RULE_NO_ITEM = 3,   /* no heading above it */
+    CERTIS_RULE_LINE_END = 4,  /* no CR LF after it */
+    CERTIS_RULE_REPEATED = 5,  /* a field: stood in the item already */
+    CERTIS_RULE_LAYOUT = 6,    /* its layout; a heading's too */
+    CERTIS_RULE_ACCOUNT = 7,   /* the account check */
+    CERTIS_RULE_KC_DAY = 8,    /* an amount: its day */
+    CERTIS_RULE_KC_MOST = 9,   /* the amount of a 32 */
+    CERTIS_RULE_TYPE = 10,     /* a heading: its type */
+    CERTIS_RULE_DAY = 11,      /* its day */
+    CERTIS_RULE_SUBMITTER = 12, /* its first code */
+    CERTIS_RULE_OUTPUT = 13,   /* its output number */
+    CERTIS_RULE_CODES = 14,    /* its second and third code */
+    CERTIS_RULE_NO_KC = 15,    /* no amount */
+    CERTIS_RULE_NOT_CLOSED = 16, /* a block: no 51 */
+    CERTIS_RULE_EMPTY = 17,    /* a 51 alone */
+    CERTIS_RULE_ONE_DAY = 18,  /* a day that differs from the first */
+    CERTIS_RULE_NUMBERS = 19,  /* an input number out of order */
+    CERTIS_RULE_PRIORITY = 20, /* another priority than the file's first */
+    CERTIS_RULE_INTERVAL = 21, /* the 51's IN */
+    CERTIS_RULE_S9 = 22,       /* a 51 with an S9 */
+    CERTIS_RULE_S0 = 30,       /* the 51's S0; 31 to 38 are those of S1 to S8 */
+    CERTIS_RULE_S8 = 38
+};
 
 #ifdef __cplusplus
 extern "C" {

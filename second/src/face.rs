@@ -2,7 +2,7 @@
 //! the only unsafe code here. Both runners include this file.
 
 mod raw {
-    #[link(name = "host", kind = "static")]
+    #[link(name = "certis", kind = "static")]
     unsafe extern "C" {
         pub fn certis_total(
             file: *const u8,

@@ -26,7 +26,7 @@ const CALLS: u32 = 100_000;
 
 fn main() {
     let rounds = env::args().nth(1).and_then(|word| word.parse().ok()).unwrap_or(11);
-    println!("{}, best of {rounds} interleaved rounds", clock::name());
+    println!("{}, {}, best of {rounds} interleaved rounds", env::consts::ARCH, clock::name());
     println!("lent memory is not cleared between calls");
     let clean = large::clean_of(&mut Dice::new(1), large::MOST);
     let mut missed = clean_file(clean.job(), rounds);
