@@ -101,7 +101,7 @@ static void derive_one(struct tally *tally)
     uint32_t type = 0;
     uint32_t recipient = 0;
     uint32_t outcome = below(9);
-    uint32_t standing = below(4);
+    uint32_t standing = 1 + below(9) / 4;
     uint32_t number = below(10000001);
     size_t room = HEADING + 1 - below(3);
     uint32_t untold = certis_tell(heading, HEADING, outcome, standing, &type, &recipient);

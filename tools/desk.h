@@ -13,7 +13,7 @@
  *   files.c      reading a file or standard input
  *   lines.c      the lines of a CERTIS file
  *   page.c       bytes of code page 852 as a terminal shows them
- *   words.c      rules and refusals in words
+ *   words.c      rules, refusals and outcomes in words
  */
 
 #ifndef DESK_H
@@ -38,7 +38,10 @@ static inline int worse(int status, int other)
 
 /* The subcommands. */
 int desk_account(int count, char **words);
+int desk_derive(int count, char **words);
 int desk_list(int count, char **words);
+int desk_tell(int count, char **words);
+int desk_whose(int count, char **words);
 
 /* Arguments */
 
@@ -124,10 +127,11 @@ bool admissible(uint8_t byte);
 /* Prints bytes of code page 852 in UTF-8, inadmissible ones as <0A>. */
 void show_bytes(const uint8_t *bytes, size_t length);
 
-/* A rule or refusal in words, or NULL: a library newer than the tables may have
- * numbers of its own. */
+/* A rule, refusal or outcome in words, or NULL: a library newer than the tables
+ * may have numbers of its own. */
 const char *rule_in_words(uint32_t rule);
 const char *refusal_in_words(uint32_t refusal);
+const char *outcome_in_words(uint32_t outcome);
 
 /* Ends a printed line, after a colon and the words unless they are NULL. */
 void end_line(const char *words);

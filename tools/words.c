@@ -1,4 +1,4 @@
-/* The rules and refusals of document 01 in words. */
+/* The rules, refusals and outcomes of document 01 in words. */
 
 #include "desk.h"
 
@@ -56,6 +56,16 @@ static const char *const REFUSALS[] = {
     [15] = "The output number is not in the class of the input type.",
 };
 
+static const char *const OUTCOMES[] = {
+    [1] = "Beneficiary, payment made.",
+    [2] = "Beneficiary, no funds.",
+    [3] = "Payer, payment made.",
+    [4] = "Payer, no funds.",
+    [5] = "Sender, payment made.",
+    [6] = "Sender, no funds.",
+    [7] = "Formal error.",
+};
+
 #define COUNT(table) (sizeof(table) / sizeof((table)[0]))
 
 const char *rule_in_words(uint32_t rule)
@@ -66,6 +76,11 @@ const char *rule_in_words(uint32_t rule)
 const char *refusal_in_words(uint32_t refusal)
 {
     return refusal < COUNT(REFUSALS) ? REFUSALS[refusal] : NULL;
+}
+
+const char *outcome_in_words(uint32_t outcome)
+{
+    return outcome < COUNT(OUTCOMES) ? OUTCOMES[outcome] : NULL;
 }
 
 void end_line(const char *words)
