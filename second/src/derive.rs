@@ -1,4 +1,5 @@
-//! Deriving: the outgoing heading of an input heading, by its outcome.
+//! Telling and deriving: the outgoing heading of an input heading, by its outcome and the sender's
+//! standing (document 01, and A12 of document 02).
 
 use std::ops::RangeInclusive;
 

@@ -1,5 +1,5 @@
--- Document 01's cases marked P ('Both sides of the mark') and the file of 'The listing program', in one table. What a rule says of a
--- heading or a KC is said by all the faults of a whole file: a case that stands has none.
+-- Document 01's cases marked P ('Both sides of the mark'), those of A12 and A13, and the file of 'The listing program', in one table.
+-- What a rule says of a heading or a KC is said by all the faults of a whole file: a case that stands has none.
 use Prim.Native.Nat.{ℕ}
 use Prim.Native.String.{String, _++_ as _++ˢ_}
 use mathlib.Core.Bool.{Bool, true, false, not, _&&_}
