@@ -13,7 +13,7 @@ leave-total-requires c κs = search needs
 
 returns : tie.Need-returns
 returns c =
-    let k = c .before in
+    let k = c .before .before in
     record {
       number = c .leave-total .ensures .0 ∙ k .total .ensures .number;
       total = rw (c .leave-total .ensures .0) (c .leave-total .ensures .1 ∙ stored (λ (x : ℕ). x) _ 0 _ (k .total .ensures .number) (k .total .ensures .total 0));
