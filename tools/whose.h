@@ -5,6 +5,8 @@
 
 #include "certis.h"
 
+#include <stdbool.h>
+
 /* An input heading, the outcome, and which standings its sender may have. */
 struct origin {
     uint8_t heading[CERTIS_HEADING];
