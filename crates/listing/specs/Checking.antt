@@ -7,11 +7,11 @@ use lib.Dec.{leb, ltb, eqb}
 use lib.ListN.{length}
 use Rattle.laws.specs.Refusals.{Refusal, _if_, first}
 use Rattle.days.specs.Days.{isReal}
-use Rattle.lines.specs.Lines.{hasMark, startsWithMark}
+use Rattle.lines.specs.Lines.{isByte, hasMark, startsWithMark}
 use Rattle.ledger.specs.Faults.{Fault, written}
 use Rattle.items.specs.Faults.{faults}
 use Rattle.listing.specs.declared.checking.Unchecked.{Unchecked}
-use Rattle.listing.specs.declared.checking.Unchecked.the-variants.{BadCode, BadDay, TooLong, UnequalRooms, NoMark, StartsWithMark}
+use Rattle.listing.specs.declared.checking.Unchecked.the-variants.{BadCode, BadDay, TooLong, UnequalRooms, NoMark, Leftovers, StartsWithMark}
 use Rattle.listing.specs.declared.checking.Checked.{Checked}
 use Rattle.listing.specs.declared.checking.Checked.the-variants.{Total, Refused}
 
@@ -22,6 +22,15 @@ isCode code = leb 1 code && leb code 9999
 abbrev pub isAccountingDay : ℕ → Bool
 isAccountingDay day = isReal day && (leb 20000101 day && leb day 20991231)
 
+-- the bytes after the first 1A
+unfoldable pub behindMark : List ℕ → List ℕ
+behindMark [] = []
+behindMark (b ∷ s) = cond (isByte 0x1a b) s (behindMark s)
+
+-- 'any byte after the first 1A' (refusal 9)
+abbrev pub hasLeftovers : List ℕ → Bool
+hasLeftovers file = ltb 0 (length (behindMark file))
+
 -- of a file, the code, the day, and the lengths of the two slices
 abbrev pub checkRefusals : List ℕ → ℕ → ℕ → ℕ → ℕ → List Refusal
 checkRefusals file code day m n =
@@ -30,6 +39,7 @@ checkRefusals file code day m n =
     (3 if ltb 10000000 (length file)) ∷
     (4 if not (eqb m n)) ∷
     (5 if not (hasMark file)) ∷
+    (9 if hasLeftovers file) ∷
     (6 if startsWithMark file) ∷ []
 
 -- document 01's number for each refusal, and for each answer
@@ -39,6 +49,7 @@ uncheckedNumber BadDay = 2
 uncheckedNumber TooLong = 3
 uncheckedNumber UnequalRooms = 4
 uncheckedNumber NoMark = 5
+uncheckedNumber Leftovers = 9
 uncheckedNumber StartsWithMark = 6
 
 abbrev pub checkedNumber : Checked → ℕ

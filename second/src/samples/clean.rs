@@ -28,9 +28,6 @@ pub fn small(dice: &mut Dice) -> Draft {
         let items = author.dice.range(1, 6);
         author.block(items as u32, usize::MAX);
     }
-    if author.dice.once_in(3) {
-        author.leftover();
-    }
     author.draft
 }
 
@@ -61,12 +58,6 @@ impl<'d> Author<'d> {
         let day = dice.pick(&TRICKY);
         let kinds = if dice.once_in(2) { &PRIORITY[..] } else { &ORDINARY[..] };
         Author { dice, draft: Draft::new(code, day), size: 0, kinds }
-    }
-
-    fn leftover(&mut self) {
-        let length = self.dice.below(60);
-        let bytes = b"\x1a\r\nHD:   \xff";
-        self.draft.leftover = (0..length).map(|_| self.dice.pick(bytes)).collect();
     }
 
     fn push(&mut self, lines: Lines) {

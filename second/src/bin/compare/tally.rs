@@ -11,7 +11,7 @@ pub struct Tally {
 
 /// Every rule and every refusal that the C face can give.
 const RULES: [std::ops::RangeInclusive<usize>; 2] = [1..=22, 30..=38];
-const REFUSALS: [std::ops::RangeInclusive<usize>; 2] = [1..=6, 10..=16];
+const REFUSALS: [std::ops::RangeInclusive<usize>; 2] = [1..=6, 9..=16];
 
 impl Tally {
     pub fn new() -> Self {
