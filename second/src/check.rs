@@ -1,4 +1,4 @@
-//! Checking: refusals 1 to 6, then the faults of a file.
+//! Checking: refusals 1 to 6 and 9, then the faults of a file.
 
 use crate::days;
 use crate::items::File;
@@ -8,7 +8,8 @@ use crate::rules::{self, Fault};
 const LARGEST_FILE: usize = 10_000_000;
 
 /// The first refusal that applies, if any. `rooms` are the lengths of the two
-/// lent slices; the whole file is measured, bytes after the mark included.
+/// lent slices; the whole file is measured, bytes after the mark included. 9
+/// stands between 5 and 6.
 pub fn refusal(file: &[u8], code: u32, day: u32, rooms: (usize, usize)) -> Option<u32> {
     let refusals = [
         (1, !(1..=9999).contains(&code)),
@@ -16,6 +17,7 @@ pub fn refusal(file: &[u8], code: u32, day: u32, rooms: (usize, usize)) -> Optio
         (3, file.len() > LARGEST_FILE),
         (4, rooms.0 != rooms.1),
         (5, !file.contains(&END_MARK)),
+        (9, end_mark(file).is_some_and(|place| place + 1 != file.len())),
         (6, file.first() == Some(&END_MARK)),
     ];
     refusals.into_iter().find_map(|(number, applies)| applies.then_some(number))

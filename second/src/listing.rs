@@ -76,14 +76,15 @@ mod tests {
     #[test]
     fn refusals_of_the_program() {
         let long = |length: usize| {
-            let mut input = b"0300 20240304\nHD:\r\n\x1a".to_vec();
-            input.resize(length, b'x');
+            let mut input = b"0300 20240304\nHD:\r\n   ".to_vec();
+            input.resize(length - 1, b'x');
+            input.push(0x1a);
             listing(&input)
         };
         assert_eq!(long(65_537), "refused 7\n");
         assert_eq!(
             long(65_536),
-            "checked 0300 20240304\nline 1 rule 6\nline 1 rule 16\nfaults 2\n"
+            "checked 0300 20240304\nline 1 rule 6\nline 1 rule 16\nline 2 rule 4\nfaults 3\n"
         );
         for input in
             ["", "0300 20240304", "0300 20240304\r\n\x1a", "300 20240304\n\x1a", "03a0 20240304\n"]

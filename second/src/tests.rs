@@ -122,11 +122,14 @@ fn mark_of_numbers() {
 }
 
 #[test]
-fn bytes_after_the_mark_change_nothing() {
-    let mut text = file(&[&head(11, 1)]);
-    let before = faults_of(&text);
-    text.extend(b"\x1aHD:\r\n\xff");
-    assert_eq!(faults_of(&text), before);
+fn bytes_after_the_mark_are_refused() {
+    let whole = file(&[&head(11, 1)]);
+    for behind in [&b"\n"[..], b" ", b"\x1a", b"\x1aHD:\r\n\xff", &whole] {
+        assert_eq!(refused(&[&whole, behind].concat(), CODE, DAY, (0, 0)), 9);
+    }
+    assert_eq!(refused(b"\x1a\x1a", CODE, DAY, (0, 0)), 9);
+    assert_eq!(refused(b"\x1a", CODE, DAY, (0, 0)), 6);
+    assert_eq!(refused(&[&whole[..], b"x"].concat(), CODE, DAY, (0, 1)), 4);
 }
 
 // Document 01, "Errors that tempt".

@@ -11,7 +11,7 @@ use lib.Seq.{drop-cons, drop-drop}
 use borrow.Author.Tests.{lt-ltb, eq-eqb, ne-eqb}
 use Rattle.laws.specs.Lists.{anyOf}
 use Rattle.laws.proofs.Any.{or-left, or-right}
-use Rattle.lines.specs.Lines.{isByte, hasMark, startsWithMark, body}
+use Rattle.lines.specs.Lines.{isByte, hasMark, behindMark, hasLeftovers, startsWithMark, body}
 
 -- the body is the front of the file
 pub body-take : (s : List ℕ) → take (length (body s)) s ≡ body s
@@ -42,6 +42,17 @@ body-shorter (b ∷ s) = go (isByte 0x1a b) (body-shorter s)
   where
     go : (t : Bool) → ltb (length (body s)) (length s) ≡ hasMark s → ltb (length (cond t [] (b ∷ body s))) (suc (length s)) ≡ (t || hasMark s)
     go true ih = lt-ltb 0 (suc (length s)) (omega arith)
+    go false ih = rw compare·suc-suc ih
+
+-- a byte stands after the first 1A exactly where the file is longer than its body and that mark
+pub leftovers-long : (s : List ℕ) → ltb (suc (length (body s))) (length s) ≡ hasLeftovers s
+unfolding body behindMark
+leftovers-long [] = refl
+leftovers-long (b ∷ s) = go (isByte 0x1a b) (leftovers-long s)
+  where
+    go : (t : Bool) → ltb (suc (length (body s))) (length s) ≡ hasLeftovers s
+        → ltb (suc (length (cond t [] (b ∷ body s)))) (suc (length s)) ≡ ltb 0 (length (cond t s (behindMark s)))
+    go true ih = rw compare·suc-suc refl
     go false ih = rw compare·suc-suc ih
 
 -- the first byte is 1A exactly where the body is empty and there is a 1A

@@ -3,7 +3,8 @@
 use Prim.Native.Nat.{ℕ}
 use mathlib.Core.Bool.{Bool, true, false, cond, _&&_}
 use mathlib.Core.List.{List, [], _∷_}
-use lib.Dec.{eqb}
+use lib.Dec.{ltb, eqb}
+use lib.ListN.{length}
 use Rattle.laws.specs.Lists.{anyOf}
 
 -- x is the byte b
@@ -13,6 +14,15 @@ isByte b x = eqb x b
 -- there is a byte 1A in the file (if not: refusal 5)
 abbrev pub hasMark : List ℕ → Bool
 hasMark file = anyOf (isByte 0x1a) file
+
+-- the bytes after the first 1A
+unfoldable pub behindMark : List ℕ → List ℕ
+behindMark [] = []
+behindMark (b ∷ s) = cond (isByte 0x1a b) s (behindMark s)
+
+-- 'any byte after the first 1A' (refusal 9)
+abbrev pub hasLeftovers : List ℕ → Bool
+hasLeftovers file = ltb 0 (length (behindMark file))
 
 -- the first byte is 1A (refusal 6)
 abbrev pub startsWithMark : List ℕ → Bool

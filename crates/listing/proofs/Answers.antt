@@ -1,5 +1,5 @@
 -- What checking answers, by the tests in their order; and that two answers that meet its statement are equal.
-use Prim.Native.Nat.{ℕ, _≤_, _<_}
+use Prim.Native.Nat.{ℕ, suc, _+_, _≤_, _<_}
 use native.Mathlib.Omega.{arith}
 use mathlib.Core.Path.{_≡_, refl, sym, ap, _∙_}
 use mathlib.Core.Bool.{true, false, not}
@@ -8,15 +8,15 @@ use lib.Dec.{ltb, eqb}
 use lib.ListN.{length, take}
 use borrow.Author.Tests.{lt-ltb, le-ltb, eq-eqb, ne-eqb}
 use Rattle.laws.specs.Refusals.{first}
-use Rattle.lines.specs.Lines.{body, hasMark, startsWithMark}
-use Rattle.lines.proofs.Body.{body-take, body-shorter, body-empty}
+use Rattle.lines.specs.Lines.{body, hasMark, hasLeftovers, startsWithMark}
+use Rattle.lines.proofs.Body.{body-take, body-shorter, leftovers-long, body-empty}
 use Rattle.ledger.specs.Slices.{Listed}
 use Rattle.ledger.specs.declared.Ledger.{Ledger}
 use Rattle.items.specs.Faults.{faults, faultsIn}
 use Rattle.listing.specs.declared.checking.Checked.{Checked}
 use Rattle.listing.specs.declared.checking.Checked.the-variants.{Total, Refused}
 use Rattle.listing.specs.declared.checking.Unchecked.{Unchecked}
-use Rattle.listing.specs.declared.checking.Unchecked.the-variants.{BadCode, BadDay, TooLong, UnequalRooms, NoMark, StartsWithMark}
+use Rattle.listing.specs.declared.checking.Unchecked.the-variants.{BadCode, BadDay, TooLong, UnequalRooms, NoMark, Leftovers, StartsWithMark}
 use Rattle.listing.specs.Checking.{isCode, isAccountingDay, checkRefusals, uncheckedNumber, checkedNumber, checkedOr, Checks}
 
 module _ (file : List ℕ) (code day : ℕ) (ls rs : List ℕ) where
@@ -58,23 +58,32 @@ module _ (file : List ℕ) (code day : ℕ) (ls rs : List ℕ) where
             m : hasMark file ≡ true
             m = sym (body-shorter file) ∙ lt-ltb (length (body file)) (length file) (omega arith)
 
-            pub starts-with-mark : n ≡ 0 → Checks file code day ls rs (Refused StartsWithMark) ls rs
-            starts-with-mark z =
-                let s : startsWithMark file ≡ true = body-empty file ∙ rw (eq-eqb (length (body file)) 0 (omega arith), m) in
-                refused StartsWithMark (rw (a, b, c, d, m, s)) (rw (a, b, c, d, m, s))
+            pub leftovers : n + 1 < length file → Checks file code day ls rs (Refused Leftovers) ls rs
+            leftovers h =
+                let t : hasLeftovers file ≡ true = sym (leftovers-long file) ∙ lt-ltb (suc (length (body file))) (length file) (omega arith) in
+                refused Leftovers (rw (a, b, c, d, m, t)) (rw (a, b, c, d, m, t))
 
-            pub body-is : take n file ≡ body file
-            body-is = rw q (body-take file)
+            module _ (u : length file ≤ n + 1) where
+              t : hasLeftovers file ≡ false
+              t = sym (leftovers-long file) ∙ le-ltb (suc (length (body file))) (length file) (omega arith)
 
-            pub checked : (n ≡ 0 → ⊥) → {g : Ledger} {ls′ rs′ : List ℕ} → Listed (faultsIn code day (take n file)) ls rs g ls′ rs′ → Checks file code day ls rs (Total (g .total)) ls′ rs′
-            unfolding faults
-            checked z {g} {ls′} {rs′} L =
-                let s : startsWithMark file ≡ false = body-empty file ∙ rw (ne-eqb (length (body file)) 0 (λ e. z (omega arith))) in
-                let o : refusal ≡ 0 = rw (a, b, c, d, m, s) in
-                let f : faultsIn code day (take n file) ≡ faultsIn code day (body file) = ap (faultsIn code day) body-is in
-                record {
-                  number = sym o;
-                  total = λ old. L .total ∙ ap length f ∙ (rw o refl);
-                  lines = L .lines ∙ rw (f, o);
-                  rules = L .rules ∙ rw (f, o);
-                }
+              pub starts-with-mark : n ≡ 0 → Checks file code day ls rs (Refused StartsWithMark) ls rs
+              starts-with-mark z =
+                  let s : startsWithMark file ≡ true = body-empty file ∙ rw (eq-eqb (length (body file)) 0 (omega arith), m) in
+                  refused StartsWithMark (rw (a, b, c, d, m, t, s)) (rw (a, b, c, d, m, t, s))
+
+              pub body-is : take n file ≡ body file
+              body-is = rw q (body-take file)
+
+              pub checked : (n ≡ 0 → ⊥) → {g : Ledger} {ls′ rs′ : List ℕ} → Listed (faultsIn code day (take n file)) ls rs g ls′ rs′ → Checks file code day ls rs (Total (g .total)) ls′ rs′
+              unfolding faults
+              checked z {g} {ls′} {rs′} L =
+                  let s : startsWithMark file ≡ false = body-empty file ∙ rw (ne-eqb (length (body file)) 0 (λ e. z (omega arith))) in
+                  let o : refusal ≡ 0 = rw (a, b, c, d, m, t, s) in
+                  let f : faultsIn code day (take n file) ≡ faultsIn code day (body file) = ap (faultsIn code day) body-is in
+                  record {
+                    number = sym o;
+                    total = λ old. L .total ∙ ap length f ∙ (rw o refl);
+                    lines = L .lines ∙ rw (f, o);
+                    rules = L .rules ∙ rw (f, o);
+                  }

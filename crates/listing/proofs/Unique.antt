@@ -7,12 +7,12 @@ use lib.Dec.{eqb}
 use Rattle.listing.specs.declared.checking.Checked.{Checked}
 use Rattle.listing.specs.declared.checking.Checked.the-variants.{Total, Refused}
 use Rattle.listing.specs.declared.checking.Unchecked.{Unchecked}
-use Rattle.listing.specs.declared.checking.Unchecked.the-variants.{BadCode, BadDay, TooLong, UnequalRooms, NoMark, StartsWithMark}
+use Rattle.listing.specs.declared.checking.Unchecked.the-variants.{BadCode, BadDay, TooLong, UnequalRooms, NoMark, Leftovers, StartsWithMark}
 use Rattle.listing.specs.Checking.{uncheckedNumber, checkedNumber, checkedOr, Checks}
 
 -- a refusal by its number
 abbrev pub refusalOf : ℕ → Unchecked
-refusalOf k = cond (eqb k 1) BadCode (cond (eqb k 2) BadDay (cond (eqb k 3) TooLong (cond (eqb k 4) UnequalRooms (cond (eqb k 5) NoMark StartsWithMark))))
+refusalOf k = cond (eqb k 1) BadCode (cond (eqb k 2) BadDay (cond (eqb k 3) TooLong (cond (eqb k 4) UnequalRooms (cond (eqb k 5) NoMark (cond (eqb k 9) Leftovers StartsWithMark)))))
 
 pub refusal-told : (u : Unchecked) → refusalOf (uncheckedNumber u) ≡ u
 refusal-told BadCode = refl
@@ -20,6 +20,7 @@ refusal-told BadDay = refl
 refusal-told TooLong = refl
 refusal-told UnequalRooms = refl
 refusal-told NoMark = refl
+refusal-told Leftovers = refl
 refusal-told StartsWithMark = refl
 
 -- an answer by its number and its total
@@ -36,6 +37,7 @@ told (Refused u) = ap (λ (b : Bool). cond b (Total 0) (Refused (refusalOf (unch
     some TooLong = refl
     some UnequalRooms = refl
     some NoMark = refl
+    some Leftovers = refl
     some StartsWithMark = refl
 
 pub check-unique : {file : List ℕ} {code day : ℕ} {ls₀ rs₀ : List ℕ} {r r′ : Checked} {ls ls′ rs rs′ : List ℕ} → Checks file code day ls₀ rs₀ r ls rs → Checks file code day ls₀ rs₀ r′ ls′ rs′

@@ -7,11 +7,11 @@ use lib.Dec.{leb, ltb, eqb}
 use lib.ListN.{length}
 use Rattle.laws.specs.Refusals.{Refusal, _if_, first}
 use Rattle.days.specs.Days.{isReal}
-use Rattle.lines.specs.Lines.{hasMark, startsWithMark}
+use Rattle.lines.specs.Lines.{hasMark, hasLeftovers, startsWithMark}
 use Rattle.ledger.specs.Faults.{Fault, written}
 use Rattle.items.specs.Faults.{faults}
 use Rattle.listing.specs.declared.checking.Unchecked.{Unchecked}
-use Rattle.listing.specs.declared.checking.Unchecked.the-variants.{BadCode, BadDay, TooLong, UnequalRooms, NoMark, StartsWithMark}
+use Rattle.listing.specs.declared.checking.Unchecked.the-variants.{BadCode, BadDay, TooLong, UnequalRooms, NoMark, Leftovers, StartsWithMark}
 use Rattle.listing.specs.declared.checking.Checked.{Checked}
 use Rattle.listing.specs.declared.checking.Checked.the-variants.{Total, Refused}
 
@@ -30,6 +30,7 @@ checkRefusals file code day m n =
     (3 if ltb 10000000 (length file)) ∷
     (4 if not (eqb m n)) ∷
     (5 if not (hasMark file)) ∷
+    (9 if hasLeftovers file) ∷
     (6 if startsWithMark file) ∷ []
 
 -- document 01's number for each refusal, and for each answer
@@ -39,6 +40,7 @@ uncheckedNumber BadDay = 2
 uncheckedNumber TooLong = 3
 uncheckedNumber UnequalRooms = 4
 uncheckedNumber NoMark = 5
+uncheckedNumber Leftovers = 9
 uncheckedNumber StartsWithMark = 6
 
 abbrev pub checkedNumber : Checked → ℕ

@@ -10,6 +10,7 @@ pub enum Unchecked {
     TooLong,
     UnequalRooms,
     NoMark,
+    Leftovers,
     StartsWithMark,
 }
 
@@ -51,6 +52,9 @@ pub fn check(file: &[u8], code: u32, day: u32, lines: &mut [u32], rules: &mut [u
     if file.len() <= n {
         return Checked::Refused(Unchecked::NoMark);
     }
+    if n + 1 < file.len() {
+        return Checked::Refused(Unchecked::Leftovers);
+    }
     if n == 0 {
         return Checked::Refused(Unchecked::StartsWithMark);
     }
@@ -77,6 +81,7 @@ pub fn refusal_number(u: Unchecked) -> u32
         Unchecked::TooLong => 3,
         Unchecked::UnequalRooms => 4,
         Unchecked::NoMark => 5,
+        Unchecked::Leftovers => 9,
         Unchecked::StartsWithMark => 6,
     }
 }

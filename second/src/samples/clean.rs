@@ -38,9 +38,6 @@ fn small_by(mut author: Author) -> Draft {
         let items = author.dice.range(1, 6);
         author.block(items as u32, usize::MAX);
     }
-    if author.dice.once_in(3) {
-        author.leftover();
-    }
     author.draft
 }
 
@@ -91,12 +88,6 @@ impl<'d> Author<'d> {
         let mut author = Author::new(dice);
         author.draft.code = author.dice.pick(codes);
         Author { codes: codes.to_vec(), most, ..author }
-    }
-
-    fn leftover(&mut self) {
-        let length = self.dice.below(60);
-        let bytes = b"\x1a\r\nHD:   \xff";
-        self.draft.leftover = (0..length).map(|_| self.dice.pick(bytes)).collect();
     }
 
     fn push(&mut self, lines: Lines) {

@@ -83,7 +83,7 @@ fn day(dice: &mut Dice) -> u32 {
 /// Single bytes, dense in those that cut, start and end lines.
 pub fn bytes(dice: &mut Dice) -> Sample {
     let alphabets: [&[u8]; 5] = [
-        b"\r\n \x1aHD:",
+        b"\r\n HD:",
         b"\r\n\r\n\r\n   HD:A0\x7f",
         b"\r\n\r\n :KCSUIN0123456789",
         b"\r\n\r\n ::HHDD\xde\xdf\x80~\x7f",
@@ -133,11 +133,11 @@ pub fn pieces(dice: &mut Dice) -> Sample {
     ];
     let length = dice.range(1, 40);
     let mut file: Vec<u8> = (0..length).flat_map(|_| dice.pick(&pieces)).copied().collect();
-    if dice.once_in(8) {
+    file.push(0x1a);
+    if dice.once_in(16) {
         let place = dice.place(file.len());
         file.insert(place, 0x1a);
     }
-    file.push(0x1a);
     Sample { code: CODE, day: DAY, file }
 }
 

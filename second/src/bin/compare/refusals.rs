@@ -23,7 +23,8 @@ pub const DAYS: [u32; 12] = [
     0,
     u32::MAX,
 ];
-pub const FILES: [&[u8]; 7] = [b"", b"\x1a", b"\r\n\x1a", b"x", b"x\x1a", b"\x1ax\x1a", b"\r\n"];
+pub const FILES: [&[u8]; 9] =
+    [b"", b"\x1a", b"\r\n\x1a", b"x", b"x\x1a", b"\x1ax\x1a", b"\r\n", b"x\x1ay", b"\x1a\x1a"];
 const ROOMS: [(usize, usize); 6] = [(0, 0), (3, 3), (0, 1), (1, 0), (5, 4), (256, 255)];
 const LENGTHS: [usize; 5] = [9_999_998, 9_999_999, 10_000_000, 10_000_001, 10_000_002];
 

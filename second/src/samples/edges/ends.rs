@@ -69,7 +69,7 @@ fn example() -> Vec<Sample> {
     samples
 }
 
-/// What can stand just before the end mark, and behind it.
+/// What can stand just before the end mark, and behind it (refusal 9).
 fn file_ends() -> Vec<Sample> {
     let pieces: [&[u8]; 6] = [b"", b"\r", b"\n", b"x", b"\r\n", b"EC:1"];
     let behind: [&[u8]; 5] = [b"", b"\x1a", b"\n", b"\r\nHD:\r\n\x1a", b"\xff\0"];
@@ -130,10 +130,10 @@ fn characters() -> Vec<Sample> {
     samples
 }
 
-/// Ends, lone CRs and LFs, marks and bad bytes at every offset of a line: a
+/// Ends, lone CRs and LFs and bad bytes at every offset of a line: a
 /// reader that takes many bytes at once meets them at all places of its step.
 fn cuts_at_every_offset() -> Edge {
-    const CUTS: [&[u8]; 12] = [
+    const CUTS: [&[u8]; 10] = [
         b"\r\n",
         b"\r",
         b"\n",
@@ -142,8 +142,6 @@ fn cuts_at_every_offset() -> Edge {
         b"\n\r",
         b"\r\n\r\n",
         b"\r\n\n",
-        b"\x1a",
-        b"\r\x1a\n",
         b"\x7f",
         b"\xff\r\n",
     ];

@@ -20,11 +20,17 @@ pub(super) fn bad_byte(draft: &mut Draft, dice: &mut Dice) {
 }
 
 pub(super) fn lone_end(draft: &mut Draft, dice: &mut Dice) {
-    let bytes = dice.pick(&[&b"\r"[..], b"\n", b"\n\r", b"\r\r", b"\x1a"]);
+    let bytes = dice.pick(&[&b"\r"[..], b"\n", b"\n\r", b"\r\r"]);
     if let Some(line) = any_line(draft, dice, |_| true) {
         let place = if dice.once_in(3) { line.len() } else { dice.place(line.len() + 1) };
         line.splice(place..place, bytes.iter().copied());
     }
+}
+
+/// Bytes behind the end mark: the file is refused with 9.
+pub(super) fn leftover(draft: &mut Draft, dice: &mut Dice) {
+    let length = dice.range(1, 60);
+    draft.leftover = (0..length).map(|_| dice.pick(b"\x1a\r\nHD:   \xff")).collect();
 }
 
 pub(super) fn stray_line(draft: &mut Draft, dice: &mut Dice) {

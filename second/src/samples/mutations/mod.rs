@@ -20,7 +20,7 @@ const fn aimed(rule: u32, apply: fn(&mut Draft, &mut Dice)) -> Mutation {
     Mutation { rule, apply }
 }
 
-pub static ALL: [Mutation; 48] = [
+pub static ALL: [Mutation; 49] = [
     aimed(1, lines::bad_byte),
     aimed(1, lines::lone_end),
     aimed(2, lines::stray_line),
@@ -65,6 +65,7 @@ pub static ALL: [Mutation; 48] = [
     aimed(36, blocks::any_sum::<6>),
     aimed(37, blocks::any_sum::<7>),
     aimed(38, blocks::any_sum::<8>),
+    aimed(0, lines::leftover),
     aimed(0, lines::missing_line),
     aimed(0, lines::moved_line),
     aimed(0, lines::joined_lines),

@@ -2,7 +2,7 @@ use mathlib.Core.Path.{sym, ap, _∙_}
 use mathlib.Core.Bool.{not}
 use native.Mathlib.Omega.{arith}
 use lib.Seq.{length-take-le}
-use Rattle.listing.proofs.Answers.{bad-code, bad-day, too-long, unequal-rooms, no-mark, starts-with-mark, checked}
+use Rattle.listing.proofs.Answers.{bad-code, bad-day, too-long, unequal-rooms, no-mark, leftovers, starts-with-mark, checked}
 use borrow.Author.Needs.{needs}
 use Rattle.listing.proofs.checking.check.Statement.{statement}
 use Rattle.listing.proofs.checking.check.Tie as tie
@@ -31,14 +31,20 @@ body-len-requires c κs = search needs
 returns-5 : tie.Need-returns-5
 returns-5 c = no-mark _ _ _ _ _ (ap not (sym (c .before .before .before .before .before .before .before .is-code .ensures)) ∙ c .before .before .before .before .before .before .if1 .left) (ap not (sym (c .before .before .before .before .before .is-accounting-day .ensures)) ∙ c .before .before .before .before .if2 .left) (c .before .before .before .if3 .left) (c .before .before .if4 .left) _ (c .before .body-len .ensures) (c .if5 .taken)
 
+add-if6 : tie.Need-add-if6
+add-if6 c = search needs
+
 returns-6 : tie.Need-returns-6
-returns-6 c = starts-with-mark _ _ _ _ _ (ap not (sym (c .before .before .before .before .before .before .before .before .is-code .ensures)) ∙ c .before .before .before .before .before .before .before .if1 .left) (ap not (sym (c .before .before .before .before .before .before .is-accounting-day .ensures)) ∙ c .before .before .before .before .before .if2 .left) (c .before .before .before .before .if3 .left) (c .before .before .before .if4 .left) _ (c .before .before .body-len .ensures) (c .before .if5 .left) (c .if6 .taken)
+returns-6 c = leftovers _ _ _ _ _ (ap not (sym (c .before .before .before .before .before .before .before .before .is-code .ensures)) ∙ c .before .before .before .before .before .before .before .if1 .left) (ap not (sym (c .before .before .before .before .before .before .is-accounting-day .ensures)) ∙ c .before .before .before .before .before .if2 .left) (c .before .before .before .before .if3 .left) (c .before .before .before .if4 .left) _ (c .before .before .body-len .ensures) (c .before .if5 .left) (c .if6 .taken)
+
+returns-7 : tie.Need-returns-7
+returns-7 c = starts-with-mark _ _ _ _ _ (ap not (sym (c .before .before .before .before .before .before .before .before .before .is-code .ensures)) ∙ c .before .before .before .before .before .before .before .before .if1 .left) (ap not (sym (c .before .before .before .before .before .before .before .is-accounting-day .ensures)) ∙ c .before .before .before .before .before .before .if2 .left) (c .before .before .before .before .before .if3 .left) (c .before .before .before .before .if4 .left) _ (c .before .before .before .body-len .ensures) (c .before .before .if5 .left) (c .before .if6 .left) (c .if7 .taken)
 
 slice-aggregate-enter-faults : tie.Need-slice-aggregate-enter-faults
-slice-aggregate-enter-faults c = sym (length-take-le _ (c .before .before .before .before .before .before .before .before .before .before .before .before .before .args .file .now) (omega (arith, c .before .before .if5 .left)))
+slice-aggregate-enter-faults c = sym (length-take-le _ (c .before .before .before .before .before .before .before .before .before .before .before .before .before .before .args .file .now) (omega (arith, c .before .before .before .if5 .left)))
 
 enter-faults-requires : tie.Need-enter-faults-requires
-enter-faults-requires c κs = (omega (arith, length-take-le (c .before .before .before .before .before .body-len .result) (c .before .before .before .before .before .before .before .before .before .before .before .before .before .before .before .args .file .now) (omega (arith, c .before .before .before .before .if5 .left)), c .before .before .before .before .before .before .before .if3 .left, c .before .before .before .before .if5 .left), c .before .before .before .before .before .before .if4 .left)
+enter-faults-requires c κs = (omega (arith, length-take-le (c .before .before .before .before .before .before .body-len .result) (c .before .before .before .before .before .before .before .before .before .before .before .before .before .before .before .before .args .file .now) (omega (arith, c .before .before .before .before .before .if5 .left)), c .before .before .before .before .before .before .before .before .if3 .left, c .before .before .before .before .before .if5 .left), c .before .before .before .before .before .before .before .if4 .left)
 
 same-length : tie.Need-same-length
 same-length c = search needs
@@ -46,8 +52,8 @@ same-length c = search needs
 same-length-2 : tie.Need-same-length-2
 same-length-2 c = search needs
 
-returns-7 : tie.Need-returns-7
-returns-7 c = checked _ _ _ _ _ (ap not (sym (c .before .before .before .before .before .before .before .before .before .before .before .before .before .before .before .before .is-code .ensures)) ∙ c .before .before .before .before .before .before .before .before .before .before .before .before .before .before .before .if1 .left) (ap not (sym (c .before .before .before .before .before .before .before .before .before .before .before .before .before .before .is-accounting-day .ensures)) ∙ c .before .before .before .before .before .before .before .before .before .before .before .before .before .if2 .left) (c .before .before .before .before .before .before .before .before .before .before .before .before .if3 .left) (c .before .before .before .before .before .before .before .before .before .before .before .if4 .left) _ (c .before .before .before .before .before .before .before .before .before .before .body-len .ensures) (c .before .before .before .before .before .before .before .before .before .if5 .left) (c .before .before .before .before .before .before .before .before .if6 .left) (c .before .before .before .before .enter-faults .ensures)
+returns-8 : tie.Need-returns-8
+returns-8 c = checked _ _ _ _ _ (ap not (sym (c .before .before .before .before .before .before .before .before .before .before .before .before .before .before .before .before .before .is-code .ensures)) ∙ c .before .before .before .before .before .before .before .before .before .before .before .before .before .before .before .before .if1 .left) (ap not (sym (c .before .before .before .before .before .before .before .before .before .before .before .before .before .before .before .is-accounting-day .ensures)) ∙ c .before .before .before .before .before .before .before .before .before .before .before .before .before .before .if2 .left) (c .before .before .before .before .before .before .before .before .before .before .before .before .before .if3 .left) (c .before .before .before .before .before .before .before .before .before .before .before .before .if4 .left) _ (c .before .before .before .before .before .before .before .before .before .before .before .body-len .ensures) (c .before .before .before .before .before .before .before .before .before .before .if5 .left) (c .before .before .before .before .before .before .before .before .before .if6 .left) (c .before .before .before .before .before .before .before .before .if7 .left) (c .before .before .before .before .enter-faults .ensures)
 
 pub check-spec : {M : Type 1} → statement M
 check-spec =
@@ -61,9 +67,11 @@ check-spec =
     returns-4
     body-len-requires
     returns-5
+    add-if6
     returns-6
+    returns-7
     slice-aggregate-enter-faults
     enter-faults-requires
     same-length
     same-length-2
-    returns-7)
+    returns-8)
