@@ -8,7 +8,7 @@ use Rattle.text.specs.Characters.{isAdmissible}
 use Rattle.text.specs.Digits.{valueAfter, digits}
 use Rattle.days.specs.Days.{isLeap, row, monthLength, isReal, dayNumber}
 use Rattle.text.specs.Strings.{begins}
-use Rattle.text.specs.Forms.{template, hasForm, numbers, textOf as formText}
+use Rattle.text.specs.Forms.{template, hasForm, numbers, formText}
 use Rattle.headings.specs.ItemTypes.{isInput, isTrilateral, isPriority, isPayment}
 use Rattle.headings.specs.HeadRules.{rule10, rule13, rule14}
 use Rattle.headings.specs.Reading.{headingOf}

@@ -11,7 +11,7 @@ use lib.Dec.{leb, eqb}
 use borrow.Author.Tests.{leb-true, le-leb, eqb-true, eq-eqb, not-true}
 use Rattle.fields.specs.declared.classes.Class.{Class}
 use Rattle.fields.specs.declared.classes.Class.the-variants.{Money, Number, Range, Group, Account, Text, Free}
-use Rattle.figures.specs.Layouts.{Part, some, lit, mayEnd, rest, run, isEmpty, headIs, fits, part}
+use Rattle.figures.specs.Layouts.{Part, several, lit, mayEnd, rest, run, isEmpty, headIs, fits, part}
 use Rattle.figures.specs.Described.{allOf, Described, whole, stretch, stands, stops, goes-on, left}
 use Rattle.fields.specs.Readings.{textOf, layoutOf, saidBy, readingOf}
 use Rattle.fields.specs.Tails.{takes, reads, saysOf}
@@ -21,7 +21,7 @@ use Rattle.figures.proofs.Runs.{run-le, run-length, run-all}
 -- the stretches that reading finds
 abbrev pub found : List Part → List ℕ → List (List ℕ)
 found [] s = []
-found (some f lo hi ∷ ps) s = take (run f hi s) s ∷ found ps (drop (run f hi s) s)
+found (several f lo hi ∷ ps) s = take (run f hi s) s ∷ found ps (drop (run f hi s) s)
 found (lit x ∷ ps) s = found ps (drop 1 s)
 found (mayEnd ∷ ps) [] = []
 found (mayEnd ∷ ps) (b ∷ s) = found ps (b ∷ s)
@@ -32,10 +32,10 @@ pub described : (ps : List Part) (s : List ℕ) → fits ps s ≡ true → Descr
 unfolding fits isEmpty headIs
 described [] [] e = whole
 described [] (b ∷ s) e = absurd (false≢true e)
-described (some f lo hi ∷ ps) s e =
+described (several f lo hi ∷ ps) s e =
     let p = and-parts (leb lo (run f hi s)) (fits ps (drop (run f hi s) s)) e in
     let l : length (take (run f hi s) s) ≡ run f hi s = length-take-le (run f hi s) s (run-length f hi s) in
-    subst (λ (t : List ℕ). Described (some f lo hi ∷ ps) t (found (some f lo hi ∷ ps) s)) (take-append-drop (run f hi s) s)
+    subst (λ (t : List ℕ). Described (several f lo hi ∷ ps) t (found (several f lo hi ∷ ps) s)) (take-append-drop (run f hi s) s)
     (stretch (take (run f hi s) s) (run-all f hi s) (omega (arith, l, leb-true lo (run f hi s) (p .0))) (omega (arith, l, run-le f hi s))
     (described ps (drop (run f hi s) s) (p .1)))
 described (lit x ∷ ps) [] e = absurd (false≢true e)
@@ -49,7 +49,7 @@ described (rest ∷ ps) s e = left
 -- a byte of the sort cannot follow its stretch
 abbrev pub apart : (ℕ → Bool) → List Part → Bool
 apart f [] = true
-apart f (some g lo hi ∷ ps) = false
+apart f (several g lo hi ∷ ps) = false
 apart f (lit x ∷ ps) = not (f x)
 apart f (mayEnd ∷ ps) = apart f ps
 apart f (rest ∷ ps) = false
@@ -57,7 +57,7 @@ apart f (rest ∷ ps) = false
 -- each stretch of a layout ends where it must
 abbrev pub clear : List Part → Bool
 clear [] = true
-clear (some f lo hi ∷ ps) = apart f ps && clear ps
+clear (several f lo hi ∷ ps) = apart f ps && clear ps
 clear (lit x ∷ ps) = clear ps
 clear (mayEnd ∷ ps) = clear ps
 clear (rest ∷ ps) = true
@@ -88,7 +88,7 @@ run-stop f (suc hi) (b ∷ a) s p l h =
 pub fits-described : (ps : List Part) (s : List ℕ) {us : List (List ℕ)} → clear ps ≡ true → Described ps s us → fits ps s ≡ true
 unfolding fits isEmpty headIs
 fits-described _ _ c whole = refl
-fits-described (some f lo hi ∷ ps) _ c (stretch {s = s} a p q r d) =
+fits-described (several f lo hi ∷ ps) _ c (stretch {s = s} a p q r d) =
     let k = and-parts (apart f ps) (clear ps) c in
     rw (run-stop f hi a s p r (apart-head f ps s (k .0) d), le-leb lo (length a) q, drop-append-seam a s) (fits-described ps s (k .1) d)
 fits-described (lit x ∷ ps) (_ ∷ s) c (stands d) = rw (eq-eqb x x refl) (fits-described ps s c d)
@@ -104,8 +104,8 @@ fits-described _ _ c left = refl
 part-nil : (i : ℕ) (ps : List Part) → part i ps [] ≡ []
 unfolding part
 part-nil i [] = refl
-part-nil zero (some f lo hi ∷ ps) = take-nil (run f hi [])
-part-nil (suc i) (some f lo hi ∷ ps) = rw (drop-nil (run f hi [])) (part-nil i ps)
+part-nil zero (several f lo hi ∷ ps) = take-nil (run f hi [])
+part-nil (suc i) (several f lo hi ∷ ps) = rw (drop-nil (run f hi [])) (part-nil i ps)
 part-nil i (lit x ∷ ps) = part-nil i ps
 part-nil i (mayEnd ∷ ps) = part-nil i ps
 part-nil i (rest ∷ ps) = refl
@@ -113,10 +113,10 @@ part-nil i (rest ∷ ps) = refl
 pub part-described : (i : ℕ) (ps : List Part) (s : List ℕ) {us : List (List ℕ)} → clear ps ≡ true → Described ps s us → part i ps s ≡ getD us i []
 unfolding part
 part-described i _ _ c whole = refl
-part-described zero (some f lo hi ∷ ps) _ c (stretch {s = s} a p q r d) =
+part-described zero (several f lo hi ∷ ps) _ c (stretch {s = s} a p q r d) =
     let k = and-parts (apart f ps) (clear ps) c in
     rw (run-stop f hi a s p r (apart-head f ps s (k .0) d)) (take-append-seam a s)
-part-described (suc i) (some f lo hi ∷ ps) _ c (stretch {s = s} a p q r d) =
+part-described (suc i) (several f lo hi ∷ ps) _ c (stretch {s = s} a p q r d) =
     let k = and-parts (apart f ps) (clear ps) c in
     rw (run-stop f hi a s p r (apart-head f ps s (k .0) d), drop-append-seam a s) (part-described i ps s (k .1) d)
 part-described i (lit x ∷ ps) (_ ∷ s) c (stands d) = part-described i ps s c d

@@ -9,7 +9,7 @@ use lib.Seq.{take-take, take-nil}
 use lib.Dec.{lit≤}
 use Rattle.fields.specs.declared.classes.Class.{Class}
 use Rattle.fields.specs.declared.classes.Class.the-variants.{Money, Number, Range, Group, Account, Text, Free}
-use Rattle.figures.specs.Layouts.{Part, some, lit, mayEnd, rest, run, isEmpty, headIs, fits, part, reach}
+use Rattle.figures.specs.Layouts.{Part, several, lit, mayEnd, rest, run, isEmpty, headIs, fits, part, reach}
 use Rattle.fields.specs.Kinds.{kindOf}
 use Rattle.fields.specs.Readings.{textOf, layoutOf, readingOf}
 use Rattle.fields.proofs.LineKinds.{kind-take}
@@ -36,7 +36,7 @@ head-take x (suc k) (b ∷ s) l = refl
 pub fits-take : (ps : List Part) (k : ℕ) (s : List ℕ) → reach ps ≤ k → fits ps (take k s) ≡ fits ps s
 unfolding fits
 fits-take [] k s l = empty-take k s l
-fits-take (some f lo hi ∷ ps) k s l =
+fits-take (several f lo hi ∷ ps) k s l =
     rw (run-take f hi k s (omega arith), drop-take (run f hi s) k s (omega (arith, run-le f hi s)), fits-take ps (k - run f hi s) (drop (run f hi s) s) (omega (arith, run-le f hi s)))
 fits-take (lit x ∷ ps) k s l = rw (head-take x k s (omega arith), drop-take 1 k s (omega arith), fits-take ps (k - 1) (drop 1 s) (omega arith))
 fits-take (mayEnd ∷ ps) k s l = rw (empty-take k s (omega arith), fits-take ps k s (omega arith))
@@ -45,9 +45,9 @@ fits-take (rest ∷ ps) k s l = refl
 pub part-take : (i : ℕ) (ps : List Part) (k : ℕ) (s : List ℕ) → reach ps ≤ k → part i ps (take k s) ≡ part i ps s
 unfolding part
 part-take i [] k s l = refl
-part-take zero (some f lo hi ∷ ps) k s l =
+part-take zero (several f lo hi ∷ ps) k s l =
     rw (run-take f hi k s (omega arith)) (take-take (run f hi s) k s (omega (arith, run-le f hi s)))
-part-take (suc i) (some f lo hi ∷ ps) k s l =
+part-take (suc i) (several f lo hi ∷ ps) k s l =
     rw (run-take f hi k s (omega arith), drop-take (run f hi s) k s (omega (arith, run-le f hi s))) (part-take i ps (k - run f hi s) (drop (run f hi s) s) (omega (arith, run-le f hi s)))
 part-take i (lit x ∷ ps) k s l = rw (drop-take 1 k s (omega arith)) (part-take i ps (k - 1) (drop 1 s) (omega arith))
 part-take i (mayEnd ∷ ps) k s l = part-take i ps k s (omega arith)

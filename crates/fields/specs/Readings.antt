@@ -8,7 +8,7 @@ use Rattle.fields.specs.declared.classes.Class.{Class}
 use Rattle.fields.specs.declared.classes.Class.the-variants.{Money, Number, Range, Group, Account, Text, Free}
 use Rattle.fields.specs.declared.readings.Reading.{Reading}
 use Rattle.fields.specs.declared.readings.Reading.the-variants.{Broken, Plain, Paid, Span, Stated, Party}
-use Rattle.figures.specs.Layouts.{Layout, none, upTo, unread, num, bytes, space, rest, noMore, maybeRest, maybeName, fits, part}
+use Rattle.figures.specs.Layouts.{Layout, noTail, upTo, unread, num, bytes, space, rest, noMore, maybeRest, maybeName, fits, part}
 use Rattle.figures.specs.Accounts.{accountHolds}
 
 -- a line after its first three bytes: identifier and colon, or three spaces
@@ -17,10 +17,10 @@ textOf l = drop 3 l
 
 abbrev pub layoutOf : Class → Layout
 layoutOf Money = record { own = num 1 15 ∷ space ∷ num 8 8 ∷ maybeRest; more = unread }
-layoutOf Number = record { own = num 1 10 ∷ noMore; more = none }
-layoutOf Range = record { own = num 1 7 ∷ space ∷ num 1 7 ∷ noMore; more = none }
-layoutOf Group = record { own = num 1 7 ∷ space ∷ num 1 17 ∷ noMore; more = none }
-layoutOf Account = record { own = num 0 6 ∷ space ∷ num 1 10 ∷ maybeName; more = none }
+layoutOf Number = record { own = num 1 10 ∷ noMore; more = noTail }
+layoutOf Range = record { own = num 1 7 ∷ space ∷ num 1 7 ∷ noMore; more = noTail }
+layoutOf Group = record { own = num 1 7 ∷ space ∷ num 1 17 ∷ noMore; more = noTail }
+layoutOf Account = record { own = num 0 6 ∷ space ∷ num 1 10 ∷ maybeName; more = noTail }
 layoutOf Text = record { own = bytes 1 35 ∷ noMore; more = upTo 3 (bytes 0 35 ∷ noMore) }
 layoutOf Free = record { own = rest ∷ []; more = unread }
 

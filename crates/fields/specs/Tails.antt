@@ -9,7 +9,7 @@ use Rattle.fields.specs.declared.classes.Class.{Class}
 use Rattle.fields.specs.declared.readings.Reading.{Reading}
 use Rattle.fields.specs.declared.readings.Reading.the-variants.{Broken, Plain, Paid, Span, Stated, Party}
 use Rattle.fields.specs.declared.tails.Tail.{Tail}
-use Rattle.figures.specs.Layouts.{Part, More, none, upTo, unread, bytes, noMore, fits}
+use Rattle.figures.specs.Layouts.{Part, More, noTail, upTo, unread, bytes, noMore, fits}
 use Rattle.fields.specs.Readings.{textOf, layoutOf, readingOf, ifFits}
 
 unfoldable pub allFit : List Part → List (List ℕ) → Bool
@@ -17,7 +17,7 @@ allFit ps [] = true
 allFit ps (l ∷ ls) = fits ps (textOf l) && allFit ps ls
 
 unfoldable pub takes : More → List (List ℕ) → Bool
-takes none ls = eqb (length ls) 0
+takes noTail ls = eqb (length ls) 0
 takes (upTo n ps) ls = leb (length ls) n && allFit ps ls
 takes unread ls = true
 
@@ -47,7 +47,7 @@ tailMore a n = record { count = min 4 (suc (a .count)); short = leb n (3 + 35) &
 
 -- whether a tail of which that is kept is one that a field of a class may have
 abbrev pub keptBy : More → Tail → Bool
-keptBy none a = eqb (a .count) 0
+keptBy noTail a = eqb (a .count) 0
 keptBy (upTo n ps) a = leb (a .count) n && a .short
 keptBy unread a = true
 

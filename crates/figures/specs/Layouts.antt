@@ -9,14 +9,14 @@ use Rattle.text.specs.Digits.{isDigit}
 
 -- a part: from so many to so many bytes of a sort; this byte; the text may end here; the rest, unread
 pub data Part : Type 0 where
-  some : (ℕ → Bool) → ℕ → ℕ → Part
+  several : (ℕ → Bool) → ℕ → ℕ → Part
   lit : ℕ → Part
   mayEnd : Part
   rest : Part
 
 -- the continuations that a field may have: none; so many at most, each with a row of parts after its three spaces; any, unread
 pub data More : Type 0 where
-  none : More
+  noTail : More
   upTo : ℕ → List Part → More
   unread : More
 
@@ -26,14 +26,14 @@ pub record Layout : Type 0 where
 
 -- so many digits
 abbrev pub num : ℕ → ℕ → Part
-num lo hi = some isDigit lo hi
+num lo hi = several isDigit lo hi
 
 abbrev pub anyByte : ℕ → Bool
 anyByte b = true
 
 -- so many bytes
 abbrev pub bytes : ℕ → ℕ → Part
-bytes lo hi = some anyByte lo hi
+bytes lo hi = several anyByte lo hi
 
 abbrev pub space : Part
 space = lit 0x20
@@ -65,16 +65,16 @@ headIs x (b ∷ s) = eqb b x
 -- a text fits a row of parts
 unfoldable pub fits : List Part → List ℕ → Bool
 fits [] s = isEmpty s
-fits (some f lo hi ∷ ps) s = leb lo (run f hi s) && fits ps (drop (run f hi s) s)
+fits (several f lo hi ∷ ps) s = leb lo (run f hi s) && fits ps (drop (run f hi s) s)
 fits (lit x ∷ ps) s = headIs x s && fits ps (drop 1 s)
 fits (mayEnd ∷ ps) s = isEmpty s || fits ps s
 fits (rest ∷ ps) s = true
 
--- what stands in the first, the second .. of the parts that are `some`
+-- what stands in the first, the second .. of the parts that are `several`
 unfoldable pub part : ℕ → List Part → List ℕ → List ℕ
 part k [] s = []
-part zero (some f lo hi ∷ ps) s = take (run f hi s) s
-part (suc k) (some f lo hi ∷ ps) s = part k ps (drop (run f hi s) s)
+part zero (several f lo hi ∷ ps) s = take (run f hi s) s
+part (suc k) (several f lo hi ∷ ps) s = part k ps (drop (run f hi s) s)
 part k (lit x ∷ ps) s = part k ps (drop 1 s)
 part k (mayEnd ∷ ps) s = part k ps s
 part k (rest ∷ ps) s = []
@@ -82,7 +82,7 @@ part k (rest ∷ ps) s = []
 -- how many bytes a row of parts can look at
 abbrev pub reach : List Part → ℕ
 reach [] = 1
-reach (some f lo hi ∷ ps) = hi + reach ps
+reach (several f lo hi ∷ ps) = hi + reach ps
 reach (lit x ∷ ps) = suc (reach ps)
 reach (mayEnd ∷ ps) = suc (reach ps)
 reach (rest ∷ ps) = 0

@@ -6,7 +6,7 @@ use Prim.Native.Nat.{ℕ, _≤_}
 use native.Mathlib.Omega.{arith}
 use lib.ListN.{length, take, drop}
 use lib.Seq.{take-at}
-use Rattle.text.specs.Forms.{template, numbers, fits, textOf}
+use Rattle.text.specs.Forms.{template, numbers, fits, formText}
 use Rattle.text.proofs.Layouts.{form-length, text-numbers, fits-numbers, form-text, numbers-text}
 use Rattle.headings.specs.declared.Heading.{Heading}
 use Rattle.headings.specs.declared.Read.the-variants.{Reads, Unreadable}
@@ -44,7 +44,7 @@ module _ (s : List ℕ) (h : Heading) (e : headingOf s ≡ Reads h) where
   unfolding headingText
   written-read =
       let f = form s h e in
-      ap (λ (x : Heading). textOf layout (parts x)) (sym (f .1)) ∙ ap (textOf layout) (back s) ∙ text-numbers layout s refl (f .0)
+      ap (λ (x : Heading). formText layout (parts x)) (sym (f .1)) ∙ ap (formText layout) (back s) ∙ text-numbers layout s refl (f .0)
 
   -- each part of a heading that was read fits its digits
   pub fits-read : fitsHeading h ≡ true

@@ -6,7 +6,7 @@ use mathlib.Core.List.{List, [], _∷_, _++_}
 use lib.ListN.{length, drop}
 use lib.Dec.{eqb, ltb}
 use Rattle.laws.specs.Refusals.{Refusal, _if_, first}
-use Rattle.text.specs.Forms.{fits, textOf}
+use Rattle.text.specs.Forms.{fits, formText}
 use Rattle.headings.specs.declared.Heading.{Heading}
 use Rattle.headings.specs.declared.writing.Written.{Written}
 use Rattle.headings.specs.declared.writing.Written.the-variants.{Done, TooLarge, TooShort}
@@ -22,11 +22,11 @@ unfoldable pub fitsHeading : Heading → Bool
 fitsHeading h = fits layout (parts h)
 
 unfoldable pub headingText : Heading → List ℕ
-headingText h = textOf layout (parts h)
+headingText h = formText layout (parts h)
 
 -- its part from the first code on
 unfoldable pub sevensText : Heading → List ℕ
-sevensText h = textOf (drop 4 layout) (drop 2 (parts h))
+sevensText h = formText (drop 4 layout) (drop 2 (parts h))
 
 -- 'A refusal changes no lent byte. A longer target keeps its bytes after the 54th.'
 -- What a target holds after a job that refuses with a number, or with 0 and then writes 54 bytes

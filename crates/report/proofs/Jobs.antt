@@ -7,7 +7,7 @@ use native.Mathlib.Omega.{arith}
 use lib.Dec.{leb}
 use lib.ListN.{length, take, length-take}
 use borrow.Author.Tests.{leb-true, leb-false}
-use Rattle.text.specs.Forms.{template, numbers, numberAt}
+use Rattle.text.specs.Forms.{template, numbers, partAt}
 use Rattle.text.proofs.Layouts.{form-length, placed, placed-is}
 use Rattle.report.specs.declared.job.Job.the-variants.{Of, Broken}
 use Rattle.report.specs.Job.{jobLayout, isJobLine, jobLineOf, jobOf}
@@ -16,7 +16,7 @@ module _ (line : List ℕ) where
   places : numbers jobLayout line ≡ placed jobLayout 0 line
   places = placed-is jobLayout 0 line
 
-  pub found : isJobLine line ≡ true → Of (numberAt line 0 4) (numberAt line 5 8) ≡ jobLineOf line
+  pub found : isJobLine line ≡ true → Of (partAt line 0 4) (partAt line 5 8) ≡ jobLineOf line
   unfolding jobLineOf
   found m = rw (m, places)
 

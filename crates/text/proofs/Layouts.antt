@@ -9,7 +9,7 @@ use lib.Seq.{take-at, drop-at, drop-drop}
 use lib.Dec.{ltb, eqb}
 use borrow.Author.Tests.{le-leb, lt-ltb, ltb-true, eq-eqb, eqb-true, not-true}
 use Rattle.text.specs.Digits.{isDigit, allDigits, digits}
-use Rattle.text.specs.Forms.{Piece, lit, num, template, fitsByte, hasForm, numberAt, numbers, fits, textOf}
+use Rattle.text.specs.Forms.{Piece, lit, num, template, fitsByte, hasForm, partAt, numbers, fits, formText}
 use Rattle.text.proofs.Widths.{length-digits, read-written, written-read, value-lt}
 
 and-parts : (a b : Bool) → (a && b) ≡ true → (a ≡ true) × (b ≡ true)
@@ -121,8 +121,8 @@ digits-part n us s e =
     (zeros n (take n s) (r .0), sym (form-length (replicate n 48) (take n s) (r .0)) ∙ length-replicate {A = ℕ} n 48, r .1)
 
 -- writing what was read: a text in a layout's form is the text of its numbers
-pub text-numbers : (ps : List Piece) (s : List ℕ) → plain ps ≡ true → hasForm (template ps) s ≡ true → textOf ps (numbers ps s) ≡ s
-unfolding template hasForm textOf numbers
+pub text-numbers : (ps : List Piece) (s : List ℕ) → plain ps ≡ true → hasForm (template ps) s ≡ true → formText ps (numbers ps s) ≡ s
+unfolding template hasForm formText numbers
 text-numbers [] [] p e = refl
 text-numbers [] (b ∷ bs) p e = absurd (false≢true e)
 text-numbers (lit l ∷ ps) s p e =
@@ -144,25 +144,25 @@ fits-numbers (num n ∷ ps) s e =
     rw (lt-ltb _ _ (rw (r .1) at (value-lt (take n s) (r .0))), fits-numbers ps (drop n s) (r .2))
 
 -- reading what was written: the text of numbers that fit has the layout's form
-pub form-text : (ps : List Piece) (vs : List ℕ) → fits ps vs ≡ true → hasForm (template ps) (textOf ps vs) ≡ true
-unfolding template hasForm textOf fits
+pub form-text : (ps : List Piece) (vs : List ℕ) → fits ps vs ≡ true → hasForm (template ps) (formText ps vs) ≡ true
+unfolding template hasForm formText fits
 form-text [] vs e = refl
-form-text (lit l ∷ ps) vs e = join l (template ps) l (textOf ps vs) (self l) (form-text ps vs e)
+form-text (lit l ∷ ps) vs e = join l (template ps) l (formText ps vs) (self l) (form-text ps vs e)
 form-text (num n ∷ ps) [] e = absurd (false≢true e)
 form-text (num n ∷ ps) (v ∷ vs) e =
     let q = and-parts (ltb v (10 ^ n)) (fits ps vs) e in
-    join (replicate n 48) (template ps) (digits n v) (textOf ps vs) (zeros-digits n v) (form-text ps vs (q .1))
+    join (replicate n 48) (template ps) (digits n v) (formText ps vs) (zeros-digits n v) (form-text ps vs (q .1))
 
 -- and those numbers
-pub numbers-text : (ps : List Piece) (vs : List ℕ) → fits ps vs ≡ true → numbers ps (textOf ps vs) ≡ vs
-unfolding textOf fits numbers
+pub numbers-text : (ps : List Piece) (vs : List ℕ) → fits ps vs ≡ true → numbers ps (formText ps vs) ≡ vs
+unfolding formText fits numbers
 numbers-text [] [] e = refl
 numbers-text [] (v ∷ vs) e = absurd (false≢true e)
-numbers-text (lit l ∷ ps) vs e = rw (drop-at l (textOf ps vs) (length l) refl, numbers-text ps vs e)
+numbers-text (lit l ∷ ps) vs e = rw (drop-at l (formText ps vs) (length l) refl, numbers-text ps vs e)
 numbers-text (num n ∷ ps) [] e = absurd (false≢true e)
 numbers-text (num n ∷ ps) (v ∷ vs) e =
     let q = and-parts (ltb v (10 ^ n)) (fits ps vs) e in
-    rw (take-at (digits n v) (textOf ps vs) n (length-digits n v), drop-at (digits n v) (textOf ps vs) n (length-digits n v), read-written n v (ltb-true _ _ (q .0)), numbers-text ps vs (q .1))
+    rw (take-at (digits n v) (formText ps vs) n (length-digits n v), drop-at (digits n v) (formText ps vs) n (length-digits n v), read-written n v (ltb-true _ _ (q .0)), numbers-text ps vs (q .1))
 
 together : (x y a b : List ℕ) → length x ≡ length y → length a ≡ length b → length (x ++ a) ≡ length (y ++ b)
 together x y a b e f = rw (length-append x a, length-append y b, e, f)
@@ -171,12 +171,12 @@ as-long : (n v : ℕ) → length (digits n v) ≡ length {A = ℕ} (replicate n 
 as-long n v = length-digits n v ∙ sym (length-replicate {A = ℕ} n 48)
 
 -- the text of any numbers is as long as the template
-pub text-length : (ps : List Piece) (vs : List ℕ) → length (textOf ps vs) ≡ length (template ps)
-unfolding textOf template
+pub text-length : (ps : List Piece) (vs : List ℕ) → length (formText ps vs) ≡ length (template ps)
+unfolding formText template
 text-length [] vs = refl
-text-length (lit l ∷ ps) vs = together l l (textOf ps vs) (template ps) refl (text-length ps vs)
-text-length (num n ∷ ps) [] = together (digits n 0) (replicate n 48) (textOf ps []) (template ps) (as-long n 0) (text-length ps [])
-text-length (num n ∷ ps) (v ∷ vs) = together (digits n v) (replicate n 48) (textOf ps vs) (template ps) (as-long n v) (text-length ps vs)
+text-length (lit l ∷ ps) vs = together l l (formText ps vs) (template ps) refl (text-length ps vs)
+text-length (num n ∷ ps) [] = together (digits n 0) (replicate n 48) (formText ps []) (template ps) (as-long n 0) (text-length ps [])
+text-length (num n ∷ ps) (v ∷ vs) = together (digits n v) (replicate n 48) (formText ps vs) (template ps) (as-long n v) (text-length ps vs)
 
 -- where a template has n zeros from a place on, a text in its form has a number to be read
 pub ready : (t s : List ℕ) (at n : ℕ) → hasForm t s ≡ true → t ≡ take at t ++ (replicate n 48 ++ drop (at + n) t) → length (take at t) ≡ at → n ≤ 9
@@ -190,11 +190,11 @@ ready t s at n m e l k =
 abbrev pub placed : List Piece → ℕ → List ℕ → List ℕ
 placed [] k s = []
 placed (lit l ∷ ps) k s = placed ps (k + length l) s
-placed (num n ∷ ps) k s = numberAt s k n ∷ placed ps (k + n) s
+placed (num n ∷ ps) k s = partAt s k n ∷ placed ps (k + n) s
 
 -- `drop` at a numeral computes into its cases, where no rewriting finds it; this holds for every place, and then computes
 pub placed-is : (ps : List Piece) (k : ℕ) (s : List ℕ) → numbers ps (drop k s) ≡ placed ps k s
 unfolding numbers
 placed-is [] k s = refl
 placed-is (lit l ∷ ps) k s = rw drop-drop (placed-is ps (k + length l) s)
-placed-is (num n ∷ ps) k s = rw drop-drop (ap (λ (vs : List ℕ). numberAt s k n ∷ vs) (placed-is ps (k + n) s))
+placed-is (num n ∷ ps) k s = rw drop-drop (ap (λ (vs : List ℕ). partAt s k n ∷ vs) (placed-is ps (k + n) s))

@@ -1,6 +1,6 @@
 -- Digits at every width: reading what was written gives the number, writing what was read gives the digits, and n digits stay below 10 ^ n.
 use mathlib.Core.Path.{_≡_, refl, ap, _∙_}
-use mathlib.Core.Bool.{Bool, true, false, cond, _&&_, false≢true}
+use mathlib.Core.Bool.{Bool, true, false, _&&_, false≢true}
 use mathlib.Core.List.{List, [], _∷_}
 use Prim.Native.Nat.{ℕ, zero, suc, _+_, _-_, _*_, _/_, _%_, _^_, _≤_, _<_}
 use native.Mathlib.Nat.{pow-succ', mul-assoc, add-mul, add-assoc, zero-add, zero-mul, mul-add-div-right, mod-lt, mod-eq-of-lt, one-le-pow, mul-add-mod-self-right, add-sub-cancel-left, not-suc-le-zero, le-of-suc-le-suc}
@@ -9,8 +9,7 @@ use lib.Arith.{mod-mul, digits-lt, digits-div}
 use lib.ListN.{length, getD}
 use lib.Dec.{leb}
 use borrow.Author.Tests.{leb-true, le-leb}
-use Rattle.text.specs.declared.digits.Number.the-variants.{Value, NotDigits}
-use Rattle.text.specs.Digits.{allDigits, valueAfter, value, numberOf, digits}
+use Rattle.text.specs.Digits.{allDigits, valueAfter, value, digits}
 
 ten-pos : (n : ℕ) → 0 < 10 ^ n
 ten-pos n = one-le-pow n 10 (omega arith)
@@ -85,30 +84,8 @@ digits-are zero v = refl
 digits-are (suc n) v =
     simp (le-leb 48 (48 + v / 10 ^ n % 10) (omega arith), le-leb (48 + v / 10 ^ n % 10) 57 (omega arith), digits-are n v)
 
--- the two round trips, as answers of the reader
-pub number-of-digits : (n v : ℕ) → v < 10 ^ n → numberOf (digits n v) ≡ Value v
-unfolding numberOf
-number-of-digits n v h = rw (digits-are n v, read-written n v h)
-
 -- each byte of digits is a digit
 pub digit-at : (bs : List ℕ) → allDigits bs ≡ true → (i : ℕ) → i < length bs → (48 ≤ getD bs i 0) × (getD bs i 0 ≤ 57)
 digit-at [] e i h = absurd (not-suc-le-zero h)
 digit-at (b ∷ bs) e zero h = let d = digit-parts b bs e in (d .0, d .1)
 digit-at (b ∷ bs) e (suc i) h = digit-at bs (digit-parts b bs e .2) i (le-of-suc-le-suc h)
-
--- what an answer of the reader says
-pub read-value : (bs : List ℕ) (v : ℕ) → numberOf bs ≡ Value v → (allDigits bs ≡ true) × (value bs ≡ v)
-unfolding numberOf
-read-value bs v e = go (allDigits bs) refl e
-  where
-    go : (t : Bool) → allDigits bs ≡ t → cond t (Value (value bs)) NotDigits ≡ Value v → (allDigits bs ≡ true) × (value bs ≡ v)
-    go true p q = (p, cc)
-    go false p q = let z : _≡_ {A = ℕ} 0 1 = cc in absurd (omega arith)
-
-pub read-none : (bs : List ℕ) → numberOf bs ≡ NotDigits → allDigits bs ≡ false
-unfolding numberOf
-read-none bs e = go (allDigits bs) refl e
-  where
-    go : (t : Bool) → allDigits bs ≡ t → cond t (Value (value bs)) NotDigits ≡ NotDigits → allDigits bs ≡ false
-    go true p q = let z : _≡_ {A = ℕ} 0 1 = cc in absurd (omega arith)
-    go false p q = p

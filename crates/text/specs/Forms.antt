@@ -29,8 +29,8 @@ hasForm (t ∷ ts) [] = false
 hasForm (t ∷ ts) (b ∷ bs) = fitsByte t b && hasForm ts bs
 
 -- the number that the n digits from a place on stand for
-abbrev pub numberAt : List ℕ → ℕ → ℕ → ℕ
-numberAt s at n = value (take n (drop at s))
+abbrev pub partAt : List ℕ → ℕ → ℕ → ℕ
+partAt s at n = value (take n (drop at s))
 
 -- the numbers of a text in a layout
 unfoldable pub numbers : List Piece → List ℕ → List ℕ
@@ -47,8 +47,8 @@ fits (num n ∷ ps) [] = false
 fits (num n ∷ ps) (v ∷ vs) = ltb v (10 ^ n) && fits ps vs
 
 -- the text of numbers in a layout
-unfoldable pub textOf : List Piece → List ℕ → List ℕ
-textOf [] vs = []
-textOf (lit l ∷ ps) vs = l ++ textOf ps vs
-textOf (num n ∷ ps) [] = digits n 0 ++ textOf ps []
-textOf (num n ∷ ps) (v ∷ vs) = digits n v ++ textOf ps vs
+unfoldable pub formText : List Piece → List ℕ → List ℕ
+formText [] vs = []
+formText (lit l ∷ ps) vs = l ++ formText ps vs
+formText (num n ∷ ps) [] = digits n 0 ++ formText ps []
+formText (num n ∷ ps) (v ∷ vs) = digits n v ++ formText ps vs

@@ -4,7 +4,7 @@ ghost use mathlib.Core.Bool.{_&&_};
 ghost use Prim.Native.Nat.{_+_, _≤_};
 ghost use lib.ListN.{length, take, drop};
 ghost use Rattle.laws.specs.Lists.{anyOf};
-ghost use Rattle.text.specs.Characters.{isPlain, isAdmissible, isOdd, isInadmissible, answers};
+ghost use Rattle.text.specs.Characters.{isPlain, isAdmissible, isInadmissible, answers};
 
 pub fn is_plain(b: u8) -> bool
     ensures { λ r. ⌜ r ≡ isPlain b ⌝ }
@@ -38,22 +38,6 @@ pub fn table() -> [bool; 256]
         b += 1;
     }
     t
-}
-
-// Whether a text holds a byte that is not plain: only such a byte can be inadmissible. Only sets a flag, so that it is compiled to
-// whole words.
-pub fn holds_odd(s: &[u8]) -> bool
-    ensures { λ r. ⌜ r ≡ anyOf isOdd (now (s .entry)) ⌝ }
-{
-    let mut odd = false;
-    let mut i = 0;
-    while i < s.len() {
-        if !is_plain(s[i]) {
-            odd = true;
-        }
-        i += 1;
-    }
-    odd
 }
 
 fn is_bad(t: &[bool; 256], b: u8) -> bool
@@ -111,7 +95,7 @@ fn holds_bad(t: &[bool; 256], s: &[u8]) -> bool
     bad | bad_at(t, s, last)
 }
 
-// Whether a text that may hold odd bytes holds an inadmissible one (rule 1): where it is known to hold none, the table is not asked.
+// Whether a text holds an inadmissible byte (rule 1): where none is odd, that is not plain, the table is not asked.
 pub fn holds_inadmissible(t: &[bool; 256], s: &[u8], odd: bool) -> bool
     requires { ⌜ now t ≡ answers ⌝ }
     ensures { λ r. ⌜ r ≡ (odd && anyOf isInadmissible (now (s .entry))) ⌝ }

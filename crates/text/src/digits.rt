@@ -4,39 +4,7 @@ ghost use mathlib.Core.Bool.{true};
 ghost use Prim.Native.Nat.{_+_, _≤_};
 ghost use lib.ListN.{length};
 ghost use Rattle.laws.specs.Lists.{put};
-ghost use Rattle.text.specs.Digits.{allDigits, value as valueOf, numberOf, digits};
-
-pub enum Number {
-    Value(u64),
-    NotDigits,
-}
-
-fn wide(b: u8) -> u64
-    ensures { λ r. ⌜ r ≡ b ⌝ }
-{
-    b as u64
-}
-
-// All the bytes of a part as one number.
-pub fn read(s: &[u8]) -> Number
-    requires { ⌜ length (now s) ≤ 19 ⌝ }
-    ensures { λ r. ⌜ r ≡ numberOf (now (s .entry)) ⌝ }
-{
-    let mut v: u64 = 0;
-    let mut i = 0;
-    while i < s.len() {
-        let b = s[i];
-        if b < 48 {
-            return Number::NotDigits;
-        }
-        if 57 < b {
-            return Number::NotDigits;
-        }
-        v = v * 10 + wide(b - 48);
-        i += 1;
-    }
-    Number::Value(v)
-}
+ghost use Rattle.text.specs.Digits.{allDigits, value as valueOf, digits};
 
 // The number that bytes stand for which are known to be digits.
 pub fn value(s: &[u8]) -> u32

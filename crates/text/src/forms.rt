@@ -9,7 +9,7 @@ ghost use lib.ListN.{length, take, drop};
 ghost use Rattle.laws.specs.Ascii.{ascii};
 ghost use Rattle.text.specs.Digits.{allDigits, digits};
 ghost use Rattle.text.specs.Strings.{Wrote};
-ghost use Rattle.text.specs.Forms.{fitsByte, hasForm, numberAt};
+ghost use Rattle.text.specs.Forms.{fitsByte, hasForm, partAt};
 
 fn fits_byte(t: u8, b: u8) -> bool
     ensures { λ r. ⌜ r ≡ fitsByte t b ⌝ }
@@ -36,7 +36,7 @@ pub fn has_form(template: &[u8], s: &[u8]) -> bool
 // The number that the n digits from a place on stand for.
 pub fn part(s: &[u8], at: usize, n: usize) -> u32
     requires { ⌜ (at + n ≤ length (now s)) × (n ≤ 9) × (allDigits (take n (drop at (now s))) ≡ true) ⌝ }
-    ensures { λ r. ⌜ r ≡ numberAt (now (s .entry)) at n ⌝ }
+    ensures { λ r. ⌜ r ≡ partAt (now (s .entry)) at n ⌝ }
 {
     digits::value(&s[at..at + n])
 }

@@ -1,5 +1,4 @@
 // Prints what the ground floor answers at document 01's boundaries, for the gate to hold against `stdout`.
-use text::digits::Number;
 
 fn show(name: &[u8], value: u64) {
     io::write_all(1, name);
@@ -26,7 +25,7 @@ fn bad_byte(name: &[u8], s: &[u8]) {
     let table = text::characters::table();
     show(
         name,
-        flag(text::characters::holds_inadmissible(&table, s, text::characters::holds_odd(s))),
+        flag(text::characters::holds_inadmissible(&table, s, true)),
     );
 }
 
@@ -50,24 +49,7 @@ fn characters() {
     );
 }
 
-fn read(name: &[u8], s: &[u8]) {
-    if 19 < s.len() {
-        return;
-    }
-    match text::digits::read(s) {
-        Number::Value(v) => show(name, v),
-        Number::NotDigits => {
-            io::write_all(1, name);
-            io::write_all(1, b" none\n");
-        }
-    }
-}
-
 fn digits() {
-    read(b"read 0012500", b"0012500");
-    read(b"read 99999999999999999", b"99999999999999999");
-    read(b"read 12/", b"12/");
-    read(b"read 1:2", b"1:2");
     let mut out = [46u8; 12];
     text::digits::write(&mut out, 2, 7, 17);
     io::write_all(1, &out);

@@ -1,4 +1,4 @@
-use Rattle.text.specs.Forms.{textOf}
+use Rattle.text.specs.Forms.{formText}
 use Rattle.text.specs.Digits.{digits}
 use Rattle.text.proofs.Wrote.{then}
 use Rattle.headings.specs.Writing.{headingText, sevensText}
@@ -31,7 +31,7 @@ same-length : tie.Need-same-length
 same-length c = search needs
 
 returns : tie.Need-returns
-unfolding headingText sevensText textOf digits
+unfolding headingText sevensText formText digits
 returns c =
     let d = c .before .before in
     let o = d .before .before .before .before in

@@ -1,5 +1,5 @@
 use native.Mathlib.Omega.{arith}
-use Rattle.text.specs.Forms.{textOf}
+use Rattle.text.specs.Forms.{formText}
 use Rattle.text.proofs.Wrote.{then}
 use Rattle.headings.specs.Writing.{sevensText}
 use Rattle.text.specs.Digits.{digits}
@@ -41,7 +41,7 @@ same-length : tie.Need-same-length
 same-length c = omega (arith, c .before .before .before .before .before .before .before .before .before .before .before .before)
 
 returns : tie.Need-returns
-unfolding sevensText textOf digits
+unfolding sevensText formText digits
 returns c =
     let e = c .before .before in
     let d = e .before .before .before .before .before in
