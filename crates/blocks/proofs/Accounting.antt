@@ -10,6 +10,7 @@ use lib.ListN.{length, getD, set}
 use borrow.Author.Tests.{eqb-true, eq-eqb, ne-eqb, ltb-true, ltb-false, le-ltb}
 use Rattle.laws.specs.Tests.{among}
 use Rattle.days.specs.Days.{isReal, dayNumber, later, sum}
+use Rattle.rules.specs.Terms.{Terms}
 use Rattle.headings.specs.declared.Code.{Code}
 use Rattle.headings.specs.declared.Amount.{Amount}
 use Rattle.headings.specs.declared.ItemNo.{ItemNo}
@@ -39,31 +40,31 @@ use Rattle.blocks.proofs.Nine.{cap-cap, get-nine, set-nine, same-nine}
 not-past : (n days : ℕ) → ltb (n + days) n ≡ false
 not-past n days = le-ltb (n + days) n (omega arith)
 
-same-eleven : (code : Code) (today : ℕ) (h : Heading) → breaks11 (jobOf code today) (h .day) ≡ rule11 today h
+same-eleven : (terms : Terms) (h : Heading) → breaks11 (jobOf terms) (h .day) ≡ rule11 terms h
 unfolding breaks11 jobOf
-same-eleven code today h = go (eqb (h .day) today) refl
+same-eleven terms h = go (eqb (h .day) (terms .today)) refl
   where
-    go : (t : Bool) → eqb (h .day) today ≡ t
-        → cond t (not (isReal today)) (not (isReal (h .day)) || (later (h .day) today 0 || later today (h .day) 10))
-        ≡ (not (isReal (h .day)) || (later (h .day) today 0 || later today (h .day) 10))
-    go true e = rw (eqb-true (h .day) today e, not-past (dayNumber today) 0, not-past (dayNumber today) 10) (sym (or-false (not (isReal today))))
+    go : (t : Bool) → eqb (h .day) (terms .today) ≡ t
+        → cond t (not (isReal (terms .today))) (not (isReal (h .day)) || (later (h .day) (terms .today) 0 || later (terms .today) (h .day) 10))
+        ≡ (not (isReal (h .day)) || (later (h .day) (terms .today) 0 || later (terms .today) (h .day) 10))
+    go true e = rw (eqb-true (h .day) (terms .today) e, not-past (dayNumber (terms .today)) 0, not-past (dayNumber (terms .today)) 10) (sym (or-false (not (isReal (terms .today)))))
     go false e = refl
 
-pub same-eight : (code : Code) (today kind day : ℕ) → breaks8 (jobOf code today) kind day ≡ rule8 kind day today
+pub same-eight : (terms : Terms) (kind day : ℕ) → breaks8 (jobOf terms) kind day ≡ rule8 terms kind day
 unfolding breaks8 jobOf
-same-eight code today kind day = ap (λ (b : Bool). isPayment kind && b) (go (eqb day today) refl (among kind untilToday) (among kind untilThirty))
+same-eight terms kind day = ap (λ (b : Bool). isPayment kind && b) (go (eqb day (terms .today)) refl (among kind untilToday) (among kind untilThirty))
   where
-    go : (t : Bool) → eqb day today ≡ t → (u v : Bool)
-        → cond t (not (isReal today)) (not (isReal day) || ((u && later day today 0) || (v && later day today 30)))
-        ≡ (not (isReal day) || ((u && later day today 0) || (v && later day today 30)))
+    go : (t : Bool) → eqb day (terms .today) ≡ t → (u v : Bool)
+        → cond t (not (isReal (terms .today))) (not (isReal day) || ((u && later day (terms .today) 0) || (v && later day (terms .today) 30)))
+        ≡ (not (isReal day) || ((u && later day (terms .today) 0) || (v && later day (terms .today) 30)))
     go false e u v = refl
-    go true e u v = rw (eqb-true day today e, not-past (dayNumber today) 0, not-past (dayNumber today) 30) (none u v)
+    go true e u v = rw (eqb-true day (terms .today) e, not-past (dayNumber (terms .today)) 0, not-past (dayNumber (terms .today)) 30) (none u v)
       where
-        none : (u v : Bool) → not (isReal today) ≡ (not (isReal today) || ((u && false) || (v && false)))
-        none true true = sym (or-false (not (isReal today)))
-        none true false = sym (or-false (not (isReal today)))
-        none false true = sym (or-false (not (isReal today)))
-        none false false = sym (or-false (not (isReal today)))
+        none : (u v : Bool) → not (isReal (terms .today)) ≡ (not (isReal (terms .today)) || ((u && false) || (v && false)))
+        none true true = sym (or-false (not (isReal (terms .today))))
+        none true false = sym (or-false (not (isReal (terms .today))))
+        none false true = sym (or-false (not (isReal (terms .today))))
+        none false false = sym (or-false (not (isReal (terms .today))))
 
 -- ---- each test of the account is the rule's
 same-day : (hs : List Heading) (h : Heading) → breaks18 (not (empty hs)) (dayFirst hs) (h .day) ≡ not (eqb (h .day) (oldest h hs .day))
@@ -195,7 +196,7 @@ same-sums is k BrokenKc = refl
 same-sums is k (Paid a day) = amount-nine sumCap (a .0) (a .0) sum (λ ns. omega arith) is (groupOf k) (isPayment k)
 
 -- ---- the account after an item, and its marks
-module _ (code : Code) (today : ℕ) (above : List Item) (line : ℕ) (kc : Kc) (span : Span) (sums : Sums) (s9 : Bool) (within : AllWithin sums) where
+module _ (terms : Terms) (above : List Item) (line : ℕ) (kc : Kc) (span : Span) (sums : Sums) (s9 : Bool) (within : AllWithin sums) where
   abbrev item : Read → Item
   item hd = record { line = line; head = hd; kc = kc; span = span; sums = sums; s9 = s9 }
 
@@ -225,13 +226,13 @@ module _ (code : Code) (today : ℕ) (above : List Item) (line : ℕ) (kc : Kc) 
   block-closing d f n s o t = refl
 
   own-are : (h : Heading)
-      → ownMarks (jobOf code today) h kc
-      ≡ mark 10 (rule10 h) + mark 11 (rule11 today h) + mark 12 (rule12 (code .0) h) + mark 13 (rule13 h) + mark 14 (rule14 h) + mark 15 (rule15 h kc)
+      → ownMarks (jobOf terms) h kc
+      ≡ mark 10 (rule10 h) + mark 11 (rule11 terms h) + mark 12 (rule12 terms h) + mark 13 (rule13 h) + mark 14 (rule14 h) + mark 15 (rule15 h kc)
   unfolding ownMarks jobOf
-  own-are h = rw (same-eleven code today h)
+  own-are h = rw (same-eleven terms h)
 
   marks-open : (h : Heading) → eqb (h .kind) 51 ≡ false
-      → ownMarks (jobOf code today) h kc + openMarks (summary above) h ≡ readableMarks (code .0) today above (item (Reads h)) h
+      → ownMarks (jobOf terms) h kc + openMarks (summary above) h ≡ readableMarks terms above (item (Reads h)) h
   unfolding openMarks readableMarks summary
   marks-open h e =
       simp (
@@ -244,8 +245,8 @@ module _ (code : Code) (today : ℕ) (above : List Item) (line : ℕ) (kc : Kc) 
       (omega arith)
 
   marks-closing : (d : ℕ) (f : Code) (n : ItemNo) (s : Code) (o : ItemNo) (t : Code)
-      → ownMarks (jobOf code today) (closing d f n s o t) kc + closingMarks (summary above) (closing d f n s o t) span s9 sums
-      ≡ readableMarks (code .0) today above (item (Reads (closing d f n s o t))) (closing d f n s o t)
+      → ownMarks (jobOf terms) (closing d f n s o t) kc + closingMarks (summary above) (closing d f n s o t) span s9 sums
+      ≡ readableMarks terms above (item (Reads (closing d f n s o t))) (closing d f n s o t)
   unfolding closingMarks groupMarks groupBreaks readableMarks summary isPayment isInput
   marks-closing d f n s o t =
       simp (
@@ -273,8 +274,8 @@ module _ (code : Code) (today : ℕ) (above : List Item) (line : ℕ) (kc : Kc) 
 
   abbrev Holds : Read → Type 0
   Holds hd =
-      closeAt (jobOf code today) (summary above) (item hd) hd
-      ≡ record { block = summary (item hd ∷ above); marks = marksAt (code .0) today above (item hd) hd }
+      closeAt (jobOf terms) (summary above) (item hd) hd
+      ≡ record { block = summary (item hd ∷ above); marks = marksAt terms above (item hd) hd }
 
   block-unreadable : (k : Kc) → touchedBlock (summary above) ≡ summary (record { line = line; head = Unreadable; kc = k; span = span; sums = sums; s9 = s9 } ∷ above)
   unfolding touchedBlock summary
@@ -307,6 +308,6 @@ module _ (code : Code) (today : ℕ) (above : List Item) (line : ℕ) (kc : Kc) 
   holds (Reads h) = holds-read h (eqb (h .kind) 51) refl
 
 -- the theorem: from the account of the items above, the step makes the account with the item, and the marks that the rules say
-pub account : (code : Code) (today : ℕ) (above : List Item) (it : Item) → AllWithin (it .sums)
-    → closeModel (jobOf code today) (summary above) it ≡ record { block = summary (it ∷ above); marks = blockMarks (code .0) today above it }
-account code today above it within = holds code today above (it .line) (it .kc) (it .span) (it .sums) (it .s9) within (it .head)
+pub account : (terms : Terms) (above : List Item) (it : Item) → AllWithin (it .sums)
+    → closeModel (jobOf terms) (summary above) it ≡ record { block = summary (it ∷ above); marks = blockMarks terms above it }
+account terms above it within = holds terms above (it .line) (it .kc) (it .span) (it .sums) (it .s9) within (it .head)

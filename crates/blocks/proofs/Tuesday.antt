@@ -5,6 +5,7 @@ use mathlib.Core.Path.{_≡_, refl}
 use mathlib.Core.Bool.{false}
 use mathlib.Core.List.{List, [], _∷_}
 use Rattle.days.specs.Days.{isReal, isLeap, row, monthLength, dayNumber}
+use Rattle.rules.specs.Terms.{input}
 use Rattle.headings.specs.ItemTypes.{isInput, isPayment, isPriority, isTrilateral}
 use Rattle.headings.specs.HeadRules.{rule10, rule13, rule14}
 use Rattle.headings.specs.declared.Read.the-variants.{Reads}
@@ -50,7 +51,7 @@ abbrev closing : (c s : ℕ) → Item
 closing c s = item 51 0 NoKc (Runs (record { 0 = 1 }) (record { 0 = 2 })) c s
 
 abbrev marks : List Item → Item → ℕ
-marks above it = blockMarks 300 20240304 above it
+marks above it = blockMarks (input 300 20240304) above it
 
 -- a 51 that adds both as they stand has no fault
 pub added : marks block (closing 2 15000) ≡ 0

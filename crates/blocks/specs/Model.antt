@@ -6,6 +6,7 @@ use lib.Dec.{eqb, ltb}
 use lib.ListN.{getD, set, replicate}
 use Rattle.laws.specs.Tests.{among}
 use Rattle.days.specs.Days.{isReal, dayNumber}
+use Rattle.rules.specs.Terms.{Terms}
 use Rattle.headings.specs.declared.Code.{Code}
 use Rattle.headings.specs.declared.Heading.{Heading}
 use Rattle.headings.specs.declared.Read.{Read}
@@ -29,8 +30,9 @@ use Rattle.blocks.specs.BlockRules.{unlike, statedIn}
 use Rattle.laws.specs.Tests.{mark}
 
 -- ---- the rules of one item
-unfoldable pub jobOf : Code → ℕ → Job
-jobOf code day = record { code = code; day = day; number = dayNumber day; real = isReal day }
+unfoldable pub jobOf : Terms → Job
+jobOf terms =
+    record { code = record { 0 = terms .code }; day = terms .today; number = dayNumber (terms .today); real = isReal (terms .today) }
 
 unfoldable pub breaks8 : Job → ℕ → ℕ → Bool
 breaks8 j kind day =

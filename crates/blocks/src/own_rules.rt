@@ -16,12 +16,13 @@ ghost use mathlib.Core.Bool.{not};
 ghost use Prim.Native.Nat.{_+_, _<_, _^_};
 ghost use lib.Dec.{ltb};
 ghost use Rattle.laws.specs.Tests.{among};
+ghost use Rattle.rules.specs.Terms.{input};
 ghost use Rattle.blocks.specs.OwnRules.{untilToday, untilThirty, rule9, noKc};
 ghost use Rattle.blocks.specs.Model.{jobOf, breaks8, breaks11, breaks12, breaks15, ownMarks};
 
 // The accounting day is reckoned once.
 pub fn job_of(code: Code, day: u32) -> Job
-    ensures { λ r. ⌜ r ≡ jobOf code day ⌝ }
+    ensures { λ r. ⌜ r ≡ jobOf (input (code .0) day) ⌝ }
 {
     let number = day_number(day);
     let real = is_real(day);

@@ -11,6 +11,7 @@ use Rattle.laws.specs.Refusals.{first}
 use Rattle.text.specs.Characters.{isAdmissible}
 use Rattle.days.specs.Days.{isReal}
 use Rattle.text.specs.Strings.{begins}
+use Rattle.rules.specs.Terms.{input}
 use Rattle.outcomes.specs.Deriving.{deriveRefusals, derivedTarget}
 use Rattle.figures.specs.Accounts.{weighed, accountOf, accountValue}
 use Rattle.ledger.specs.Faults.{Fault, fault}
@@ -60,7 +61,7 @@ holds (weighs part sum) = eqb (weighed (ascii part)) sum
 holds (passes prefix number) = accountValue (accountOf (ascii prefix) (ascii number)) false
 holds (fails prefix number) = not (accountValue (accountOf (ascii prefix) (ascii number)) true)
 holds (unreal day) = not (isReal day)
-holds (faulty code today file fs) = sameFaults (faults code today (bytesOf file)) fs
+holds (faulty code today file fs) = sameFaults (faults (input code today) (bytesOf file)) fs
 holds (derives text outcome number out) = same (derivedTarget (ascii text) outcome number blank) (ascii out)
 holds (refuses text outcome number k) = eqb (first (deriveRefusals (ascii text) outcome number (length blank))) k
 

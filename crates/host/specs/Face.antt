@@ -6,6 +6,7 @@ use mathlib.Core.List.{List}
 use lib.Dec.{eqb}
 use lib.ListN.{length}
 use Rattle.laws.specs.Refusals.{first}
+use Rattle.rules.specs.Terms.{Terms}
 use Rattle.ledger.specs.Faults.{Fault}
 use Rattle.items.specs.Faults.{faults}
 use Rattle.listing.specs.Checking.{checkRefusals, slicesAfter}
@@ -15,6 +16,6 @@ abbrev pub totalAfter : ℕ → List Fault → ℕ → ℕ
 totalAfter refusal all before = cond (eqb refusal 0) (length all) before
 
 -- the two slices after a check
-pub record ListedAt (file : List ℕ) (code day : ℕ) (ls₀ rs₀ ls rs : List ℕ) : Type 0 where
-  pub lines : ls ≡ slicesAfter (first (checkRefusals file code day (length ls₀) (length rs₀))) (λ (f : Fault). f .line) (faults code day file) ls₀
-  pub rules : rs ≡ slicesAfter (first (checkRefusals file code day (length ls₀) (length rs₀))) (λ (f : Fault). f .rule) (faults code day file) rs₀
+pub record ListedAt (file : List ℕ) (terms : Terms) (ls₀ rs₀ ls rs : List ℕ) : Type 0 where
+  pub lines : ls ≡ slicesAfter (first (checkRefusals file terms (length ls₀) (length rs₀))) (λ (f : Fault). f .line) (faults terms file) ls₀
+  pub rules : rs ≡ slicesAfter (first (checkRefusals file terms (length ls₀) (length rs₀))) (λ (f : Fault). f .rule) (faults terms file) rs₀

@@ -8,6 +8,7 @@ ghost use mathlib.Core.Bool.{cond};
 ghost use lib.Dec.{eqb};
 ghost use lib.ListN.{length};
 ghost use Rattle.laws.specs.Refusals.{first};
+ghost use Rattle.rules.specs.Terms.{input};
 ghost use Rattle.outcomes.specs.Deriving.{deriveRefusals, derivedTarget};
 ghost use Rattle.figures.specs.Accounts.{accountRefusals, accountHolds};
 ghost use Rattle.items.specs.Faults.{faults};
@@ -16,8 +17,8 @@ ghost use Rattle.host.specs.Face.{totalAfter, ListedAt};
 
 #[no_mangle]
 pub extern "C" fn certis_total(file: &[u8], code: u32, day: u32, total: &mut u64) -> u32
-    ensures number { λ r. ⌜ r ≡ first (checkRefusals (now (file .entry)) code day 0 0) ⌝ }
-    ensures after { λ _. ⌜ now (total .exit) ≡ totalAfter (first (checkRefusals (now (file .entry)) code day 0 0)) (faults code day (now (file .entry))) (now (total .entry)) ⌝ }
+    ensures number { λ r. ⌜ r ≡ first (checkRefusals (now (file .entry)) (input code day) 0 0) ⌝ }
+    ensures after { λ _. ⌜ now (total .exit) ≡ totalAfter (first (checkRefusals (now (file .entry)) (input code day) 0 0)) (faults (input code day) (now (file .entry))) (now (total .entry)) ⌝ }
 {
     let mut lines = [0u32; 0];
     let mut rules = [0u32; 0];
@@ -35,9 +36,9 @@ pub extern "C" fn certis_check(
     rules: &mut [u32],
     total: &mut u64,
 ) -> u32
-    ensures number { λ r. ⌜ r ≡ first (checkRefusals (now (file .entry)) code day (length (now (lines .entry))) (length (now (rules .entry)))) ⌝ }
-    ensures after { λ _. ⌜ now (total .exit) ≡ totalAfter (first (checkRefusals (now (file .entry)) code day (length (now (lines .entry))) (length (now (rules .entry))))) (faults code day (now (file .entry))) (now (total .entry)) ⌝ }
-    ensures listed { λ _. ⌜ ListedAt (now (file .entry)) code day (now (lines .entry)) (now (rules .entry)) (now (lines .exit)) (now (rules .exit)) ⌝ }
+    ensures number { λ r. ⌜ r ≡ first (checkRefusals (now (file .entry)) (input code day) (length (now (lines .entry))) (length (now (rules .entry)))) ⌝ }
+    ensures after { λ _. ⌜ now (total .exit) ≡ totalAfter (first (checkRefusals (now (file .entry)) (input code day) (length (now (lines .entry))) (length (now (rules .entry))))) (faults (input code day) (now (file .entry))) (now (total .entry)) ⌝ }
+    ensures listed { λ _. ⌜ ListedAt (now (file .entry)) (input code day) (now (lines .entry)) (now (rules .entry)) (now (lines .exit)) (now (rules .exit)) ⌝ }
 {
     let answer = checking::check(file, code, day, lines, rules);
     *total = checking::total_or(answer, *total);

@@ -5,6 +5,7 @@ use mathlib.Core.Bool.{Bool, true}
 use mathlib.Core.Option.{some}
 use mathlib.Core.List.{List, map, List·Memᴰ, List·Memᴰ·head, List·Memᴰ·tail, Memᴰ·append-left, Memᴰ·append-right}
 use mathlib.Core.Logic.{_↔_, _⊎_, inl, inr}
+use Rattle.rules.specs.Terms.{Terms}
 use Rattle.ledger.specs.Faults.{fault, _if_}
 use Rattle.headings.specs.declared.Heading.{Heading}
 use Rattle.headings.specs.declared.Read.{Read}
@@ -17,32 +18,32 @@ use Rattle.items.specs.Headings.{headOf, rule6At, rule16At, digest, ownT
 use Rattle.items.specs.Faults.{lowSpot, fieldSpot, headSpot, faults}
 use Rattle.items.proofs.Demand.{spotsOf, listed-by-its-test}
 
-module _ (code today : ℕ) (file : List ℕ) where
+module _ (terms : Terms) (file : List ℕ) where
   abbrev InList : ℕ → ℕ → Type 0
-  InList line r = List·Memᴰ (fault line r) (faults code today file)
+  InList line r = List·Memᴰ (fault line r) (faults terms file)
 
   -- 1 to 4, at a continuation or a line of no kind of the file
-  pub at-low : (p : Place) (l : LowRow) → List·Memᴰ (lowSpot p l) (spotsOf code today file) → (r : ℕ) (b : Bool) → List·Memᴰ (r if b) (lowTests p l)
+  pub at-low : (p : Place) (l : LowRow) → List·Memᴰ (lowSpot p l) (spotsOf terms file) → (r : ℕ) (b : Bool) → List·Memᴰ (r if b) (lowTests p l)
       → InList (l .row .no) r ↔ (b ≡ true)
   unfolding lowSpot
-  at-low p l m r b t = listed-by-its-test code today file (lowSpot p l) m r b t
+  at-low p l m r b t = listed-by-its-test terms file (lowSpot p l) m r b t
 
   -- 1, 4 and 5 to 9, at a field of an item
-  pub at-field : (h : Group Row) (above : List (Group FieldRow)) (g : Group FieldRow) → List·Memᴰ (fieldSpot code today (some h) above g) (spotsOf code today file)
-      → (r : ℕ) (b : Bool) → List·Memᴰ (r if b) (fieldTests today (headOf h) above g) → InList (g .owner .row .no) r ↔ (b ≡ true)
+  pub at-field : (h : Group Row) (above : List (Group FieldRow)) (g : Group FieldRow) → List·Memᴰ (fieldSpot terms (some h) above g) (spotsOf terms file)
+      → (r : ℕ) (b : Bool) → List·Memᴰ (r if b) (fieldTests terms (headOf h) above g) → InList (g .owner .row .no) r ↔ (b ≡ true)
   unfolding fieldSpot
-  at-field h above g m r b t = listed-by-its-test code today file (fieldSpot code today (some h) above g) m r b t
+  at-field h above g m r b t = listed-by-its-test terms file (fieldSpot terms (some h) above g) m r b t
 
   -- so 6 at a field
-  pub six-at-field : (h : Group Row) (above : List (Group FieldRow)) (g : Group FieldRow) → List·Memᴰ (fieldSpot code today (some h) above g) (spotsOf code today file)
+  pub six-at-field : (h : Group Row) (above : List (Group FieldRow)) (g : Group FieldRow) → List·Memᴰ (fieldSpot terms (some h) above g) (spotsOf terms file)
       → InList (g .owner .row .no) 6 ↔ (rule6 g ≡ true)
   unfolding fieldTests
   six-at-field h above g m = at-field h above g m 6 (rule6 g) (List·Memᴰ·tail (List·Memᴰ·tail (List·Memᴰ·tail (List·Memᴰ·head refl))))
 
   -- at the heading of an item with these items above and below
-  module _ (above : List Item) (i : Item) (below : List Item) (m : List·Memᴰ (headSpot code today above i below) (spotsOf code today file)) where
-    at-heading : (r : ℕ) (b : Bool) → List·Memᴰ (r if b) (headTests code today above i below) → InList (i .head .owner .no) r ↔ (b ≡ true)
-    at-heading r b t = listed-by-its-test code today file (headSpot code today above i below) m r b t
+  module _ (above : List Item) (i : Item) (below : List Item) (m : List·Memᴰ (headSpot terms above i below) (spotsOf terms file)) where
+    at-heading : (r : ℕ) (b : Bool) → List·Memᴰ (r if b) (headTests terms above i below) → InList (i .head .owner .no) r ↔ (b ≡ true)
+    at-heading r b t = listed-by-its-test terms file (headSpot terms above i below) m r b t
 
     pub six-at-heading : InList (i .head .owner .no) 6 ↔ (rule6At (i .head) ≡ true)
     unfolding headTests
@@ -52,20 +53,20 @@ module _ (code today : ℕ) (file : List ℕ) where
     unfolding headTests
     sixteen-at-heading =
         at-heading 16 (rule16At above i below) (List·Memᴰ·tail (List·Memᴰ·tail (List·Memᴰ·tail
-        (Memᴰ·append-right (ownTests code today (digest i) (headOf (i .head))) (List·Memᴰ·head refl)))))
+        (Memᴰ·append-right (ownTests terms (digest i) (headOf (i .head))) (List·Memᴰ·head refl)))))
 
     -- 10 to 15, and 17 to 22 and 30 to 38, at one that reads as h
     module _ (h : Heading) (e : headOf (i .head) ≡ Reads h) where
       pub at-readable : (r : ℕ) (b : Bool)
-          → List·Memᴰ (r if b) (ownTests code today (digest i) (Reads h)) ⊎ List·Memᴰ (r if b) (blockTests (map digest above) (digest i) (Reads h))
+          → List·Memᴰ (r if b) (ownTests terms (digest i) (Reads h)) ⊎ List·Memᴰ (r if b) (blockTests (map digest above) (digest i) (Reads h))
           → InList (i .head .owner .no) r ↔ (b ≡ true)
       unfolding headTests
       at-readable r b (inl t) =
           at-heading r b (List·Memᴰ·tail (List·Memᴰ·tail (List·Memᴰ·tail
-          (Memᴰ·append-left _ (subst (λ (hd : Read). List·Memᴰ (r if b) (ownTests code today (digest i) hd)) (sym e) t)))))
+          (Memᴰ·append-left _ (subst (λ (hd : Read). List·Memᴰ (r if b) (ownTests terms (digest i) hd)) (sym e) t)))))
       at-readable r b (inr t) =
           at-heading r b (List·Memᴰ·tail (List·Memᴰ·tail (List·Memᴰ·tail
-          (Memᴰ·append-right (ownTests code today (digest i) (headOf (i .head)))
+          (Memᴰ·append-right (ownTests terms (digest i) (headOf (i .head)))
           (List·Memᴰ·tail (subst (λ (hd : Read). List·Memᴰ (r if b) (blockTests (map digest above) (digest i) hd)) (sym e) t))))))
 
       -- so 19

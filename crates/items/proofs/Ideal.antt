@@ -4,6 +4,7 @@ use Prim.Native.Nat.{ℕ}
 use mathlib.Core.Bool.{Bool, true, false}
 use mathlib.Core.Option.{none, some}
 use mathlib.Core.List.{List, [], _∷_, _++_, map, reverseAux}
+use Rattle.rules.specs.Terms.{Terms}
 use Rattle.ledger.specs.Faults.{Spot}
 use Rattle.items.specs.Rows.{Row, FieldRow, LowRow, Sorted, heading, field, low}
 use Rattle.items.specs.Tree.{Group, Item, File}
@@ -65,14 +66,14 @@ outAt false false r e = e ∷ []
 abbrev pub under : {A : Type 0} → A → List LowRow → File → Group A
 under a ls f = record { owner = a; below = reverseAux ls (f .top) }
 
-module _ (code today : ℕ) where
+module _ (terms : Terms) where
   -- the first heading of the open block, with its 16 decided
   abbrev pub waits : List Item → Bool → List Spot
   waits [] z = []
-  waits (i ∷ ups) z = waitsAt (ends i) (fresh ups) (waits ups z) (headAs code today z ups i)
+  waits (i ∷ ups) z = waitsAt (ends i) (fresh ups) (waits ups z) (headAs terms z ups i)
 
   abbrev pub headsOut : List Item → Item → List Spot
-  headsOut ups i = outAt (ends i) (fresh ups) (waits ups false) (headAs code today false ups i)
+  headsOut ups i = outAt (ends i) (fresh ups) (waits ups false) (headAs terms false ups i)
 
   -- what a line completes
   abbrev pub out : Open → Sorted → List Spot
@@ -80,15 +81,15 @@ module _ (code today : ℕ) where
   out start (field y) = []
   out start (heading k) = []
   out (early ups x ls) (low l) = lowSpot prelude l ∷ []
-  out (early ups x ls) (field y) = fieldSpot code today none ups (closed x ls) ∷ []
-  out (early ups x ls) (heading k) = fieldSpot code today none ups (closed x ls) ∷ []
+  out (early ups x ls) (field y) = fieldSpot terms none ups (closed x ls) ∷ []
+  out (early ups x ls) (heading k) = fieldSpot terms none ups (closed x ls) ∷ []
   out (atHead b h ls) (low l) = lowSpot inside l ∷ []
   out (atHead b h ls) (field y) = []
   out (atHead b h ls) (heading k) = headsOut b (item (closed h ls) [])
   out (atField b h hl ups x ls) (low l) = lowSpot inside l ∷ []
-  out (atField b h hl ups x ls) (field y) = fieldSpot code today (some (closed h hl)) ups (closed x ls) ∷ []
+  out (atField b h hl ups x ls) (field y) = fieldSpot terms (some (closed h hl)) ups (closed x ls) ∷ []
   out (atField b h hl ups x ls) (heading k) =
-      fieldSpot code today (some (closed h hl)) ups (closed x ls) ∷ headsOut b (item (closed h hl) (closed x ls ∷ ups))
+      fieldSpot terms (some (closed h hl)) ups (closed x ls) ∷ headsOut b (item (closed h hl) (closed x ls ∷ ups))
 
   -- the file ends: the item closes, and who waits has 16
   abbrev pub lastOut : List Item → Item → List Spot
@@ -96,29 +97,29 @@ module _ (code today : ℕ) where
 
   abbrev pub final : Open → List Spot
   final start = []
-  final (early ups x ls) = fieldSpot code today none ups (closed x ls) ∷ []
+  final (early ups x ls) = fieldSpot terms none ups (closed x ls) ∷ []
   final (atHead b h ls) = lastOut b (item (closed h ls) [])
   final (atField b h hl ups x ls) =
-      fieldSpot code today (some (closed h hl)) ups (closed x ls) ∷ lastOut b (item (closed h hl) (closed x ls ∷ ups))
+      fieldSpot terms (some (closed h hl)) ups (closed x ls) ∷ lastOut b (item (closed h hl) (closed x ls ∷ ups))
 
   -- what is declared and not yet out: of complete items with items below them, of an open item too, of all that is open
   abbrev pub pending : List Item → List Item → List Spot
-  pending b is = waits b (noneEnds is) ++ items code today b is
+  pending b is = waits b (noneEnds is) ++ items terms b is
 
   abbrev pub heads : List Item → Item → List Item → List Spot
   heads b i is = headsOut b i ++ pending (i ∷ b) is
 
   abbrev pub left : Open → File → List Spot
-  left start f = spots code today f
+  left start f = spots terms f
   left (early ups x ls) f =
       let g = under x ls f in
-      fieldSpot code today none ups g ∷ (lows prelude (f .top) ++ (fields code today none (g ∷ ups) (f .loose) ++ items code today [] (f .items)))
+      fieldSpot terms none ups g ∷ (lows prelude (f .top) ++ (fields terms none (g ∷ ups) (f .loose) ++ items terms [] (f .items)))
   left (atHead b h ls) f =
       let g = under h ls f in
-      lows inside (f .top) ++ (fields code today (some g) [] (f .loose) ++ heads b (record { head = g; fields = f .loose }) (f .items))
+      lows inside (f .top) ++ (fields terms (some g) [] (f .loose) ++ heads b (record { head = g; fields = f .loose }) (f .items))
   left (atField b h hl ups x ls) f =
       let g = under x ls f in
-      fieldSpot code today (some (closed h hl)) ups g
+      fieldSpot terms (some (closed h hl)) ups g
       ∷ (lows inside (f .top)
-      ++ (fields code today (some (closed h hl)) (g ∷ ups) (f .loose)
+      ++ (fields terms (some (closed h hl)) (g ∷ ups) (f .loose)
       ++ heads b (record { head = closed h hl; fields = reverseAux (g ∷ ups) (f .loose) }) (f .items)))

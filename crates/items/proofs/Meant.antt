@@ -12,6 +12,7 @@ use lib.ListN.{length, getD, set, length-set}
 use lib.Seq.{getD-set-same, getD-set-other}
 use borrow.Author.Tests.{le-ltb, lt-ltb, eqb-true, eqb-false}
 use Rattle.laws.specs.Tests.{mark}
+use Rattle.rules.specs.Terms.{Terms}
 use Rattle.ledger.specs.Faults.{Fault, Spot}
 use Rattle.ledger.specs.Marks.{insertAll, marked}
 use Rattle.ledger.proofs.Insertion.{insertAll-append}
@@ -24,7 +25,6 @@ use Rattle.fields.specs.Kinds.{named}
 use Rattle.fields.specs.Classes.{classOf}
 use Rattle.fields.specs.Tails.{isBroken}
 use Rattle.fields.proofs.Kept.{broken}
-use Rattle.blocks.specs.declared.Job.{Job}
 use Rattle.blocks.specs.declared.Block.{Block}
 use Rattle.blocks.specs.OwnRules.{noKc}
 use Rattle.blocks.specs.Model.{jobOf}
@@ -94,15 +94,12 @@ aboveThen (early ups x ls) = []
 aboveThen (atHead b h ls) = item (closed h ls) [] ∷ b
 aboveThen (atField b h hl ups x ls) = item (closed h hl) (closed x ls ∷ ups) ∷ b
 
-module _ (code today : ℕ) where
-  abbrev pub job : Job
-  job = jobOf (record { 0 = code }) today
-
+module _ (terms : Terms) where
   -- ---- marks of fields
-  pub late-is : (h : Read) (r : Reading) → lateBy job h r ≡ late today h r
+  pub late-is : (h : Read) (r : Reading) → lateBy (jobOf terms) h r ≡ late terms h r
   late-is (Reads h) Broken = refl
   late-is (Reads h) Plain = refl
-  late-is (Reads h) (Paid a d) = same-eight (record { 0 = code }) today (h .kind) d
+  late-is (Reads h) (Paid a d) = same-eight terms (h .kind) d
   late-is (Reads h) (Span a b) = refl
   late-is (Reads h) (Stated n a) = refl
   late-is (Reads h) (Party b) = refl
@@ -114,92 +111,92 @@ module _ (code today : ℕ) where
 
   abbrev pub fieldsOut : Open → List Spot
   fieldsOut start = []
-  fieldsOut (early ups x ls) = fieldSpot code today none ups (closed x ls) ∷ []
+  fieldsOut (early ups x ls) = fieldSpot terms none ups (closed x ls) ∷ []
   fieldsOut (atHead b h ls) = []
-  fieldsOut (atField b h hl ups x ls) = fieldSpot code today (some (closed h hl)) ups (closed x ls) ∷ []
+  fieldsOut (atField b h hl ups x ls) = fieldSpot terms (some (closed h hl)) ups (closed x ls) ∷ []
 
   -- 5 to 9 of the open field
   inside-is : (b : List Item) (h : Row) (hl : List LowRow) (ups : List (Group FieldRow)) (x : FieldRow) (ls : List LowRow) (again : Bool) → again ≡ stands (x .ident) ups
       → let g = closed x ls in let r = headOf (closed h hl) in let s = live (atField b h hl ups x ls) in
-      insideMarks job s (kcOf (firstUp (is (named "KC")) ups)) again
-      ≡ mark 5 (stands (x .ident) ups) + mark 6 (rule6 g) + mark 7 (failsCheck (says g)) + mark 8 (isFirstKc ups g && late today r (says g))
+      insideMarks (jobOf terms) s (kcOf (firstUp (is (named "KC")) ups)) again
+      ≡ mark 5 (stands (x .ident) ups) + mark 6 (rule6 g) + mark 7 (failsCheck (says g)) + mark 8 (isFirstKc ups g && late terms r (says g))
       + mark 9 (isFirstKc ups g && large r (says g))
   unfolding insideMarks kcMarks fieldKept
   inside-is b h hl ups x ls again e =
       let first : (eqb (x .ident) (named "KC") && noKc (kcOf (firstUp (is (named "KC")) ups))) ≡ (eqb (x .ident) (named "KC") && not (stands (named "KC") ups)) =
       ap (λ (t : Bool). eqb (x .ident) (named "KC") && t) (no-kc-is (named "KC") ups) in
       let said : saidOf (live (atField b h hl ups x ls)) ≡ says (closed x ls) = said-is x ls in
-      let read : readOf (live (atField b h hl ups x ls)) ≡ headOf (closed h hl) = read-is code today b h hl ups in
-      (λ j. mark 5 (e j) + mark 6 (isBroken (said j)) + mark 7 (failsCheck (said j)) + (mark 8 (first j && lateBy job (read j) (said j)) + mark 9 (first j && large (read j) (said j))))
+      let read : readOf (live (atField b h hl ups x ls)) ≡ headOf (closed h hl) = read-is terms b h hl ups in
+      (λ j. mark 5 (e j) + mark 6 (isBroken (said j)) + mark 7 (failsCheck (said j)) + (mark 8 (first j && lateBy (jobOf terms) (read j) (said j)) + mark 9 (first j && large (read j) (said j))))
       ∙ sym (add-assoc _ _ _)
       ∙ (λ j. mark 5 (stands (x .ident) ups) + mark 6 (broken-is x ls j) + mark 7 (failsCheck (says (closed x ls)))
       + mark 8 (isFirstKc ups (closed x ls) && late-is (headOf (closed h hl)) (says (closed x ls)) j) + mark 9 (isFirstKc ups (closed x ls) && large (headOf (closed h hl)) (says (closed x ls))))
 
-  field-outs : (c : Open) (a : List ℕ) → Inside c a → (l : List Fault) → putAll put (fieldsOut c) l ≡ insertAll (fieldFaults job (live c) (claims c) a) l
+  field-outs : (c : Open) (a : List ℕ) → Inside c a → (l : List Fault) → putAll put (fieldsOut c) l ≡ insertAll (fieldFaults (jobOf terms) (live c) (claims c) a) l
   unfolding fieldMarksOf fieldSpot looseMarks fieldMarks lineMarks fieldKept headKept
   field-outs start a I l = sym (put-none 0 l)
   field-outs (early ups x ls) a I l = ap (λ (m : ℕ). insertAll (marked (x .row .no) m) l) (loose-set (closed x ls))
   field-outs (atHead b h ls) a I l = sym (put-none 0 l)
   field-outs (atField b h hl ups x ls) a I l =
       ap (λ (m : ℕ). insertAll (marked (x .row .no) m) l)
-      (field-set today (headOf (closed h hl)) ups (closed x ls) ∙ ap (λ (m : ℕ). lineMarks (x .row) + m) (sym (inside-is b h hl ups x ls (ltb (h .no) (getD a (x .ident) 0)) (I (x .ident)))))
+      (field-set terms (headOf (closed h hl)) ups (closed x ls) ∙ ap (λ (m : ℕ). lineMarks (x .row) + m) (sym (inside-is b h hl ups x ls (ltb (h .no) (getD a (x .ident) 0)) (I (x .ident)))))
 
   -- ---- an item closes
   abbrev pub itemsOut : Open → List Spot
   itemsOut start = []
   itemsOut (early ups x ls) = []
-  itemsOut (atHead b h ls) = headsOut code today b (item (closed h ls) [])
-  itemsOut (atField b h hl ups x ls) = headsOut code today b (item (closed h hl) (closed x ls ∷ ups))
+  itemsOut (atHead b h ls) = headsOut terms b (item (closed h ls) [])
+  itemsOut (atField b h hl ups x ls) = headsOut terms b (item (closed h hl) (closed x ls ∷ ups))
 
   abbrev pub model : Open → Shut
-  model c = shutModel job (accountOf (above c)) (wait code today (above c)) (live c) (claimsThen c)
+  model c = shutModel (jobOf terms) (accountOf (above c)) (wait terms (above c)) (live c) (claimsThen c)
 
   pub item-says : (c : Open) (l : List Fault)
-      → (putAll put (itemsOut c) l ≡ insertAll (marked (live c .head .no) (model c .marks)) (insertAll (marked (wait code today (above c) .line) (model c .told)) l))
-      × (model c .block ≡ accountOf (aboveThen c)) × (model c .wait ≡ wait code today (aboveThen c))
+      → (putAll put (itemsOut c) l ≡ insertAll (marked (live c .head .no) (model c .marks)) (insertAll (marked (wait terms (above c) .line) (model c .told)) l))
+      × (model c .block ≡ accountOf (aboveThen c)) × (model c .wait ≡ wait terms (aboveThen c))
   unfolding shutModel headMarksOf firstUp headKept
   item-says start l = (sym (put-none 0 (insertAll (marked 0 0) l) ∙ put-none 0 l), refl, refl)
   item-says (early ups x ls) l = (sym (put-none 0 (insertAll (marked 0 0) l) ∙ put-none 0 l), refl, refl)
   item-says (atHead b h ls) l =
-      let e = shut-is code today b h ls [] in
+      let e = shut-is terms b h ls [] in
       let i = item (closed h ls) [] in
-      rw e (item-out code today b h ls [] l, account-of code today b h ls [] (ends i) (fresh b), wait-of code today b h ls [] (ends i) (fresh b))
+      rw e (item-out terms b h ls [] l, account-of terms b h ls [] (ends i) (fresh b), wait-of terms b h ls [] (ends i) (fresh b))
   item-says (atField b h hl ups x ls) l =
-      let e = shut-is code today b h hl (closed x ls ∷ ups) in
+      let e = shut-is terms b h hl (closed x ls ∷ ups) in
       let i = item (closed h hl) (closed x ls ∷ ups) in
-      rw e (item-out code today b h hl (closed x ls ∷ ups) l, account-of code today b h hl (closed x ls ∷ ups) (ends i) (fresh b), wait-of code today b h hl (closed x ls ∷ ups) (ends i) (fresh b))
+      rw e (item-out terms b h hl (closed x ls ∷ ups) l, account-of terms b h hl (closed x ls ∷ ups) (ends i) (fresh b), wait-of terms b h hl (closed x ls ∷ ups) (ends i) (fresh b))
 
   all-outs : (c : Open) (a : List ℕ) → Inside c a → (l : List Fault)
       → putAll put (fieldsOut c ++ itemsOut c) l
-      ≡ insertAll (fieldFaults job (live c) (claims c) a ++ itemFaults job (accountOf (above c)) (wait code today (above c)) (live c) (claimsThen c)) l
+      ≡ insertAll (fieldFaults (jobOf terms) (live c) (claims c) a ++ itemFaults (jobOf terms) (accountOf (above c)) (wait terms (above c)) (live c) (claimsThen c)) l
   all-outs c a I l =
-      let ff = fieldFaults job (live c) (claims c) a in
-      let told = marked (wait code today (above c) .line) (model c .told) in
+      let ff = fieldFaults (jobOf terms) (live c) (claims c) a in
+      let told = marked (wait terms (above c) .line) (model c .told) in
       let own = marked (live c .head .no) (model c .marks) in
       putAll-append put (fieldsOut c) (itemsOut c) l ∙ ap (putAll put (itemsOut c)) (field-outs c a I l) ∙ item-says c (insertAll ff l) .0
       ∙ sym (insertAll-append ff (told ++ own) l ∙ insertAll-append told own (insertAll ff l))
 
   -- ---- what each line puts out
-  pub low-enters : (c : Open) (l : LowRow) (all : List Fault) → putAll put (out code today c (low l)) all ≡ insertAll (marked (lowKept l .no) (lowMarksOf (live c) (lowKept l))) all
+  pub low-enters : (c : Open) (l : LowRow) (all : List Fault) → putAll put (out terms c (low l)) all ≡ insertAll (marked (lowKept l .no) (lowMarksOf (live c) (lowKept l))) all
   unfolding lowSpot lowMarks lineMarks lowKept
   low-enters start l all = ap (λ (m : ℕ). insertAll (marked (l .row .no) m) all) (low-set nowhere l)
   low-enters (early ups x ls) l all = ap (λ (m : ℕ). insertAll (marked (l .row .no) m) all) (low-set prelude l)
   low-enters (atHead b h ls) l all = ap (λ (m : ℕ). insertAll (marked (l .row .no) m) all) (low-set within l)
   low-enters (atField b h hl ups x ls) l all = ap (λ (m : ℕ). insertAll (marked (l .row .no) m) all) (low-set within l)
 
-  pub field-puts : (c : Open) (y : FieldRow) → out code today c (field y) ≡ fieldsOut c
+  pub field-puts : (c : Open) (y : FieldRow) → out terms c (field y) ≡ fieldsOut c
   field-puts start y = refl
   field-puts (early ups x ls) y = refl
   field-puts (atHead b h ls) y = refl
   field-puts (atField b h hl ups x ls) y = refl
 
-  pub head-puts : (c : Open) (k : Row) → out code today c (heading k) ≡ fieldsOut c ++ itemsOut c
+  pub head-puts : (c : Open) (k : Row) → out terms c (heading k) ≡ fieldsOut c ++ itemsOut c
   head-puts start k = refl
   head-puts (early ups x ls) k = refl
   head-puts (atHead b h ls) k = refl
   head-puts (atField b h hl ups x ls) k = refl
 
-  pub final-puts : (c : Open) → final code today c ≡ (fieldsOut c ++ itemsOut c) ++ waits code today (aboveThen c) true
+  pub final-puts : (c : Open) → final terms c ≡ (fieldsOut c ++ itemsOut c) ++ waits terms (aboveThen c) true
   final-puts start = refl
   final-puts (early ups x ls) = refl
   final-puts (atHead b h ls) = refl
@@ -210,7 +207,7 @@ module _ (code today : ℕ) where
     pub live-is : s ≡ live c
     pub claims-are : cl ≡ claims c
     pub account-is : b ≡ accountOf (above c)
-    pub wait-is : w ≡ wait code today (above c)
+    pub wait-is : w ≡ wait terms (above c)
     pub numbered : Numbered c n
     pub long : length stood ≡ 1296
     pub past : (k : ℕ) → getD stood k 0 ≤ n
@@ -239,42 +236,42 @@ module _ (code today : ℕ) where
     claims-close : claimsAfter cl s ≡ claimsThen c
     claims-close = rw (M .live-is, M .claims-are) (claims-is c)
 
-    pub low-out : (l : LowRow) (all : List Fault) → putAll put (out code today c (low l)) all ≡ insertAll (marked (lowKept l .no) (lowMarksOf s (lowKept l))) all
+    pub low-out : (l : LowRow) (all : List Fault) → putAll put (out terms c (low l)) all ≡ insertAll (marked (lowKept l .no) (lowMarksOf s (lowKept l))) all
     low-out l all = rw (M .live-is) (low-enters c l all)
 
     abbrev pub closing : Shut
-    closing = shutModel job b w s (claimsAfter cl s)
+    closing = shutModel (jobOf terms) b w s (claimsAfter cl s)
 
     closing-is : closing ≡ model c
-    closing-is = λ j. shutModel job (M .account-is j) (M .wait-is j) (M .live-is j) (claims-close j)
+    closing-is = λ j. shutModel (jobOf terms) (M .account-is j) (M .wait-is j) (M .live-is j) (claims-close j)
 
-    pub field-out : (y : FieldRow) (all : List Fault) → putAll put (out code today c (field y)) all ≡ insertAll (fieldFaults job s cl stood) all
+    pub field-out : (y : FieldRow) (all : List Fault) → putAll put (out terms c (field y)) all ≡ insertAll (fieldFaults (jobOf terms) s cl stood) all
     field-out y all = rw (M .live-is, M .claims-are) (ap (λ (es : List Spot). putAll put es all) (field-puts c y) ∙ field-outs c stood (M .inside) all)
 
-    item-enters : itemFaults job b w s (claimsAfter cl s) ≡ itemFaults job (accountOf (above c)) (wait code today (above c)) (live c) (claimsThen c)
-    item-enters = λ j. itemFaults job (M .account-is j) (M .wait-is j) (M .live-is j) (claims-close j)
+    item-enters : itemFaults (jobOf terms) b w s (claimsAfter cl s) ≡ itemFaults (jobOf terms) (accountOf (above c)) (wait terms (above c)) (live c) (claimsThen c)
+    item-enters = λ j. itemFaults (jobOf terms) (M .account-is j) (M .wait-is j) (M .live-is j) (claims-close j)
 
-    all-enter : (all : List Fault) → putAll put (fieldsOut c ++ itemsOut c) all ≡ insertAll (openFaults job s cl b w stood) all
-    all-enter all = all-outs c stood (M .inside) all ∙ sym (λ j. insertAll (fieldFaults job (M .live-is j) (M .claims-are j) stood ++ item-enters j) all)
+    all-enter : (all : List Fault) → putAll put (fieldsOut c ++ itemsOut c) all ≡ insertAll (openFaults (jobOf terms) s cl b w stood) all
+    all-enter all = all-outs c stood (M .inside) all ∙ sym (λ j. insertAll (fieldFaults (jobOf terms) (M .live-is j) (M .claims-are j) stood ++ item-enters j) all)
 
-    pub head-out : (k : Row) (all : List Fault) → putAll put (out code today c (heading k)) all ≡ insertAll (openFaults job s cl b w stood) all
+    pub head-out : (k : Row) (all : List Fault) → putAll put (out terms c (heading k)) all ≡ insertAll (openFaults (jobOf terms) s cl b w stood) all
     head-out k all = ap (λ (es : List Spot). putAll put es all) (head-puts c k) ∙ all-enter all
 
     pub final-out : (all : List Fault)
-        → putAll put (final code today c) all ≡ insertAll (lastFaults job s cl b w) (insertAll (openFaults job s cl b w stood) all)
+        → putAll put (final terms c) all ≡ insertAll (lastFaults (jobOf terms) s cl b w) (insertAll (openFaults (jobOf terms) s cl b w stood) all)
     final-out all =
         let eb : closing .block ≡ accountOf (aboveThen c) = ap (λ (x : Shut). x .block) closing-is ∙ item-says c all .1 in
-        let ew : closing .wait ≡ wait code today (aboveThen c) = ap (λ (x : Shut). x .wait) closing-is ∙ item-says c all .2 in
-        ap (λ (es : List Spot). putAll put es all) (final-puts c) ∙ putAll-append put (fieldsOut c ++ itemsOut c) (waits code today (aboveThen c) true) all
-        ∙ ap (putAll put (waits code today (aboveThen c) true)) (all-enter all) ∙ last-out code today (aboveThen c) (insertAll (openFaults job s cl b w stood) all)
-        ∙ sym (λ j. insertAll (marked (ew j .line) (lastMarks (eb j) (ew j))) (insertAll (openFaults job s cl b w stood) all))
+        let ew : closing .wait ≡ wait terms (aboveThen c) = ap (λ (x : Shut). x .wait) closing-is ∙ item-says c all .2 in
+        ap (λ (es : List Spot). putAll put es all) (final-puts c) ∙ putAll-append put (fieldsOut c ++ itemsOut c) (waits terms (aboveThen c) true) all
+        ∙ ap (putAll put (waits terms (aboveThen c) true)) (all-enter all) ∙ last-out terms (aboveThen c) (insertAll (openFaults (jobOf terms) s cl b w stood) all)
+        ∙ sym (λ j. insertAll (marked (ew j .line) (lastMarks (eb j) (ew j))) (insertAll (openFaults (jobOf terms) s cl b w stood) all))
 
     pub meant-low : (l : LowRow) → Meant (push c (low l)) (suc n) (lowLive s (lowKept l)) cl b w stood
     meant-low l = record {
       live-is = ap (λ (t : Live). lowLive t (lowKept l)) (M .live-is) ∙ low-is c l;
       claims-are = M .claims-are ∙ same c;
       account-is = M .account-is ∙ ap accountOf (same-above c);
-      wait-is = M .wait-is ∙ ap (wait code today) (same-above c);
+      wait-is = M .wait-is ∙ ap (wait terms) (same-above c);
       numbered = numbers c (M .numbered);
       long = M .long;
       past = λ k. let p : getD stood k 0 ≤ n = M .past k in omega arith;
@@ -311,7 +308,7 @@ module _ (code today : ℕ) where
       live-is = ap (λ (t : Live). fieldLive t (fieldKept y)) (M .live-is) ∙ field-is c y;
       claims-are = claims-close ∙ claims-field c y;
       account-is = M .account-is ∙ ap accountOf (same-above c);
-      wait-is = M .wait-is ∙ ap (wait code today) (same-above c);
+      wait-is = M .wait-is ∙ ap (wait terms) (same-above c);
       numbered = numbers c (M .numbered);
       long = length-set stood (s .owner .ident) (s .owner .no) ∙ M .long;
       past = λ k. set-le stood (s .owner .ident) (s .owner .no) (suc n) k (omega (arith, line-small)) (let p : getD stood k 0 ≤ n = M .past k in omega arith);
@@ -343,7 +340,7 @@ module _ (code today : ℕ) where
       live-is = head-is c k;
       claims-are = no-claims-is ∙ none c;
       account-is = ap (λ (x : Shut). x .block) closing-is ∙ item-says c [] .1 ∙ ap accountOf (same c);
-      wait-is = ap (λ (x : Shut). x .wait) closing-is ∙ item-says c [] .2 ∙ ap (wait code today) (same c);
+      wait-is = ap (λ (x : Shut). x .wait) closing-is ∙ item-says c [] .2 ∙ ap (wait terms) (same c);
       numbered = numbers c;
       long = length-set stood (s .owner .ident) (s .owner .no) ∙ M .long;
       past = λ j. let p : getD (set stood (s .owner .ident) (s .owner .no)) j 0 ≤ n = below j in omega arith;

@@ -5,6 +5,7 @@ use mathlib.Core.Path.{_≡_, refl, ap, _∙_}
 use mathlib.Core.Option.{Option, none, some}
 use mathlib.Core.List.{List, [], _∷_, _++_, map, append-assoc}
 use lib.ListN.{length}
+use Rattle.rules.specs.Terms.{Terms}
 use Rattle.lines.specs.Lines.{Line}
 use Rattle.fields.specs.declared.kinds.Kind.{Kind}
 use Rattle.fields.specs.declared.kinds.Kind.the-variants.{Heading, Continuation, Field, Other}
@@ -37,47 +38,47 @@ numbers-append : (xs ys : List Spot) → numbers (xs ++ ys) ≡ numbers xs ++ nu
 numbers-append [] ys = refl
 numbers-append (x ∷ xs) ys = rw (numbers-append xs ys)
 
-module _ (code today : ℕ) where
+module _ (terms : Terms) where
   -- whatever stands above
   lows-numbers : (p q : Place) (ls : List LowRow) → numbers (lows p ls) ≡ numbers (lows q ls)
   unfolding lowSpot
   lows-numbers p q [] = refl
   lows-numbers p q (l ∷ ls) = rw (lows-numbers p q ls)
 
-  field-line : (h : Option (Group Row)) (ups : List (Group FieldRow)) (g : Group FieldRow) → (fieldSpot code today h ups g) .line ≡ g .owner .row .no
+  field-line : (h : Option (Group Row)) (ups : List (Group FieldRow)) (g : Group FieldRow) → (fieldSpot terms h ups g) .line ≡ g .owner .row .no
   unfolding fieldSpot
   field-line h ups g = refl
 
-  fields-numbers : (h k : Option (Group Row)) (ups vps gs : List (Group FieldRow)) → numbers (fields code today h ups gs) ≡ numbers (fields code today k vps gs)
+  fields-numbers : (h k : Option (Group Row)) (ups vps gs : List (Group FieldRow)) → numbers (fields terms h ups gs) ≡ numbers (fields terms k vps gs)
   fields-numbers h k ups vps [] = refl
   fields-numbers h k ups vps (g ∷ gs) =
-      rw (field-line, field-line, numbers-append, numbers-append, lows-numbers (placeIn code today h) (placeIn code today k) (g .below), fields-numbers h k (g ∷ ups) (g ∷ vps) gs)
+      rw (field-line, field-line, numbers-append, numbers-append, lows-numbers (placeIn terms h) (placeIn terms k) (g .below), fields-numbers h k (g ∷ ups) (g ∷ vps) gs)
 
   -- the numbers of items one after the other
   abbrev itemNumbers : List Item → List ℕ
   itemNumbers [] = []
-  itemNumbers (i ∷ is) = i .head .owner .no ∷ (numbers (inner code today i) ++ itemNumbers is)
+  itemNumbers (i ∷ is) = i .head .owner .no ∷ (numbers (inner terms i) ++ itemNumbers is)
 
-  items-numbers : (b is : List Item) → numbers (items code today b is) ≡ itemNumbers is
+  items-numbers : (b is : List Item) → numbers (items terms b is) ≡ itemNumbers is
   items-numbers b [] = refl
   items-numbers b (i ∷ is) = rw (numbers-append, items-numbers (i ∷ b) is)
 
-  spots-numbers : (f : File) → numbers (spots code today f) ≡ numbers (lows prelude (f .top)) ++ (numbers (fields code today none [] (f .loose)) ++ itemNumbers (f .items))
-  spots-numbers f = rw (numbers-append (lows nowhere (f .top)), lows-numbers nowhere prelude (f .top), numbers-append (fields code today none [] (f .loose)), items-numbers)
+  spots-numbers : (f : File) → numbers (spots terms f) ≡ numbers (lows prelude (f .top)) ++ (numbers (fields terms none [] (f .loose)) ++ itemNumbers (f .items))
+  spots-numbers f = rw (numbers-append (lows nowhere (f .top)), lows-numbers nowhere prelude (f .top), numbers-append (fields terms none [] (f .loose)), items-numbers)
 
-  inner-numbers : (i : Item) → numbers (inner code today i) ≡ numbers (lows prelude (i .head .below)) ++ numbers (fields code today none [] (i .fields))
+  inner-numbers : (i : Item) → numbers (inner terms i) ≡ numbers (lows prelude (i .head .below)) ++ numbers (fields terms none [] (i .fields))
   inner-numbers i =
-      numbers-append (lows inside (i .head .below)) (fields code today (some (i .head)) [] (i .fields))
+      numbers-append (lows inside (i .head .below)) (fields terms (some (i .head)) [] (i .fields))
       ∙ rw (lows-numbers inside prelude (i .head .below), fields-numbers (some (i .head)) none [] [] (i .fields))
 
   fields-cons : (g : Group FieldRow) (gs : List (Group FieldRow))
-      → numbers (fields code today none [] (g ∷ gs)) ≡ g .owner .row .no ∷ (numbers (lows prelude (g .below)) ++ numbers (fields code today none [] gs))
+      → numbers (fields terms none [] (g ∷ gs)) ≡ g .owner .row .no ∷ (numbers (lows prelude (g .below)) ++ numbers (fields terms none [] gs))
   unfolding fieldSpot
   fields-cons g gs =
       ap {B = List ℕ} (λ r. g .owner .row .no ∷ r)
-      (numbers-append (lows prelude (g .below)) (fields code today none (g ∷ []) gs) ∙ rw (fields-numbers none none (g ∷ []) [] gs))
+      (numbers-append (lows prelude (g .below)) (fields terms none (g ∷ []) gs) ∙ rw (fields-numbers none none (g ∷ []) [] gs))
 
-  top-number : (x : Sorted) (f : File) → numbers (spots code today (x ▹ f)) ≡ number x ∷ numbers (spots code today f)
+  top-number : (x : Sorted) (f : File) → numbers (spots terms (x ▹ f)) ≡ number x ∷ numbers (spots terms f)
   unfolding lowSpot fieldSpot
   top-number (low l) f = refl
   top-number (field x) f =
@@ -85,7 +86,7 @@ module _ (code today : ℕ) where
       (spots-numbers (field x ▹ f) ∙ ap (λ (r : List ℕ). r ++ itemNumbers (f .items)) (fields-cons (record { owner = x; below = f .top }) (f .loose)) ∙ rw append-assoc)
   top-number (heading h) f = rw (spots-numbers f) (spots-numbers (heading h ▹ f) ∙ rw (inner-numbers (itemOf h f), append-assoc))
 
-  tree-numbers : (xs : List Sorted) → numbers (spots code today (tree xs)) ≡ map number xs
+  tree-numbers : (xs : List Sorted) → numbers (spots terms (tree xs)) ≡ map number xs
   tree-numbers [] = refl
   tree-numbers (x ∷ xs) = top-number x (tree xs) ∙ rw (tree-numbers xs)
 
@@ -106,8 +107,8 @@ module _ (code today : ℕ) where
   rows-count n (l ∷ ls) = λ i. sorted-number (record { no = n; bytes = l .bytes; ended = l .ended }) i ∷ rows-count (suc n) ls i
 
   -- the numbers of a file's spots are those of its lines
-  pub every-number : (n : ℕ) (ls : List Line) → numbers (spots code today (tree (rowsFrom n ls))) ≡ countFrom n (length ls)
+  pub every-number : (n : ℕ) (ls : List Line) → numbers (spots terms (tree (rowsFrom n ls))) ≡ countFrom n (length ls)
   every-number n ls = tree-numbers (rowsFrom n ls) ∙ rows-count n ls
 
-  pub lines-rise : (n : ℕ) (ls : List Line) → Rising n (numbers (spots code today (tree (rowsFrom n ls))))
+  pub lines-rise : (n : ℕ) (ls : List Line) → Rising n (numbers (spots terms (tree (rowsFrom n ls))))
   lines-rise n ls = rw (every-number n ls) (count-rises n (length ls))

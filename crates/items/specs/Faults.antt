@@ -2,6 +2,7 @@
 use Prim.Native.Nat.{ℕ}
 use mathlib.Core.Option.{Option, none, some}
 use mathlib.Core.List.{List, [], _∷_, _++_}
+use Rattle.rules.specs.Terms.{Terms}
 use Rattle.lines.specs.Lines.{body, lines}
 use Rattle.ledger.specs.Faults.{Fault, Test, Spot, faultsOf, Broken}
 use Rattle.items.specs.Rows.{Row, FieldRow, LowRow, rowsFrom}
@@ -19,11 +20,11 @@ abbrev pub lows : Place → List LowRow → List Spot
 lows p [] = []
 lows p (l ∷ ls) = lowSpot p l ∷ lows p ls
 
-module _ (code today : ℕ) where
+module _ (terms : Terms) where
   -- a field, with the heading of its item if it has one, and the fields above it there
   abbrev pub fieldTestsIn : Option (Group Row) → List (Group FieldRow) → Group FieldRow → List Test
   fieldTestsIn none above g = looseTests g
-  fieldTestsIn (some h) above g = fieldTests today (headOf h) above g
+  fieldTestsIn (some h) above g = fieldTests terms (headOf h) above g
 
   unfoldable pub fieldSpot : Option (Group Row) → List (Group FieldRow) → Group FieldRow → Spot
   fieldSpot h above g = spot (g .owner .row .no) (fieldTestsIn h above g)
@@ -42,7 +43,7 @@ module _ (code today : ℕ) where
 
   -- a heading, with the items above and below its own
   abbrev pub headSpot : List Item → Item → List Item → Spot
-  headSpot above i below = spot (i .head .owner .no) (headTests code today above i below)
+  headSpot above i below = spot (i .head .owner .no) (headTests terms above i below)
 
   abbrev pub items : List Item → List Item → List Spot
   items above [] = []

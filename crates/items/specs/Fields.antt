@@ -6,6 +6,7 @@ use mathlib.Core.List.{List, [], _∷_}
 use lib.Dec.{eqb}
 use Rattle.laws.specs.Lists.{anyOf}
 use Rattle.text.specs.Characters.{isInadmissible}
+use Rattle.rules.specs.Terms.{Terms}
 use Rattle.ledger.specs.Faults.{Test, _if_}
 use Rattle.headings.specs.declared.Read.{Read}
 use Rattle.headings.specs.declared.Read.the-variants.{Reads, Unreadable}
@@ -90,14 +91,14 @@ abbrev pub isFirstKc : List (Group FieldRow) → Group FieldRow → Bool
 isFirstKc above g = eqb (g .owner .ident) (named "KC") && not (stands (named "KC") above)
 
 -- 8 and 9 'for the first KC of an item whose heading reads, with an input type other than 51, if that KC reads'
-abbrev pub late : ℕ → Read → Reading → Bool
-late today (Reads h) (Paid a d) = rule8 (h .kind) d today
-late today (Reads h) Broken = false
-late today (Reads h) Plain = false
-late today (Reads h) (Span a b) = false
-late today (Reads h) (Stated n a) = false
-late today (Reads h) (Party b) = false
-late today Unreadable r = false
+abbrev pub late : Terms → Read → Reading → Bool
+late terms (Reads h) (Paid a d) = rule8 terms (h .kind) d
+late terms (Reads h) Broken = false
+late terms (Reads h) Plain = false
+late terms (Reads h) (Span a b) = false
+late terms (Reads h) (Stated n a) = false
+late terms (Reads h) (Party b) = false
+late terms Unreadable r = false
 
 abbrev pub large : Read → Reading → Bool
 large (Reads h) (Paid a d) = rule9 (h .kind) (a .0)
@@ -109,21 +110,21 @@ large (Reads h) (Party b) = false
 large Unreadable r = false
 
 -- so at a field: it is that KC, and its day breaks 8, or its amount 9
-abbrev pub rule8At : ℕ → Read → List (Group FieldRow) → Group FieldRow → Bool
-rule8At today h above g = isFirstKc above g && late today h (says g)
+abbrev pub rule8At : Terms → Read → List (Group FieldRow) → Group FieldRow → Bool
+rule8At terms h above g = isFirstKc above g && late terms h (says g)
 
 abbrev pub rule9At : Read → List (Group FieldRow) → Group FieldRow → Bool
 rule9At h above g = isFirstKc above g && large h (says g)
 
 -- at a field of an item, by what its heading reads as and the fields above it
-unfoldable pub fieldTests : ℕ → Read → List (Group FieldRow) → Group FieldRow → List Test
-fieldTests today h above g =
+unfoldable pub fieldTests : Terms → Read → List (Group FieldRow) → Group FieldRow → List Test
+fieldTests terms h above g =
     (1 if rule1 (g .owner .row)) ∷
     (4 if rule4 (g .owner .row)) ∷
     (5 if rule5 above g) ∷
     (6 if rule6 g) ∷
     (7 if rule7 g) ∷
-    (8 if rule8At today h above g) ∷
+    (8 if rule8At terms h above g) ∷
     (9 if rule9At h above g) ∷ []
 
 -- at a field above the first heading: 5 to 9 are of 'fields inside items'

@@ -4,6 +4,7 @@ use mathlib.Core.Bool.{Bool, true, false, cond, _||_}
 use mathlib.Core.Option.{Option, none, some}
 use mathlib.Core.List.{List, [], _∷_, _++_, map}
 use lib.Dec.{eqb}
+use Rattle.rules.specs.Terms.{Terms}
 use Rattle.ledger.specs.Faults.{Test, _if_}
 use Rattle.headings.specs.declared.Read.{Read}
 use Rattle.headings.specs.declared.Read.the-variants.{Reads, Unreadable}
@@ -122,12 +123,12 @@ rule16At above i below = rule16 (map digest above) (digest i) (map digest below)
 
 -- ---- the tests at a heading
 -- 10 to 15, 'at a readable heading', for the submitter's code and the accounting day
-unfoldable pub ownTests : ℕ → ℕ → Digest → Read → List Test
-ownTests code today it Unreadable = []
-ownTests code today it (Reads h) =
+unfoldable pub ownTests : Terms → Digest → Read → List Test
+ownTests terms it Unreadable = []
+ownTests terms it (Reads h) =
     (10 if rule10 h) ∷
-    (11 if rule11 today h) ∷
-    (12 if rule12 code h) ∷
+    (11 if rule11 terms h) ∷
+    (12 if rule12 terms h) ∷
     (13 if rule13 h) ∷
     (14 if rule14 h) ∷
     (15 if rule15 h (it .kc)) ∷ []
@@ -153,11 +154,11 @@ blockTests above it (Reads h) =
     (38 if rule30 8 above h (it .sums)) ∷ []
 
 -- all of them, by the items above and below
-unfoldable pub headTests : ℕ → ℕ → List Item → Item → List Item → List Test
-headTests code today above i below =
+unfoldable pub headTests : Terms → List Item → Item → List Item → List Test
+headTests terms above i below =
     (1 if rule1 (i .head .owner)) ∷
     (4 if rule4 (i .head .owner)) ∷
     (6 if rule6At (i .head)) ∷
-    (ownTests code today (digest i) (headOf (i .head)) ++
+    (ownTests terms (digest i) (headOf (i .head)) ++
     ((16 if rule16At above i below) ∷
     blockTests (map digest above) (digest i) (headOf (i .head))))

@@ -7,6 +7,7 @@ use lib.Dec.{eqb, ltb, leb}
 use lib.ListN.{length}
 use borrow.Author.Tests.{eqb-true}
 use Rattle.laws.specs.Tests.{among}
+use Rattle.rules.specs.Terms.{Terms}
 use Rattle.fields.specs.declared.classes.Class.{Class}
 use Rattle.fields.specs.declared.classes.Class.the-variants.{Money, Number, Range, Group, Account, Text, Free}
 use Rattle.fields.specs.declared.readings.Reading.{Reading}
@@ -123,33 +124,33 @@ fitting true (Stated n a) = refl
 fitting true (Party b) = refl
 fitting false r = refl
 
-said-by : (today : ℕ) (b : List Item) (h : Row) (hl : List LowRow) (ups : List (Owned FieldRow)) (x : FieldRow) (ls : List LowRow)
-    → ifFits (fitsBy (openOf today (atField b h hl ups x ls) .marks)) (readingOf (classOf (x .ident)) (textOf (x .row .bytes))) ≡ says (closed x ls)
-said-by today b h hl ups x ls =
+said-by : (terms : Terms) (b : List Item) (h : Row) (hl : List LowRow) (ups : List (Owned FieldRow)) (x : FieldRow) (ls : List LowRow)
+    → ifFits (fitsBy (openOf terms (atField b h hl ups x ls) .marks)) (readingOf (classOf (x .ident)) (textOf (x .row .bytes))) ≡ says (closed x ls)
+said-by terms b h hl ups x ls =
     let r : Reading = readingOf (classOf (x .ident)) (textOf (x .row .bytes)) in
-    ap (λ (t : Bool). ifFits t r) (fits-is today (headOf (closed h hl)) ups x ls)
+    ap (λ (t : Bool). ifFits t r) (fits-is terms (headOf (closed h hl)) ups x ls)
     ∙ ap (λ (s : Reading). ifFits (not (isBroken s)) r) (sym (says-closed x ls)) ∙ fitting (takesBy (classOf (x .ident)) (tailOf (continuations ls))) r ∙ says-closed x ls
 
 -- the open field closes
-pub claims-close : (today : ℕ) (c : Open) (p : Pend) → Pending c p → closeClaims (claimsNow c) (openOf today c) p ≡ claimsLater c
-claims-close today start p P = refl
-claims-close today (early ups x ls) p P = refl
-claims-close today (atHead b h ls) p P = refl
-claims-close today (atField b h hl ups x ls) p P = go (eqb (x .ident) (named "KC")) refl
+pub claims-close : (terms : Terms) (c : Open) (p : Pend) → Pending c p → closeClaims (claimsNow c) (openOf terms c) p ≡ claimsLater c
+claims-close terms start p P = refl
+claims-close terms (early ups x ls) p P = refl
+claims-close terms (atHead b h ls) p P = refl
+claims-close terms (atField b h hl ups x ls) p P = go (eqb (x .ident) (named "KC")) refl
   where
     m : ℕ
-    m = openOf today (atField b h hl ups x ls) .marks
+    m = openOf terms (atField b h hl ups x ls) .marks
 
     kc-code : eqb (x .ident) (named "KC") ≡ true → leb 5 (codeOf (x .ident)) ≡ false
     kc-code e = rw (eqb-true (x .ident) (named "KC") e) (unfold codeOf classOf place in refl)
 
     by : (t : Bool) → leb 5 (codeOf (x .ident)) ≡ t
         → cond t (claimsWith (claimsOf ups) (p .ident) (ifFits (fitsBy m) (p .said))) (claimsOf ups) ≡ cond t (claimsWith (claimsOf ups) (x .ident) (says (closed x ls))) (claimsOf ups)
-    by true e = (λ i. claimsWith (claimsOf ups) (P e i .ident) (ifFits (fitsBy m) (P e i .said))) ∙ ap (claimsWith (claimsOf ups) (x .ident)) (said-by today b h hl ups x ls)
+    by true e = (λ i. claimsWith (claimsOf ups) (P e i .ident) (ifFits (fitsBy m) (P e i .said))) ∙ ap (claimsWith (claimsOf ups) (x .ident)) (said-by terms b h hl ups x ls)
     by false e = refl
 
     go : (t : Bool) → eqb (x .ident) (named "KC") ≡ t
-        → closeClaims (cond t (claimsOf (closed x ls ∷ ups)) (claimsOf ups)) (openOf today (atField b h hl ups x ls)) p ≡ claimsOf (closed x ls ∷ ups)
+        → closeClaims (cond t (claimsOf (closed x ls ∷ ups)) (claimsOf ups)) (openOf terms (atField b h hl ups x ls)) p ≡ claimsOf (closed x ls ∷ ups)
     go true e = ap (λ (t : Bool). cond t (claimsWith (claimsOf (closed x ls ∷ ups)) (p .ident) (ifFits (fitsBy m) (p .said))) (claimsOf (closed x ls ∷ ups))) (kc-code e)
     go false e =
         by (leb 5 (codeOf (x .ident))) refl

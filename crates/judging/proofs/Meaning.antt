@@ -9,6 +9,7 @@ use lib.Dec.{eqb, ltb, leb}
 use lib.ListN.{length, getD, set, length-set}
 use borrow.Author.Tests.{le-ltb, ne-eqb}
 use Rattle.laws.specs.Tests.{mark}
+use Rattle.rules.specs.Terms.{Terms}
 use Rattle.ledger.specs.Faults.{Fault, Spot}
 use Rattle.ledger.specs.Marks.{insertAll, marked}
 use Rattle.ledger.proofs.Insertion.{insertAll-append}
@@ -23,6 +24,7 @@ use Rattle.fields.specs.Readings.{textOf, readingOf}
 use Rattle.blocks.specs.declared.Kc.{Kc}
 use Rattle.blocks.specs.declared.Block.{Block}
 use Rattle.blocks.specs.Items.{closesAt}
+use Rattle.blocks.specs.Model.{jobOf}
 use Rattle.blocks.specs.Model.{closeModel as blockModel}
 use Rattle.blocks.specs.OwnRules.{noKc}
 use Rattle.items.specs.declared.Claims.{Claims}
@@ -42,7 +44,7 @@ use Rattle.items.proofs.Ideal.{Open, start, early, atHead, atField, closed, pus
 use Rattle.items.proofs.Turned.{firstUp, continued-closed}
 use Rattle.items.proofs.Opened.{live, no-kc-is, claimsOf, no-claims-is}
 use Rattle.items.proofs.Shutting.{accountOf, wait, last-out, read-is}
-use Rattle.items.proofs.Meant.{job, set-le, stood-on, Numbered, above, aboveThen, fieldsOut, itemsOut, model, item-says, field-puts, head-puts, final-puts}
+use Rattle.items.proofs.Meant.{set-le, stood-on, Numbered, above, aboveThen, fieldsOut, itemsOut, model, item-says, field-puts, head-puts, final-puts}
 use Rattle.judging.specs.declared.opening.Open.{Open as Held}
 use Rattle.judging.specs.declared.opening.Pend.{Pend}
 use Rattle.judging.specs.Opening.{codeOf, saidMarks, noOpen, lowOpen, ownClaims, closeClaims, pendOf, openOwn, openLoose, lowMarksAt, itemOf, closeAs, closeFaults}
@@ -104,20 +106,20 @@ read-own : (h : Row) → headOf (closed h []) ≡ headingOf (h .bytes)
 unfolding headOf continued
 read-own h = refl
 
-module _ (code today : ℕ) where
+module _ (terms : Terms) where
   -- ---- an item closes
-  close-is : (c : Open) → Positive c → closeAs (job code today) (accountOf (above c)) (wait code today (above c)) (sinceOf c) (ownOf c) (readNow c) (claimsLater c) ≡ model code today c
+  close-is : (c : Open) → Positive c → closeAs (jobOf terms) (accountOf (above c)) (wait terms (above c)) (sinceOf c) (ownOf c) (readNow c) (claimsLater c) ≡ model terms c
   unfolding closeAs shutModel headMarksOf headKept lineMarks
   close-is start P = refl
   close-is (early ups x ls) P = refl
   close-is (atHead b h ls) P =
-      λ i. let r = sym (read-is code today b h ls []) i in
-      let q = blockModel (job code today) (accountOf b) (itemOf (h .no) r (claimsOf [])) in
-      shutAs (not (no-zero (h .no) P i)) (closesAt r) (accountOf b .any) (accountOf b) (q .block) (wait code today b) (h .no) (lineMarks h + mark 6 (isUnreadable r) + q .marks)
+      λ i. let r = sym (read-is terms b h ls []) i in
+      let q = blockModel (jobOf terms) (accountOf b) (itemOf (h .no) r (claimsOf [])) in
+      shutAs (not (no-zero (h .no) P i)) (closesAt r) (accountOf b .any) (accountOf b) (q .block) (wait terms b) (h .no) (lineMarks h + mark 6 (isUnreadable r) + q .marks)
   close-is (atField b h hl ups x ls) P =
-      λ i. let r = sym (read-is code today b h hl (closed x ls ∷ ups)) i in
-      let q = blockModel (job code today) (accountOf b) (itemOf (h .no) r (claimsOf (closed x ls ∷ ups))) in
-      shutAs (not (no-zero (h .no) (P .0) i)) (closesAt r) (accountOf b .any) (accountOf b) (q .block) (wait code today b) (h .no) (lineMarks h + mark 6 (isUnreadable r) + q .marks)
+      λ i. let r = sym (read-is terms b h hl (closed x ls ∷ ups)) i in
+      let q = blockModel (jobOf terms) (accountOf b) (itemOf (h .no) r (claimsOf (closed x ls ∷ ups))) in
+      shutAs (not (no-zero (h .no) (P .0) i)) (closesAt r) (accountOf b .any) (accountOf b) (q .block) (wait terms b) (h .no) (lineMarks h + mark 6 (isUnreadable r) + q .marks)
 
   since-is-no : (c : Open) → live c .head .no ≡ sinceOf c
   unfolding headKept
@@ -128,7 +130,7 @@ module _ (code today : ℕ) where
 
   -- ---- a continuation or a line of no kind
   low-enters : (c : Open) → Positive c → (l : LowRow) (all : List Fault)
-      → putAll put (out code today c (low l)) all ≡ insertAll (marked (l .row .no) (lowMarksAt (lineMarks (l .row)) (sinceOf c) (openOf today c .no) (l .continues))) all
+      → putAll put (out terms c (low l)) all ≡ insertAll (marked (l .row .no) (lowMarksAt (lineMarks (l .row)) (sinceOf c) (openOf terms c .no) (l .continues))) all
   unfolding lowSpot lowMarks
   low-enters start P l all = ap (λ (m : ℕ). insertAll (marked (l .row .no) m) all) (low-set nowhere l)
   low-enters (early ups x ls) P l all = rw (no-zero (x .row .no) P) (ap (λ (m : ℕ). insertAll (marked (l .row .no) m) all) (low-set prelude l))
@@ -137,22 +139,22 @@ module _ (code today : ℕ) where
 
   -- a field opens in an item
   open-in : (b : List Item) (h : Row) (hl : List LowRow) (ups : List (Owned FieldRow)) (y : FieldRow) (again : Bool) → again ≡ stands (y .ident) ups
-      → openOwn (job code today) (claimsOf ups .kc) (headOf (closed h hl)) (y .row .no) (lineMarks (y .row)) again (y .ident) (readingOf (classOf (y .ident)) (textOf (y .row .bytes)))
-      ≡ openOf today (atField b h hl ups y [])
+      → openOwn (jobOf terms) (claimsOf ups .kc) (headOf (closed h hl)) (y .row .no) (lineMarks (y .row)) again (y .ident) (readingOf (classOf (y .ident)) (textOf (y .row .bytes)))
+      ≡ openOf terms (atField b h hl ups y [])
   open-in b h hl ups y again e =
-      (λ i. openAt (y .row .no) (lineMarks (y .row) + mark 5 (e i) + saidMarks (job code today) (eqb (y .ident) (named "KC") && no-kc-is (named "KC") ups i) (headOf (closed h hl)) (readingOf (classOf (y .ident)) (textOf (y .row .bytes)))) (codeOf (y .ident)) 0)
-      ∙ sym (field-open today code b h hl ups y)
+      (λ i. openAt (y .row .no) (lineMarks (y .row) + mark 5 (e i) + saidMarks (jobOf terms) (eqb (y .ident) (named "KC") && no-kc-is (named "KC") ups i) (headOf (closed h hl)) (readingOf (classOf (y .ident)) (textOf (y .row .bytes)))) (codeOf (y .ident)) 0)
+      ∙ sym (field-open terms b h hl ups y)
 
   -- ---- all that the pass holds
   pub record Means (c : Open) (n : ℕ) (o : Held) (since own : ℕ) (r : Read) (cl : Claims) (p : Pend) (b : Block) (w : Wait) (stood : List ℕ) : Type 0 where
-    pub open-is : o ≡ openOf today c
+    pub open-is : o ≡ openOf terms c
     pub since-is : since ≡ sinceOf c
     pub own-is : own ≡ ownOf c
     pub reads-as : r ≡ readNow c
     pub claims-are : cl ≡ claimsNow c
     pub pending : Pending c p
     pub account-is : b ≡ accountOf (above c)
-    pub wait-is : w ≡ wait code today (above c)
+    pub wait-is : w ≡ wait terms (above c)
     pub numbered : Numbered c n
     pub positive : Positive c
     pub long : length stood ≡ 1296
@@ -164,62 +166,62 @@ module _ (code today : ℕ) where
     claimed = closeClaims cl o p
 
     claims-then : claimed ≡ claimsLater c
-    claims-then = (λ i. closeClaims (M .claims-are i) (M .open-is i) p) ∙ claims-close today c p (M .pending)
+    claims-then = (λ i. closeClaims (M .claims-are i) (M .open-is i) p) ∙ claims-close terms c p (M .pending)
 
     abbrev pub closing : Shut
-    closing = closeAs (job code today) b w since own r claimed
+    closing = closeAs (jobOf terms) b w since own r claimed
 
-    closing-is : closing ≡ model code today c
-    closing-is = (λ i. closeAs (job code today) (M .account-is i) (M .wait-is i) (M .since-is i) (M .own-is i) (M .reads-as i) (claims-then i)) ∙ close-is c (M .positive)
+    closing-is : closing ≡ model terms c
+    closing-is = (λ i. closeAs (jobOf terms) (M .account-is i) (M .wait-is i) (M .since-is i) (M .own-is i) (M .reads-as i) (claims-then i)) ∙ close-is c (M .positive)
 
-    pub low-out : (l : LowRow) (all : List Fault) → putAll put (out code today c (low l)) all ≡ insertAll (marked (l .row .no) (lowMarksAt (lineMarks (l .row)) since (o .no) (l .continues))) all
+    pub low-out : (l : LowRow) (all : List Fault) → putAll put (out terms c (low l)) all ≡ insertAll (marked (l .row .no) (lowMarksAt (lineMarks (l .row)) since (o .no) (l .continues))) all
     low-out l all = rw (M .since-is, M .open-is) (low-enters c (M .positive) l all)
 
-    field-enters : (all : List Fault) → putAll put (fieldsOut code today c) all ≡ insertAll (marked (o .no) (o .marks)) all
-    field-enters all = rw (M .open-is) (close-open today code c all)
+    field-enters : (all : List Fault) → putAll put (fieldsOut terms c) all ≡ insertAll (marked (o .no) (o .marks)) all
+    field-enters all = rw (M .open-is) (close-open terms c all)
 
-    pub field-out : (y : FieldRow) (all : List Fault) → putAll put (out code today c (field y)) all ≡ insertAll (marked (o .no) (o .marks)) all
-    field-out y all = ap (λ (es : List Spot). putAll put es all) (field-puts code today c y) ∙ field-enters all
+    pub field-out : (y : FieldRow) (all : List Fault) → putAll put (out terms c (field y)) all ≡ insertAll (marked (o .no) (o .marks)) all
+    field-out y all = ap (λ (es : List Spot). putAll put es all) (field-puts terms c y) ∙ field-enters all
 
-    item-enters : (all : List Fault) → putAll put (itemsOut code today c) all ≡ insertAll (closeFaults (job code today) b w since own r claimed) all
+    item-enters : (all : List Fault) → putAll put (itemsOut terms c) all ≡ insertAll (closeFaults (jobOf terms) b w since own r claimed) all
     item-enters all =
-        item-says code today c all .0
+        item-says terms c all .0
         ∙ (λ i. insertAll (marked ((since-is-no c ∙ sym (M .since-is)) i) (sym closing-is i .marks)) (insertAll (marked (sym (M .wait-is) i .line) (sym closing-is i .told)) all))
         ∙ sym (insertAll-append (marked (w .line) (closing .told)) (marked since (closing .marks)) all)
 
     all-enter : (all : List Fault)
-        → putAll put (fieldsOut code today c ++ itemsOut code today c) all ≡ insertAll (marked (o .no) (o .marks) ++ closeFaults (job code today) b w since own r claimed) all
+        → putAll put (fieldsOut terms c ++ itemsOut terms c) all ≡ insertAll (marked (o .no) (o .marks) ++ closeFaults (jobOf terms) b w since own r claimed) all
     all-enter all =
-        putAll-append put (fieldsOut code today c) (itemsOut code today c) all ∙ ap (putAll put (itemsOut code today c)) (field-enters all)
+        putAll-append put (fieldsOut terms c) (itemsOut terms c) all ∙ ap (putAll put (itemsOut terms c)) (field-enters all)
         ∙ item-enters (insertAll (marked (o .no) (o .marks)) all)
-        ∙ sym (insertAll-append (marked (o .no) (o .marks)) (closeFaults (job code today) b w since own r claimed) all)
+        ∙ sym (insertAll-append (marked (o .no) (o .marks)) (closeFaults (jobOf terms) b w since own r claimed) all)
 
-    pub head-out : (k : Row) (all : List Fault) → putAll put (out code today c (heading k)) all ≡ insertAll (marked (o .no) (o .marks) ++ closeFaults (job code today) b w since own r claimed) all
-    head-out k all = ap (λ (es : List Spot). putAll put es all) (head-puts code today c k) ∙ all-enter all
+    pub head-out : (k : Row) (all : List Fault) → putAll put (out terms c (heading k)) all ≡ insertAll (marked (o .no) (o .marks) ++ closeFaults (jobOf terms) b w since own r claimed) all
+    head-out k all = ap (λ (es : List Spot). putAll put es all) (head-puts terms c k) ∙ all-enter all
 
     pub final-out : (all : List Fault)
-        → putAll put (final code today c) all
-        ≡ insertAll (marked (closing .wait .line) (lastMarks (closing .block) (closing .wait))) (insertAll (marked (o .no) (o .marks) ++ closeFaults (job code today) b w since own r claimed) all)
+        → putAll put (final terms c) all
+        ≡ insertAll (marked (closing .wait .line) (lastMarks (closing .block) (closing .wait))) (insertAll (marked (o .no) (o .marks) ++ closeFaults (jobOf terms) b w since own r claimed) all)
     final-out all =
-        let eb : closing .block ≡ accountOf (aboveThen c) = ap (λ (x : Shut). x .block) closing-is ∙ item-says code today c all .1 in
-        let ew : closing .wait ≡ wait code today (aboveThen c) = ap (λ (x : Shut). x .wait) closing-is ∙ item-says code today c all .2 in
-        let now : List Fault = insertAll (marked (o .no) (o .marks) ++ closeFaults (job code today) b w since own r claimed) all in
-        ap (λ (es : List Spot). putAll put es all) (final-puts code today c) ∙ putAll-append put (fieldsOut code today c ++ itemsOut code today c) (waits code today (aboveThen c) true) all
-        ∙ ap (putAll put (waits code today (aboveThen c) true)) (all-enter all) ∙ last-out code today (aboveThen c) now
+        let eb : closing .block ≡ accountOf (aboveThen c) = ap (λ (x : Shut). x .block) closing-is ∙ item-says terms c all .1 in
+        let ew : closing .wait ≡ wait terms (aboveThen c) = ap (λ (x : Shut). x .wait) closing-is ∙ item-says terms c all .2 in
+        let now : List Fault = insertAll (marked (o .no) (o .marks) ++ closeFaults (jobOf terms) b w since own r claimed) all in
+        ap (λ (es : List Spot). putAll put es all) (final-puts terms c) ∙ putAll-append put (fieldsOut terms c ++ itemsOut terms c) (waits terms (aboveThen c) true) all
+        ∙ ap (putAll put (waits terms (aboveThen c) true)) (all-enter all) ∙ last-out terms (aboveThen c) now
         ∙ sym (λ j. insertAll (marked (ew j .line) (lastMarks (eb j) (ew j))) now)
 
     -- ---- and what it holds then
     pub means-low : (l : LowRow)
         → Means (push c (low l)) (suc n) (lowOpen (l .continues) o (length (l .row .bytes))) since own (cond (l .continues && eqb (o .no) 0) Unreadable r) cl p b w stood
     means-low l = record {
-      open-is = ap (λ (x : Held). lowOpen (l .continues) x (length (l .row .bytes))) (M .open-is) ∙ sym (low-open today c l (M .positive));
+      open-is = ap (λ (x : Held). lowOpen (l .continues) x (length (l .row .bytes))) (M .open-is) ∙ sym (low-open terms c l (M .positive));
       since-is = M .since-is ∙ same-since c;
       own-is = M .own-is ∙ same-own c;
       reads-as = (λ i. cond (l .continues && eqb (M .open-is i .no) 0) Unreadable (M .reads-as i)) ∙ reads c (M .positive);
       claims-are = M .claims-are ∙ sym (claims-low c l);
       pending = pending-low c l p (M .pending);
       account-is = M .account-is ∙ ap accountOf (same-above c);
-      wait-is = M .wait-is ∙ ap (wait code today) (same-above c);
+      wait-is = M .wait-is ∙ ap (wait terms) (same-above c);
       numbered = numbers c (M .numbered);
       positive = stay c (M .positive);
       long = M .long;
@@ -251,7 +253,7 @@ module _ (code today : ℕ) where
         on true x = refl
         on false x = refl
 
-        reads : (c : Open) → Positive c → cond (l .continues && eqb (openOf today c .no) 0) Unreadable (readNow c) ≡ readNow (push c (low l))
+        reads : (c : Open) → Positive c → cond (l .continues && eqb (openOf terms c .no) 0) Unreadable (readNow c) ≡ readNow (push c (low l))
         reads start P = both (l .continues && true)
         reads (early ups x ls) P = both (l .continues && eqb (x .row .no) 0)
         reads (atHead b h ls) P = on (l .continues) (headOf (closed h ls)) ∙ sym (read-more h l ls)
@@ -285,11 +287,11 @@ module _ (code today : ℕ) where
         → let said = readingOf (classOf (y .ident)) (textOf (y .row .bytes)) in
         Means (push c (field y)) (suc n)
         (cond (eqb since 0) (openLoose (y .row .no) (lineMarks (y .row)))
-        (openOwn (job code today) (claimed .kc) r (y .row .no) (lineMarks (y .row)) (ltb since (getD stood (y .ident) 0)) (y .ident) said))
+        (openOwn (jobOf terms) (claimed .kc) r (y .row .no) (lineMarks (y .row)) (ltb since (getD stood (y .ident) 0)) (y .ident) said))
         since own r (cond (eqb since 0) claimed (ownClaims claimed (y .ident) said)) (cond (eqb since 0) p (pendOf p (y .ident) said)) b w (set stood (y .ident) (y .row .no))
     means-field y e small = record {
       open-is = (λ i. cond (eqb (M .since-is i) 0) (openLoose (y .row .no) (lineMarks (y .row)))
-          (openOwn (job code today) (claims-then i .kc) (M .reads-as i) (y .row .no) (lineMarks (y .row)) (ltb (M .since-is i) (getD stood (y .ident) 0)) (y .ident) said))
+          (openOwn (jobOf terms) (claims-then i .kc) (M .reads-as i) (y .row .no) (lineMarks (y .row)) (ltb (M .since-is i) (getD stood (y .ident) 0)) (y .ident) said))
           ∙ opens c (M .positive) (M .inside);
       since-is = M .since-is ∙ same-since c;
       own-is = M .own-is ∙ same-own c;
@@ -299,7 +301,7 @@ module _ (code today : ℕ) where
           ∙ sym (claims-own c y);
       pending = rw (M .since-is) (pends c (M .positive));
       account-is = M .account-is ∙ ap accountOf (same-above c);
-      wait-is = M .wait-is ∙ ap (wait code today) (same-above c);
+      wait-is = M .wait-is ∙ ap (wait terms) (same-above c);
       numbered = numbers c (M .numbered);
       positive = stay c (M .positive);
       long = length-set stood (y .ident) (y .row .no) ∙ M .long;
@@ -316,10 +318,10 @@ module _ (code today : ℕ) where
 
         opens : (c : Open) → Positive c → Stood c stood
             → cond (eqb (sinceOf c) 0) (openLoose (y .row .no) (lineMarks (y .row)))
-            (openOwn (job code today) (claimsLater c .kc) (readNow c) (y .row .no) (lineMarks (y .row)) (ltb (sinceOf c) (getD stood (y .ident) 0)) (y .ident) said)
-            ≡ openOf today (push c (field y))
-        opens start P I = sym (early-open today code [] y)
-        opens (early ups x ls) P I = sym (early-open today code (closed x ls ∷ ups) y)
+            (openOwn (jobOf terms) (claimsLater c .kc) (readNow c) (y .row .no) (lineMarks (y .row)) (ltb (sinceOf c) (getD stood (y .ident) 0)) (y .ident) said)
+            ≡ openOf terms (push c (field y))
+        opens start P I = sym (early-open terms [] y)
+        opens (early ups x ls) P I = sym (early-open terms (closed x ls ∷ ups) y)
         opens (atHead b h ls) P I = rw (no-zero (h .no) P) (open-in b h ls [] y (ltb (h .no) (getD stood (y .ident) 0)) (unfold stands in le-ltb (h .no) (getD stood (y .ident) 0) (I (y .ident))))
         opens (atField b h hl ups x ls) P I = rw (no-zero (h .no) (P .0)) (open-in b h hl (closed x ls ∷ ups) y (ltb (h .no) (getD stood (y .ident) 0)) (I (y .ident)))
 
@@ -382,8 +384,8 @@ module _ (code today : ℕ) where
       reads-as = sym (read-own k) ∙ read-then c;
       claims-are = no-claims-is ∙ none c;
       pending = pends c;
-      account-is = ap (λ (x : Shut). x .block) closing-is ∙ item-says code today c [] .1 ∙ ap accountOf (same c);
-      wait-is = ap (λ (x : Shut). x .wait) closing-is ∙ item-says code today c [] .2 ∙ ap (wait code today) (same c);
+      account-is = ap (λ (x : Shut). x .block) closing-is ∙ item-says terms c [] .1 ∙ ap accountOf (same c);
+      wait-is = ap (λ (x : Shut). x .wait) closing-is ∙ item-says terms c [] .2 ∙ ap (wait terms) (same c);
       numbered = numbers c;
       positive = stay c;
       long = M .long;
@@ -391,7 +393,7 @@ module _ (code today : ℕ) where
       inside = stays c;
     }
       where
-        opens : (c : Open) → noOpen ≡ openOf today (push c (heading k))
+        opens : (c : Open) → noOpen ≡ openOf terms (push c (heading k))
         opens start = refl
         opens (early ups x ls) = refl
         opens (atHead b h ls) = refl

@@ -8,6 +8,7 @@ use lib.Dec.{ltb, eqb}
 use lib.ListN.{length, take}
 use borrow.Author.Tests.{lt-ltb, le-ltb, eq-eqb, ne-eqb}
 use Rattle.laws.specs.Refusals.{first}
+use Rattle.rules.specs.Terms.{Terms}
 use Rattle.lines.specs.Lines.{body, hasMark, startsWithMark}
 use Rattle.lines.proofs.Body.{body-take, body-shorter, body-empty}
 use Rattle.ledger.specs.Slices.{Listed}
@@ -17,37 +18,37 @@ use Rattle.listing.specs.declared.checking.Checked.{Checked}
 use Rattle.listing.specs.declared.checking.Checked.the-variants.{Total, BadCode, BadDay, TooLong, UnequalRooms, NoMark, StartsWithMark}
 use Rattle.listing.specs.Checking.{isCode, isAccountingDay, checkRefusals, checkedNumber, checkedOr, Checks}
 
-module _ (file : List ℕ) (code day : ℕ) (ls rs : List ℕ) where
+module _ (file : List ℕ) (terms : Terms) (ls rs : List ℕ) where
   abbrev refusal : ℕ
-  refusal = first (checkRefusals file code day (length ls) (length rs))
+  refusal = first (checkRefusals file terms (length ls) (length rs))
 
   -- a refusal leaves all as it was
-  refused : (r : Checked) → checkedNumber r ≡ refusal → eqb refusal 0 ≡ false → ((old : ℕ) → checkedOr r old ≡ old) → Checks file code day ls rs r ls rs
+  refused : (r : Checked) → checkedNumber r ≡ refusal → eqb refusal 0 ≡ false → ((old : ℕ) → checkedOr r old ≡ old) → Checks file terms ls rs r ls rs
   refused r e z t = record { number = e; total = λ old. rw z (t old); lines = rw z; rules = rw z }
 
-  pub bad-code : not (isCode code) ≡ true → Checks file code day ls rs BadCode ls rs
+  pub bad-code : not (isCode (terms .code)) ≡ true → Checks file terms ls rs BadCode ls rs
   bad-code a = refused BadCode (rw a) (rw a) (λ old. refl)
 
-  module _ (a : not (isCode code) ≡ false) where
-    pub bad-day : not (isAccountingDay day) ≡ true → Checks file code day ls rs BadDay ls rs
+  module _ (a : not (isCode (terms .code)) ≡ false) where
+    pub bad-day : not (isAccountingDay (terms .today)) ≡ true → Checks file terms ls rs BadDay ls rs
     bad-day b = refused BadDay (rw (a, b)) (rw (a, b)) (λ old. refl)
 
-    module _ (b : not (isAccountingDay day) ≡ false) where
-      pub too-long : 10000000 < length file → Checks file code day ls rs TooLong ls rs
+    module _ (b : not (isAccountingDay (terms .today)) ≡ false) where
+      pub too-long : 10000000 < length file → Checks file terms ls rs TooLong ls rs
       too-long h = let c = lt-ltb 10000000 (length file) h in refused TooLong (rw (a, b, c)) (rw (a, b, c)) (λ old. refl)
 
       module _ (h : length file ≤ 10000000) where
         c : ltb 10000000 (length file) ≡ false
         c = le-ltb 10000000 (length file) h
 
-        pub unequal-rooms : (length ls ≡ length rs → ⊥) → Checks file code day ls rs UnequalRooms ls rs
+        pub unequal-rooms : (length ls ≡ length rs → ⊥) → Checks file terms ls rs UnequalRooms ls rs
         unequal-rooms n = let d = ne-eqb (length ls) (length rs) n in refused UnequalRooms (rw (a, b, c, d)) (rw (a, b, c, d)) (λ old. refl)
 
         module _ (e : length ls ≡ length rs) where
           d : eqb (length ls) (length rs) ≡ true
           d = eq-eqb (length ls) (length rs) e
 
-          pub no-mark : (n : ℕ) → n ≡ length (body file) → length file ≤ n → Checks file code day ls rs NoMark ls rs
+          pub no-mark : (n : ℕ) → n ≡ length (body file) → length file ≤ n → Checks file terms ls rs NoMark ls rs
           no-mark n q k =
               let m : hasMark file ≡ false = sym (body-shorter file) ∙ le-ltb (length (body file)) (length file) (omega arith) in
               refused NoMark (rw (a, b, c, d, m)) (rw (a, b, c, d, m)) (λ old. refl)
@@ -56,7 +57,7 @@ module _ (file : List ℕ) (code day : ℕ) (ls rs : List ℕ) where
             m : hasMark file ≡ true
             m = sym (body-shorter file) ∙ lt-ltb (length (body file)) (length file) (omega arith)
 
-            pub starts-with-mark : n ≡ 0 → Checks file code day ls rs StartsWithMark ls rs
+            pub starts-with-mark : n ≡ 0 → Checks file terms ls rs StartsWithMark ls rs
             starts-with-mark z =
                 let s : startsWithMark file ≡ true = body-empty file ∙ rw (eq-eqb (length (body file)) 0 (omega arith), m) in
                 refused StartsWithMark (rw (a, b, c, d, m, s)) (rw (a, b, c, d, m, s)) (λ old. refl)
@@ -64,12 +65,12 @@ module _ (file : List ℕ) (code day : ℕ) (ls rs : List ℕ) where
             pub body-is : take n file ≡ body file
             body-is = rw q (body-take file)
 
-            pub checked : (n ≡ 0 → ⊥) → {g : Ledger} {ls′ rs′ : List ℕ} → Listed (faultsIn code day (take n file)) ls rs g ls′ rs′ → Checks file code day ls rs (Total (g .total)) ls′ rs′
+            pub checked : (n ≡ 0 → ⊥) → {g : Ledger} {ls′ rs′ : List ℕ} → Listed (faultsIn terms (take n file)) ls rs g ls′ rs′ → Checks file terms ls rs (Total (g .total)) ls′ rs′
             unfolding faults
             checked z {g} {ls′} {rs′} L =
                 let s : startsWithMark file ≡ false = body-empty file ∙ rw (ne-eqb (length (body file)) 0 (λ e. z (omega arith))) in
                 let o : refusal ≡ 0 = rw (a, b, c, d, m, s) in
-                let f : faultsIn code day (take n file) ≡ faultsIn code day (body file) = ap (faultsIn code day) body-is in
+                let f : faultsIn terms (take n file) ≡ faultsIn terms (body file) = ap (faultsIn terms) body-is in
                 record {
                   number = sym o;
                   total = λ old. L .total ∙ ap length f ∙ (rw o refl);

@@ -1,6 +1,7 @@
 // The job at the counter: a file, the submitter's code and the accounting day are checked, and the first pairs of a line and a rule
 // broken there are written into two lent slices.
 ghost use mathlib.Core.Path.{_≡_};
+ghost use Rattle.rules.specs.Terms.{input};
 ghost use Rattle.listing.specs.Checking.{isCode, isAccountingDay, Checks, checkedNumber, checkedOr};
 
 // One answer for each refusal; the total otherwise.
@@ -28,7 +29,7 @@ fn is_accounting_day(day: u32) -> bool
 }
 
 pub fn check(file: &[u8], code: u32, day: u32, lines: &mut [u32], rules: &mut [u32]) -> Checked
-    ensures { λ r. ⌜ Checks (now (file .entry)) code day (now (lines .entry)) (now (rules .entry)) r (now (lines .exit)) (now (rules .exit)) ⌝ }
+    ensures { λ r. ⌜ Checks (now (file .entry)) (input code day) (now (lines .entry)) (now (rules .entry)) r (now (lines .exit)) (now (rules .exit)) ⌝ }
 {
     if !is_code(code) {
         return Checked::BadCode;

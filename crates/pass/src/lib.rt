@@ -29,6 +29,7 @@ ghost use lib.Dec.{ltb};
 ghost use lib.ListN.{length, getD, set, replicate};
 ghost use Rattle.ledger.specs.Slices.{Ready, Entered, Listed};
 ghost use Rattle.ledger.specs.Marks.{marked};
+ghost use Rattle.rules.specs.Terms.{input};
 ghost use Rattle.items.specs.State.{lastMarks};
 ghost use Rattle.judging.specs.Opening.{readAs, closeClaims, closeAs, closeFaults};
 ghost use Rattle.items.specs.Faults.{faultsIn};
@@ -156,7 +157,7 @@ fn no_heading() -> Heading {
 pub fn enter_faults(s: &[u8], code: u32, day: u32, lines: &mut [u32], rules: &mut [u32]) -> Ledger
     requires { ⌜ length (now s) ≤ 10000000 ⌝ }
     requires { ⌜ length (now lines) ≡ length (now rules) ⌝ }
-    ensures { λ r. ⌜ Listed (faultsIn code day (now (s .entry))) (now (lines .entry)) (now (rules .entry)) r (now (lines .exit)) (now (rules .exit)) ⌝ }
+    ensures { λ r. ⌜ Listed (faultsIn (input code day) (now (s .entry))) (now (lines .entry)) (now (rules .entry)) r (now (lines .exit)) (now (rules .exit)) ⌝ }
 {
     let job = blocks::own_rules::job_of(Code(code), day);
     let table = text::characters::table();

@@ -4,6 +4,7 @@ use mathlib.Core.Bool.{cond}
 use mathlib.Core.List.{List}
 use lib.Dec.{eqb, ltb}
 use lib.ListN.{length, take, drop}
+use Rattle.rules.specs.Terms.{input}
 use Rattle.ledger.specs.Faults.{Fault}
 use Rattle.laws.specs.Refusals.{first}
 use Rattle.items.specs.Faults.{faults}
@@ -30,10 +31,10 @@ module _ (refusal : List ℕ → ℕ → ℕ → ℕ) (faults : List ℕ → ℕ
 
 -- checking's own refusal, for two slices of 256
 abbrev checkRefusal : List ℕ → ℕ → ℕ → ℕ
-checkRefusal file code day = first (checkRefusals file code day 256 256)
+checkRefusal file code day = first (checkRefusals file (input code day) 256 256)
 
 abbrev faultsOf : List ℕ → ℕ → ℕ → List Fault
-faultsOf file code day = faults code day file
+faultsOf file code day = faults (input code day) file
 
 abbrev pub fileText : Job → List ℕ → List ℕ
 fileText job file = jobText checkRefusal faultsOf job file

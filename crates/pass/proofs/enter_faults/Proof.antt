@@ -4,6 +4,7 @@ use mathlib.Core.Logic.{⊎-elim}
 use Prim.Native.Nat.{suc, _-_}
 use native.Mathlib.Omega.{arith}
 use lib.ListN.{length}
+use Rattle.rules.specs.Terms.{input}
 use Rattle.lines.specs.Reading.{span, IsNext}
 use Rattle.lines.proofs.Reading.{is-next}
 use Rattle.fields.specs.declared.classes.Class.{Class}
@@ -17,7 +18,7 @@ use Rattle.pass.proofs.enter_faults.Tie as tie
 
 abbrev Inv-loop : tie.InvT-loop
 Inv-loop s code day lines₀ rules₀ job table stood₀ g₀ open₀ pend₀ since₀ top₀ reads₀ h₀ claims₀ block₀ wait₀ at₀ n₀ lines rules stood g «open» pend since top reads h claims block wait at n =
-    Walking code day s lines₀ rules₀ job lines rules stood g «open» pend since top reads h claims block wait at n
+    Walking (input code day) s lines₀ rules₀ job lines rules stood g «open» pend since top reads h claims block wait at n
 
 abbrev μ-loop : tie.MeasureT-loop
 μ-loop s code day lines₀ rules₀ job table stood₀ g₀ open₀ pend₀ since₀ top₀ reads₀ h₀ claims₀ block₀ wait₀ at₀ n₀ lines rules stood g «open» pend since top reads h claims block wait at n =
@@ -71,7 +72,7 @@ no-wait-requires c κs = search needs
 
 loop-holds : tie.Need-loop-holds Inv-loop μ-loop
 loop-holds c =
-    walk-start _ _ _ (c .before .before .before .before .before .before .before .before .before .before .before .before .before .pre .1) (c .before .before .before .before .before .before .before .before .before .job-of .ensures) (c .before .before .before .before .before .none-open .ensures) (c .before .before .no-claims .ensures) (c .before .start .ensures) (c .no-wait .ensures) (c .before .before .before .before .before .before .before .unseen .ensures) (c .before .before .before .before .before .before .empty .ensures)
+    walk-start _ _ (c .before .before .before .before .before .before .before .before .before .before .before .before .before .pre .1) (c .before .before .before .before .before .before .before .before .before .job-of .ensures) (c .before .before .before .before .before .none-open .ensures) (c .before .before .no-claims .ensures) (c .before .start .ensures) (c .no-wait .ensures) (c .before .before .before .before .before .before .before .unseen .ensures) (c .before .before .before .before .before .before .empty .ensures)
 
 line-from-requires : tie.Need-line-from-requires Inv-loop μ-loop
 line-from-requires c κs = search needs

@@ -1,0 +1,1 @@
+// Rules: what a file is judged by. No function stands here.
