@@ -1,12 +1,12 @@
 // The rules of blocks, each asked of the account and not of the items above.
 use crate::Block;
-use crate::Span;
-use crate::Sums;
 use crate::groups::group_marks;
 use crate::marks::flag;
 use headings::Heading;
 use headings::item_types::is_payment;
 use headings::item_types::is_priority;
+use rules::FirstIn;
+use rules::Sums;
 ghost use mathlib.Core.Path.{_≡_};
 ghost use Prim.Native.Nat.{_+_, _-_, _<_, _≤_, _^_};
 ghost use lib.Dec.{eqb};
@@ -57,13 +57,13 @@ fn breaks_twenty(classed: bool, priority: bool, kind: u32) -> bool
     paying & (classed & ((own & !priority) | (!own & priority)))
 }
 
-fn breaks_twenty_one(some: bool, first: u32, last: u32, span: Span) -> bool
+fn breaks_twenty_one(some: bool, first: u32, last: u32, span: FirstIn) -> bool
     ensures { λ r. ⌜ r ≡ breaks21 some first last span ⌝ }
 {
     match span {
-        Span::NoIn => true,
-        Span::BrokenIn => false,
-        Span::Runs(a, b) => some & !((a.0 == first) & (b.0 == last)),
+        FirstIn::NoIn => true,
+        FirstIn::BrokenIn => false,
+        FirstIn::Runs(a, b) => some & !((a.0 == first) & (b.0 == last)),
     }
 }
 
@@ -77,7 +77,7 @@ pub fn open_marks(b: Block, h: Heading) -> u64
 }
 
 // The marks of 17 to 22 and 30 to 38 at a 51.
-pub fn closing_marks(b: Block, h: Heading, span: Span, s9: bool, stated: Sums) -> u64
+pub fn closing_marks(b: Block, h: Heading, span: FirstIn, s9: bool, stated: Sums) -> u64
     ensures { λ r. ⌜ (r ≡ closingMarks b h span s9 stated) × (r ≤ 2 ^ 39 - 2 ^ 16) ⌝ }
 {
     let counts = b.counts;

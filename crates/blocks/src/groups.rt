@@ -1,7 +1,7 @@
 // The nine groups: what a 51 states of each against what the account has.
-use crate::Stated;
-use crate::Sum;
 use crate::marks::flag;
+use rules::FirstSum;
+use rules::Sum;
 ghost use mathlib.Core.Path.{_≡_};
 ghost use mathlib.Core.Bool.{cond};
 ghost use Prim.Native.Nat.{_+_, _-_, _<_, _≤_, _^_, min};
@@ -13,13 +13,13 @@ fn tells_true(count: u64, sum: u64, c: u64, s: u64) -> bool
     (count < 10000000) & ((sum < 100000000000000000) & ((c == count) & (s == sum)))
 }
 
-fn misstates(count: u64, sum: u64, stated: Stated) -> bool
+fn misstates(count: u64, sum: u64, stated: FirstSum) -> bool
     ensures { λ r. ⌜ r ≡ misstatedCapped count sum stated ⌝ }
 {
     match stated {
-        Stated::NoSum => !tells_true(count, sum, 0, 0),
-        Stated::BrokenSum => false,
-        Stated::Says(c, s) => !tells_true(count, sum, c as u64, s.0),
+        FirstSum::NoSum => !tells_true(count, sum, 0, 0),
+        FirstSum::BrokenSum => false,
+        FirstSum::Says(c, s) => !tells_true(count, sum, c as u64, s.0),
     }
 }
 

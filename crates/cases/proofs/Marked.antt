@@ -6,9 +6,10 @@ use Rattle.laws.specs.Tests.{every}
 use Rattle.laws.specs.Lists.{anyOf}
 use Rattle.text.specs.Characters.{isAdmissible}
 use Rattle.text.specs.Digits.{valueAfter, digits}
-use Rattle.days.specs.Days.{isLeap, row, monthLength, isReal, dayNumber}
 use Rattle.text.specs.Strings.{begins}
-use Rattle.text.specs.Forms.{template, hasForm, numbers, textOf as formText}
+use Rattle.text.specs.Forms.{template, hasForm, numbers}
+use Rattle.text.specs.Forms.{textOf as formText}
+use Rattle.days.specs.Days.{isLeap, row, monthLength, isReal, dayNumber}
 use Rattle.headings.specs.ItemTypes.{isInput, isTrilateral, isPriority, isPayment}
 use Rattle.headings.specs.HeadRules.{rule10, rule13, rule14}
 use Rattle.headings.specs.Reading.{headingOf}
@@ -16,17 +17,17 @@ use Rattle.headings.specs.Writing.{headingText}
 use Rattle.outcomes.specs.Outcomes.{outgoing, codes, inClass}
 use Rattle.outcomes.specs.Deriving.{barred, turned, deriveRefusals, derivedTarget}
 use Rattle.figures.specs.Layouts.{run, isEmpty, headIs, fits, part}
+use Rattle.figures.specs.Accounts.{weights, weighed, passes, accountHolds, accountOf}
 use Rattle.fields.specs.Kinds.{place, kindOf}
 use Rattle.fields.specs.Classes.{classOf, groupOf}
-use Rattle.figures.specs.Accounts.{weights, weighed, passes, accountHolds, accountOf}
 use Rattle.fields.specs.Readings.{textOf, readingOf}
 use Rattle.fields.specs.Tails.{takes, reads, saysOf}
 use Rattle.lines.specs.Lines.{body, crlf, onto, lines}
-use Rattle.ledger.specs.Faults.{faultsOf}
-use Rattle.items.specs.Rows.{sorted, rowsFrom}
-use Rattle.items.specs.Fields.{rule1, continuations, says, stands, fieldTests}
-use Rattle.items.specs.Headings.{continued, headOf, firstSaid, digest, ownTests, blockTests, headTests}
-use Rattle.items.specs.Faults.{fieldSpot, faultsIn, faults}
+use Rattle.rules.specs.Faults.{faultsOf, faultsIn, faults}
+use Rattle.rules.specs.Rows.{sorted, rowsFrom}
+use Rattle.rules.specs.LineRules.{rule1}
+use Rattle.rules.specs.Said.{continuations, says, stands, continued, headOf, firstSaid, digest}
+use Rattle.rules.specs.Spots.{fieldTests, ownTests, blockTests, headTests, fieldSpot}
 use Rattle.cases.specs.Cases.{holds, marked}
 
 pub every-marked : every (map holds marked) ≡ true

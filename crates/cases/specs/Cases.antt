@@ -9,13 +9,12 @@ use lib.Dec.{eqb}
 use Rattle.laws.specs.Ascii.{ascii}
 use Rattle.laws.specs.Refusals.{first}
 use Rattle.text.specs.Characters.{isAdmissible}
-use Rattle.days.specs.Days.{isReal}
 use Rattle.text.specs.Strings.{begins}
-use Rattle.rules.specs.Terms.{input}
+use Rattle.days.specs.Days.{isReal}
 use Rattle.outcomes.specs.Deriving.{deriveRefusals, derivedTarget}
 use Rattle.figures.specs.Accounts.{weighed, accountOf, accountValue}
-use Rattle.ledger.specs.Faults.{Fault, fault}
-use Rattle.items.specs.Faults.{faults}
+use Rattle.rules.specs.Terms.{input}
+use Rattle.rules.specs.Faults.{Fault, fault, faults}
 
 pub data Case : Type 0 where
   -- a byte may stand in a text, or may not

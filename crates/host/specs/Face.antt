@@ -7,8 +7,7 @@ use lib.Dec.{eqb}
 use lib.ListN.{length}
 use Rattle.laws.specs.Refusals.{first}
 use Rattle.rules.specs.Terms.{Terms}
-use Rattle.ledger.specs.Faults.{Fault}
-use Rattle.items.specs.Faults.{faults}
+use Rattle.rules.specs.Faults.{Fault, faults}
 use Rattle.listing.specs.Checking.{checkRefusals, slicesAfter}
 
 -- the true total, or on a refusal what stood there

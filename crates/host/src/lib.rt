@@ -8,10 +8,10 @@ ghost use mathlib.Core.Bool.{cond};
 ghost use lib.Dec.{eqb};
 ghost use lib.ListN.{length};
 ghost use Rattle.laws.specs.Refusals.{first};
-ghost use Rattle.rules.specs.Terms.{input};
 ghost use Rattle.outcomes.specs.Deriving.{deriveRefusals, derivedTarget};
 ghost use Rattle.figures.specs.Accounts.{accountRefusals, accountHolds};
-ghost use Rattle.items.specs.Faults.{faults};
+ghost use Rattle.rules.specs.Terms.{input};
+ghost use Rattle.rules.specs.Faults.{faults};
 ghost use Rattle.listing.specs.Checking.{checkRefusals};
 ghost use Rattle.host.specs.Face.{totalAfter, ListedAt};
 

@@ -1,20 +1,18 @@
 -- What the pass puts out is what is declared, for any list in which the order of two entries does not matter.
-use Prim.Native.Nat.{ℕ}
 use mathlib.Core.Path.{_≡_, refl, sym, ap, _∙_}
 use mathlib.Core.Bool.{Bool, true, false, not, _&&_, cond}
 use mathlib.Core.Option.{none, some}
 use mathlib.Core.List.{List, [], _∷_, _++_, map, append-nil, append-assoc}
 use Rattle.rules.specs.Terms.{Terms}
-use Rattle.ledger.specs.Faults.{Spot}
+use Rattle.rules.specs.Tests.{Spot}
+use Rattle.rules.specs.Blocks.{empty, blockAbove}
+use Rattle.rules.specs.Rows.{Sorted, heading, field, low}
+use Rattle.rules.specs.Tree.{Item, File, noLines, _▹_, itemOf, tree}
+use Rattle.rules.specs.LineRules.{prelude, inside}
+use Rattle.rules.specs.Said.{digest}
+use Rattle.rules.specs.Spots.{lowSpot, lows, fieldSpot, fields, inner, items, spots}
 use Rattle.ledger.proofs.Entries.{putAll, putAll-append, past, swap, one}
-use Rattle.blocks.specs.Items.{empty, blockAbove}
-use Rattle.items.specs.Rows.{Sorted, heading, field, low}
-use Rattle.items.specs.Tree.{Item, File, noLines, _▹_, itemOf, tree}
-use Rattle.items.specs.Fields.{prelude, inside}
-use Rattle.items.specs.Headings.{digest}
-use Rattle.items.specs.Faults.{lowSpot, lows, fieldSpot, fields, inner, items, spots}
-use Rattle.items.proofs.Sets.{headAs, head-as}
-use Rattle.items.proofs.Ideal.{ends, fresh, noneEnds, Open, start, early, atHead, atField, closed, item, push, waitsAt, outAt, under, waits, headsOut, out, final, pending, heads, left}
+use Rattle.items.proofs.Ideal.{headAs, head-as, ends, fresh, noneEnds, start, early, atHead, atField, closed, item, push, waitsAt, outAt, under, waits, headsOut, out, final, pending, heads, left, Pieces}
 
 and-false : (b : Bool) → (b && false) ≡ false
 and-false true = refl
@@ -32,7 +30,7 @@ module _ (terms : Terms) where
 
   module _ {L : Type 0} (put : Spot → L → L) where
     -- the pass from what is open, over the lines that are left
-    abbrev pub run : Open → L → List Sorted → L
+    abbrev pub run : Pieces → L → List Sorted → L
     run c l [] = putAll put (final terms c) l
     run c l (x ∷ xs) = run (push c x) (putAll put (out terms c x) l) xs
 
@@ -73,7 +71,7 @@ module _ (terms : Terms) where
           putAll-append put (headsOut terms b i) (pending terms (i ∷ b) (j ∷ is)) l ∙ headed (i ∷ b) j is (putAll put (headsOut terms b i) l)
 
       -- one line: what was left is what it puts out and what is then left
-      step : (c : Open) (x : Sorted) (f : File) (l : L)
+      step : (c : Pieces) (x : Sorted) (f : File) (l : L)
           → putAll put (left terms c (x ▹ f)) l ≡ putAll put (left terms (push c x) f) (putAll put (out terms c x) l)
       step start (low y) f l = refl
       step start (field y) f l = simp append-assoc
@@ -90,13 +88,13 @@ module _ (terms : Terms) where
           closes b (item (closed h hl) (closed x ls ∷ ups)) (itemOf k f) (f .items) (put (fieldSpot terms (some (closed h hl)) ups (closed x ls)) l)
 
       -- nothing below: what is left is what the end puts out
-      last : (c : Open) → left terms c noLines ≡ final terms c
+      last : (c : Pieces) → left terms c noLines ≡ final terms c
       last start = refl
       last (early ups x ls) = refl
       last (atHead b h ls) = rw (append-nil (waits terms (item (closed h ls) [] ∷ b) true))
       last (atField b h hl ups x ls) = rw (append-nil (waits terms (item (closed h hl) (closed x ls ∷ ups) ∷ b) true))
 
-      whole : (c : Open) (l : L) (xs : List Sorted) → run c l xs ≡ putAll put (left terms c (tree xs)) l
+      whole : (c : Pieces) (l : L) (xs : List Sorted) → run c l xs ≡ putAll put (left terms c (tree xs)) l
       whole c l [] = rw last
       whole c l (x ∷ xs) = whole (push c x) (putAll put (out terms c x) l) xs ∙ sym (step c x (tree xs) l)
 

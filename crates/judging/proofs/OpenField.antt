@@ -2,15 +2,13 @@
 use mathlib.Core.Path.{_≡_, refl, sym, ap, _∙_}
 use mathlib.Core.Bool.{Bool, true, false, cond, not, _&&_, _||_}
 use mathlib.Core.List.{List, [], _∷_}
-use Prim.Native.Nat.{ℕ, zero, suc, _+_, _*_, _%_, _≤_, _<_, min}
-use native.Mathlib.Nat.{add-assoc}
+use Prim.Native.Nat.{ℕ, suc, _+_, _*_, _%_, _<_, min}
 use native.Mathlib.Numerals.{add-one}
 use native.Mathlib.Omega.{arith}
 use lib.Dec.{eqb, ltb, leb}
 use lib.ListN.{length}
-use borrow.Author.Tests.{le-leb, lt-leb, le-ltb, lt-ltb, leb-true, leb-false, ltb-true, ltb-false, eqb-true, ne-eqb}
-use Rattle.laws.specs.Tests.{mark, among}
-use Rattle.rules.specs.Terms.{Terms}
+use borrow.Author.Tests.{le-leb, lt-leb, le-ltb, lt-ltb, ltb-true, ltb-false, eqb-true, ne-eqb}
+use Rattle.laws.specs.Tests.{mark}
 use Rattle.headings.specs.declared.Read.{Read}
 use Rattle.headings.specs.declared.Read.the-variants.{Reads, Unreadable}
 use Rattle.fields.specs.declared.classes.Class.{Class}
@@ -19,30 +17,29 @@ use Rattle.fields.specs.declared.readings.Reading.{Reading}
 use Rattle.fields.specs.declared.readings.Reading.the-variants.{Broken, Plain, Paid, Span, Stated, Party}
 use Rattle.fields.specs.declared.tails.Tail.{Tail}
 use Rattle.fields.specs.Kinds.{named, place}
-use Rattle.fields.specs.Classes.{classBy, classOf}
+use Rattle.fields.specs.Classes.{classOf}
 use Rattle.fields.specs.Readings.{textOf, readingOf, ifFits}
-use Rattle.fields.specs.Tails.{isBroken, allFit, tailOf, tailMore, takesBy, saysOf}
+use Rattle.fields.specs.Tails.{isBroken, allFit, tailOf, tailMore, takesBy}
 use Rattle.fields.proofs.Kept.{broken, tail-more}
-use Rattle.blocks.specs.declared.Job.{Job}
-use Rattle.blocks.specs.Model.{jobOf}
-use Rattle.blocks.proofs.Accounting.{same-eight}
-use Rattle.ledger.specs.Faults.{Fault}
+use Rattle.rules.specs.Terms.{Terms}
+use Rattle.rules.specs.Faults.{Fault}
+use Rattle.rules.specs.Rows.{Row, FieldRow, LowRow, low}
+use Rattle.rules.specs.Tree.{Item, Owned}
+use Rattle.rules.specs.Said.{headOf, continuations, says, stands}
+use Rattle.rules.specs.Spots.{fieldSpot}
+use Rattle.rules.specs.LineRules.{rule1}
+use Rattle.rules.specs.FieldRules.{rule6, failsCheck, late, large}
 use Rattle.ledger.specs.Marks.{insertAll, marked}
 use Rattle.ledger.proofs.Entries.{putAll, put}
-use Rattle.items.specs.Rows.{Row, FieldRow, LowRow, low}
-use Rattle.items.specs.Tree.{Item}
-use Rattle.items.specs.Tree.{Group as Owned}
-use Rattle.items.specs.Headings.{headOf}
-use Rattle.items.specs.Faults.{fieldSpot}
-use Rattle.items.specs.Fields.{rule1, continuations, says, stands, rule6, failsCheck, isFirstKc, late, large}
-use Rattle.items.specs.State.{lateBy, kcMarks}
-use Rattle.items.proofs.Sets.{lineMarks, fieldMarks, field-set, looseMarks, loose-set}
-use Rattle.items.proofs.Ideal.{Open, start, early, atHead, atField, closed, push}
-use Rattle.items.proofs.Shutting.{put-none}
+use Rattle.blocks.specs.Model.{basisOf}
+use Rattle.account.proofs.Accounting.{same-eight}
+use Rattle.items.proofs.Ideal.{start, early, atHead, atField, closed, push, Pieces}
 use Rattle.items.proofs.Turned.{says-closed}
-use Rattle.items.proofs.Meant.{late-is, broken-is, fieldsOut}
-use Rattle.judging.specs.declared.opening.Open.{Open as Held}
-use Rattle.judging.specs.Opening.{codeBy, codeOf, breaksTail, noOpen, brokenBy, moreOpen, lowOpen, fitsBy, saidMarks}
+use Rattle.items.proofs.Puts.{fieldsOut}
+use Rattle.judging.specs.declared.opening.Open.{Open}
+use Rattle.judging.specs.Opening.{kcMarks, codeBy, codeOf, breaksTail, noOpen, brokenBy, moreOpen, lowOpen, fitsBy, saidMarks, lateBy}
+use Rattle.judging.proofs.Sets.{lineMarks, fieldMarks, field-set, looseMarks, loose-set}
+use Rattle.judging.proofs.Shutting.{put-none, Positive}
 
 -- ---- a class as a number says whether a tail breaks it
 abbrev breaksAs : Class → ℕ → ℕ → Bool
@@ -213,6 +210,19 @@ six a b c d own h = ap fitsBy (over own (mark 6 a) (mark 7 b) (mark 8 c + mark 9
     go true q = let e : (own + 64 + 128 * q) % 128 ≡ own + 64 = omega arith in rw e (le-ltb (own + 64) 64 (omega arith))
     go false q = let e : (own + 0 + 128 * q) % 128 ≡ own = omega arith in rw e (lt-ltb own 64 h)
 
+late-is : (terms : Terms) (h : Read) (r : Reading) → lateBy (basisOf terms) h r ≡ late terms h r
+late-is terms (Reads h) Broken = refl
+late-is terms (Reads h) Plain = refl
+late-is terms (Reads h) (Paid a d) = same-eight terms (h .kind) d
+late-is terms (Reads h) (Span a b) = refl
+late-is terms (Reads h) (Stated n a) = refl
+late-is terms (Reads h) (Party b) = refl
+late-is terms Unreadable r = refl
+
+broken-is : (x : FieldRow) (ls : List LowRow) → isBroken (says (closed x ls)) ≡ rule6 (closed x ls)
+unfolding says
+broken-is x ls = broken (classOf (x .ident)) (x .row .bytes) (continuations (closed x ls .below))
+
 module _ (terms : Terms) where
   -- 6 to 9 by what the field says
   abbrev high : Bool → Read → Reading → ℕ
@@ -241,7 +251,7 @@ module _ (terms : Terms) where
     unfolding fieldMarks
     field-sum ls =
         ap (λ (t : Bool). lineMarks (x .row) + (mark 5 (stands (x .ident) ups) + mark 6 t + mark 7 (failsCheck (says (closed x ls))) + mark 8 (first && late terms r (says (closed x ls))) + mark 9 (first && large r (says (closed x ls)))))
-        (sym (broken-is terms x ls))
+        (sym (broken-is x ls))
         ∙ regroup _ _ _ _ _ _
 
     -- one continuation more
@@ -261,7 +271,7 @@ module _ (terms : Terms) where
     marks-same l ls e = field-sum (l ∷ ls) ∙ ap (λ (s : Reading). own + high first r s) (says-same x l ls e) ∙ sym (field-sum ls)
 
     -- at its own line
-    pub marks-own : fieldMarks terms r ups (closed x []) ≡ own + saidMarks (jobOf terms) first r (readingOf (classOf (x .ident)) (textOf (x .row .bytes)))
+    pub marks-own : fieldMarks terms r ups (closed x []) ≡ own + saidMarks (basisOf terms) first r (readingOf (classOf (x .ident)) (textOf (x .row .bytes)))
     unfolding kcMarks saidMarks
     marks-own =
         field-sum [] ∙ ap (λ (s : Reading). own + high first r s) (says-own x)
@@ -272,15 +282,8 @@ module _ (terms : Terms) where
     fits-is ls = ap fitsBy (field-sum ls) ∙ six (isBroken (says (closed x ls))) (failsCheck (says (closed x ls))) (first && late terms r (says (closed x ls))) (first && large r (says (closed x ls))) own (own-small (x .row) (stands (x .ident) ups))
 
 -- ---- the open field over the tree's open pieces
-abbrev pub openAt : ℕ → ℕ → ℕ → ℕ → Held
+abbrev pub openAt : ℕ → ℕ → ℕ → ℕ → Open
 openAt n m k t = record { no = n; marks = m; class = k; tail = t }
-
--- the numbers of what is open are none of them 0
-abbrev pub Positive : Open → Type 0
-Positive start = Unit {0}
-Positive (early ups x ls) = 0 < x .row .no
-Positive (atHead b h ls) = 0 < h .no
-Positive (atField b h hl ups x ls) = (0 < h .no) × (0 < x .row .no)
 
 -- where it is continued
 abbrev counted : List LowRow → ℕ
@@ -299,14 +302,14 @@ unfolding looseMarks
 loose-same x ls ms = refl
 
 module _ (terms : Terms) where
-  abbrev pub openOf : Open → Held
+  abbrev pub openOf : Pieces → Open
   openOf start = noOpen
   openOf (early ups x ls) = openAt (x .row .no) (looseMarks (closed x ls)) 0 (counted ls)
   openOf (atHead b h ls) = noOpen
   openOf (atField b h hl ups x ls) = openAt (x .row .no) (fieldMarks terms (headOf (closed h hl)) ups (closed x ls)) (codeOf (x .ident)) (counted ls)
 
   -- a line below it
-  pub low-open : (c : Open) (l : LowRow) → Positive c → openOf (push c (low l)) ≡ lowOpen (l .continues) (openOf c) (length (l .row .bytes))
+  pub low-open : (c : Pieces) (l : LowRow) → Positive c → openOf (push c (low l)) ≡ lowOpen (l .continues) (openOf c) (length (l .row .bytes))
   low-open start l P = go (l .continues)
     where
       go : (t : Bool) → noOpen ≡ cond (t && false) (moreOpen noOpen (length (l .row .bytes))) noOpen
@@ -345,13 +348,13 @@ module _ (terms : Terms) where
       → openOf (atField b h hl ups y [])
       ≡ openAt (y .row .no)
       (lineMarks (y .row) + mark 5 (stands (y .ident) ups)
-      + saidMarks (jobOf terms) (eqb (y .ident) (named "KC") && not (stands (named "KC") ups)) (headOf (closed h hl)) (readingOf (classOf (y .ident)) (textOf (y .row .bytes))))
+      + saidMarks (basisOf terms) (eqb (y .ident) (named "KC") && not (stands (named "KC") ups)) (headOf (closed h hl)) (readingOf (classOf (y .ident)) (textOf (y .row .bytes))))
       (codeOf (y .ident)) 0
   unfolding continuations
   field-open b h hl ups y = ap (λ (m : ℕ). openAt (y .row .no) m (codeOf (y .ident)) 0) (marks-own terms (headOf (closed h hl)) ups y)
 
   -- what is entered when it closes
-  pub close-open : (c : Open) (l : List Fault) → putAll put (fieldsOut terms c) l ≡ insertAll (marked (openOf c .no) (openOf c .marks)) l
+  pub close-open : (c : Pieces) (l : List Fault) → putAll put (fieldsOut terms c) l ≡ insertAll (marked (openOf c .no) (openOf c .marks)) l
   unfolding fieldSpot
   close-open start l = sym (put-none 0 l)
   close-open (early ups x ls) l = ap (λ (m : ℕ). insertAll (marked (x .row .no) m) l) (loose-set (closed x ls))

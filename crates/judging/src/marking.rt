@@ -2,7 +2,7 @@
 use blocks::marks::flag;
 ghost use mathlib.Core.Path.{_≡_};
 ghost use Prim.Native.Nat.{_≤_};
-ghost use Rattle.items.specs.State.{lineMarksOf};
+ghost use Rattle.judging.specs.Opening.{lineMarksOf};
 
 // 1 and 4.
 pub fn line_marks(bad: bool, ended: bool) -> u64

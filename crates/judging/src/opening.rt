@@ -1,7 +1,5 @@
 // The open field: it is judged at its own line, and only its marks are kept. A continuation can only break it.
-use crate::claiming;
-use blocks::Job;
-use blocks::Kc;
+use blocks::Basis;
 use blocks::marks::flag;
 use fields::classes;
 use fields::classes::Class;
@@ -10,14 +8,17 @@ use fields::readings::Reading;
 use headings::Heading;
 use headings::Read;
 use items::Claims;
+use items::claiming;
+use rules::FirstKc;
 ghost use mathlib.Core.Path.{_≡_};
 ghost use mathlib.Core.Bool.{cond, not};
 ghost use Prim.Native.Nat.{_≤_, _<_, _^_};
 ghost use lib.Dec.{eqb};
 ghost use Rattle.fields.specs.Classes.{classOf};
 ghost use Rattle.fields.specs.Readings.{ifFits};
-ghost use Rattle.items.specs.Headings.{isUnreadable};
-ghost use Rattle.items.specs.State.{claimsWith};
+ghost use Rattle.rules.specs.declared.FirstKc.{FirstKc};
+ghost use Rattle.rules.specs.Said.{isUnreadable};
+ghost use Rattle.items.specs.Claims.{claimsWith};
 ghost use Rattle.judging.specs.Opening.{codeBy, codeOf, breaksTail, brokenBy, noOpen, moreOpen, lowOpen, readAs, saidMarks, fitsBy, ownClaims, closeClaims, headingIn, noPend, pendOf, openOwn, openLoose, lowMarksAt};
 
 // Its line (0: none), its marks as they stand, the number of its class, its continuations.
@@ -128,15 +129,15 @@ pub fn code_of(ident: usize, class: Class) -> u8
 }
 
 // 6 to 9; 8 and 9 only where it is the item's first KC, and the heading reads.
-fn said_marks(job: Job, first: bool, reads: bool, h: Heading, said: Reading) -> u64
-    ensures { λ r. ⌜ (r ≡ saidMarks job first (readAs reads h) said) × (r ≤ 768) ⌝ }
+fn said_marks(basis: Basis, first: bool, reads: bool, h: Heading, said: Reading) -> u64
+    ensures { λ r. ⌜ (r ≡ saidMarks basis first (readAs reads h) said) × (r ≤ 768) ⌝ }
 {
     match said {
         Reading::Broken => 64,
         Reading::Plain => 0,
         Reading::Paid(amount, day) => {
             flag(
-                (first & reads) & blocks::own_rules::breaks_eight(job, h.kind, day),
+                (first & reads) & blocks::own_rules::breaks_eight(basis, h.kind, day),
                 256,
             )
                 + flag(
@@ -181,8 +182,8 @@ pub fn keep_own(pend: Pend, class: u8, ident: usize, said: Reading) -> Pend
 
 // A field opens; `kc` is the item's first KC above it, `again` says whether its identifier stood already in the item.
 pub fn field_open(
-    job: Job,
-    kc: Kc,
+    basis: Basis,
+    kc: FirstKc,
     since: u32,
     reads: bool,
     h: Heading,
@@ -194,7 +195,7 @@ pub fn field_open(
     said: Reading,
 ) -> Open
     requires { ⌜ (class ≡ codeOf ident) × (own ≤ 18) ⌝ }
-    ensures { λ r. ⌜ r ≡ cond (eqb since 0) (openLoose no own) (openOwn job kc (readAs reads h) no own again ident said) ⌝ }
+    ensures { λ r. ⌜ r ≡ cond (eqb since 0) (openLoose no own) (openOwn basis kc (readAs reads h) no own again ident said) ⌝ }
 {
     if since == 0 {
         return Open {
@@ -207,7 +208,7 @@ pub fn field_open(
     let first = (ident == classes::KC) & blocks::own_rules::has_no_kc(kc);
     Open {
         no,
-        marks: own + flag(again, 32) + said_marks(job, first, reads, h, said),
+        marks: own + flag(again, 32) + said_marks(basis, first, reads, h, said),
         class,
         tail: 0,
     }

@@ -6,7 +6,8 @@ use mathlib.Core.List.{List, [], _∷_, _++_, map}
 use lib.Count.{ones}
 use lib.Dec.{leb, ltb}
 use Rattle.laws.specs.Tests.{mark}
-use Rattle.ledger.specs.Faults.{Fault, fault, Test, Spot}
+use Rattle.rules.specs.Faults.{Fault, fault}
+use Rattle.rules.specs.Tests.{Test, Spot}
 
 -- ---- a set of marks
 -- a rule is in the set where its binary digit is set

@@ -3,8 +3,8 @@ use Prim.Native.Nat.{ℕ, suc, _+_, _-_, _≤_, min}
 use mathlib.Core.Path.{_≡_}
 use mathlib.Core.List.{List, [], _∷_, _++_, zipWith}
 use lib.ListN.{length, take, drop}
+use Rattle.rules.specs.Faults.{Fault, fault, written}
 use Rattle.ledger.specs.declared.Ledger.{Ledger}
-use Rattle.ledger.specs.Faults.{Fault, fault, written}
 use Rattle.ledger.specs.Marks.{key, insertAll}
 
 -- the pairs that the two slices hold, place by place

@@ -5,7 +5,7 @@ ghost use mathlib.Core.Path.{_≡_};
 ghost use mathlib.Core.List.{[], _∷_, _++_};
 ghost use Prim.Native.Nat.{_+_, _-_, _*_, _^_, _<_, _≤_, min};
 ghost use lib.ListN.{length, take, drop};
-ghost use Rattle.ledger.specs.Faults.{fault};
+ghost use Rattle.rules.specs.Faults.{fault};
 ghost use Rattle.ledger.specs.Marks.{insert, marked};
 ghost use Rattle.ledger.specs.Slices.{opened, held, Ready, Put, Entered};
 

@@ -8,12 +8,12 @@ use lib.Dec.{ltb, eqb}
 use lib.ListN.{length, take}
 use borrow.Author.Tests.{lt-ltb, le-ltb, eq-eqb, ne-eqb}
 use Rattle.laws.specs.Refusals.{first}
-use Rattle.rules.specs.Terms.{Terms}
 use Rattle.lines.specs.Lines.{body, hasMark, startsWithMark}
 use Rattle.lines.proofs.Body.{body-take, body-shorter, body-empty}
-use Rattle.ledger.specs.Slices.{Listed}
+use Rattle.rules.specs.Terms.{Terms}
+use Rattle.rules.specs.Faults.{faults, faultsIn}
 use Rattle.ledger.specs.declared.Ledger.{Ledger}
-use Rattle.items.specs.Faults.{faults, faultsIn}
+use Rattle.ledger.specs.Slices.{Listed}
 use Rattle.listing.specs.declared.checking.Checked.{Checked}
 use Rattle.listing.specs.declared.checking.Checked.the-variants.{Total, BadCode, BadDay, TooLong, UnequalRooms, NoMark, StartsWithMark}
 use Rattle.listing.specs.Checking.{isCode, isAccountingDay, checkRefusals, checkedNumber, checkedOr, Checks}

@@ -7,10 +7,9 @@ use lib.Dec.{leb, ltb, eqb}
 use lib.ListN.{length}
 use Rattle.laws.specs.Refusals.{Refusal, _if_, first}
 use Rattle.days.specs.Days.{isReal}
-use Rattle.rules.specs.Terms.{Terms}
 use Rattle.lines.specs.Lines.{hasMark, startsWithMark}
-use Rattle.ledger.specs.Faults.{Fault, written}
-use Rattle.items.specs.Faults.{faults}
+use Rattle.rules.specs.Terms.{Terms}
+use Rattle.rules.specs.Faults.{Fault, written, faults}
 use Rattle.listing.specs.declared.checking.Checked.{Checked}
 use Rattle.listing.specs.declared.checking.Checked.the-variants.{Total, BadCode, BadDay, TooLong, UnequalRooms, NoMark, StartsWithMark}
 

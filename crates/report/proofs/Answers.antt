@@ -7,7 +7,7 @@ use lib.Dec.{eqb}
 use lib.ListN.{length, take, drop, length-take, length-drop}
 use lib.Seq.{take-length}
 use borrow.Author.Tests.{eq-eqb, ne-eqb, eqb-true, lt-ltb, le-ltb}
-use Rattle.ledger.specs.Faults.{Fault, written}
+use Rattle.rules.specs.Faults.{Fault, written}
 use Rattle.ledger.specs.Slices.{held}
 use Rattle.report.specs.declared.job.Job.the-variants.{Of, Broken}
 use Rattle.report.specs.Job.{jobOf}

@@ -10,7 +10,7 @@ use lib.Seq.{length-take-le}
 use Rattle.laws.proofs.Put.{put-is, put-none}
 use Rattle.text.specs.Strings.{Wrote}
 use Rattle.text.proofs.Wrote.{then, same-length}
-use Rattle.ledger.specs.Faults.{fault}
+use Rattle.rules.specs.Faults.{fault}
 use Rattle.ledger.specs.Slices.{held}
 use Rattle.report.specs.Printing.{rowText, rowTexts, Begins}
 

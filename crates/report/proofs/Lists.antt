@@ -3,10 +3,10 @@ use mathlib.Core.Path.{_≡_, sym, _∙_}
 use mathlib.Core.List.{List}
 use Prim.Native.Nat.{ℕ, min}
 use lib.ListN.{length}
-use Rattle.rules.specs.Terms.{input}
-use Rattle.ledger.specs.Slices.{held}
 use Rattle.laws.specs.Refusals.{first}
-use Rattle.items.specs.Faults.{faults}
+use Rattle.rules.specs.Terms.{input}
+use Rattle.rules.specs.Faults.{faults}
+use Rattle.ledger.specs.Slices.{held}
 use Rattle.listing.specs.declared.checking.Checked.{Checked}
 use Rattle.listing.specs.Checking.{Checks, checkRefusals, checkedNumber, checkedOr}
 use Rattle.report.specs.declared.job.Job.the-variants.{Of}

@@ -4,10 +4,9 @@ use mathlib.Core.Bool.{cond}
 use mathlib.Core.List.{List}
 use lib.Dec.{eqb, ltb}
 use lib.ListN.{length, take, drop}
-use Rattle.rules.specs.Terms.{input}
-use Rattle.ledger.specs.Faults.{Fault}
 use Rattle.laws.specs.Refusals.{first}
-use Rattle.items.specs.Faults.{faults}
+use Rattle.rules.specs.Terms.{input}
+use Rattle.rules.specs.Faults.{Fault, faults}
 use Rattle.listing.specs.Checking.{checkRefusals}
 use Rattle.report.specs.declared.job.Job.{Job}
 use Rattle.report.specs.declared.job.Job.the-variants.{Of, Broken}

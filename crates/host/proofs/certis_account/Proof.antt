@@ -2,8 +2,8 @@ use mathlib.Core.Path.{ap, _∙_}
 use Rattle.figures.specs.declared.accounts.Account.{Account}
 use Rattle.figures.specs.Accounts.{accountValue}
 use Rattle.figures.proofs.Judged.{value-is}
-use borrow.Author.Needs.{needs}
 use Rattle.host.proofs.certis_account.Statement.{statement}
+use borrow.Author.Needs.{needs}
 use Rattle.host.proofs.certis_account.Tie as tie
 
 check-requires : tie.Need-check-requires

@@ -3,8 +3,8 @@ use mathlib.Core.Path.{sym}
 use native.Mathlib.Omega.{arith}
 use borrow.Author.Tests.{ne-eqb}
 use Rattle.blocks.proofs.Same.{same-eqb}
-use borrow.Author.Needs.{needs}
 use Rattle.blocks.proofs.block_rules.follows.Statement.{statement}
+use borrow.Author.Needs.{needs}
 use Rattle.blocks.proofs.block_rules.follows.Tie as tie
 
 returns : tie.Need-returns

@@ -3,8 +3,8 @@ use mathlib.Core.Bool.{not}
 use native.Mathlib.Omega.{arith}
 use lib.Seq.{length-take-le}
 use Rattle.listing.proofs.Answers.{bad-code, bad-day, too-long, unequal-rooms, no-mark, starts-with-mark, checked}
-use borrow.Author.Needs.{needs}
 use Rattle.listing.proofs.checking.check.Statement.{statement}
+use borrow.Author.Needs.{needs}
 use Rattle.listing.proofs.checking.check.Tie as tie
 
 is-code-requires : tie.Need-is-code-requires
