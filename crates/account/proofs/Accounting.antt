@@ -72,11 +72,11 @@ same-day : (hs : List Heading) (h : Heading) → breaks18 (not (empty hs)) (dayF
 same-day [] h = simp (eq-eqb (h .day) (h .day) refl)
 same-day (g ∷ gs) h = refl
 
-same-skips : (hs : List Heading) (n : ℕ) → skipsTo (not (empty hs)) (numberLast hs .0) n ≡ skips hs n
+same-skips : (hs : List Heading) (n : ItemNo) → skipsTo (not (empty hs)) (numberLast hs) n ≡ skips hs n
 same-skips [] n = refl
 same-skips (g ∷ gs) n = refl
 
-same-span : (hs : List Heading) (s : FirstIn) → breaks21 (not (empty hs)) (numberFirst hs .0) (numberLast hs .0) s ≡ spanWrong hs s
+same-span : (hs : List Heading) (s : FirstIn) → breaks21 (not (empty hs)) (numberFirst hs) (numberLast hs) s ≡ spanWrong hs s
 same-span hs NoIn = refl
 same-span hs BrokenIn = refl
 same-span [] (Runs a b) = refl
@@ -240,7 +240,7 @@ module _ (terms : Terms) (above : List Digest) (kc : FirstKc) (span : FirstIn) (
         own-are h,
         e,
         same-day (readable blk) h,
-        same-skips (readable blk) (h .number .0),
+        same-skips (readable blk) (h .number),
         same-class (payments (readable above)) (h .kind),
       )
       (omega arith)
@@ -254,7 +254,7 @@ module _ (terms : Terms) (above : List Digest) (kc : FirstKc) (span : FirstIn) (
         own-are (closing d f n s o t),
         Bool·not-not (empty blk),
         same-day (readable blk) (closing d f n s o t),
-        same-skips (readable blk) (n .0),
+        same-skips (readable blk) n,
         same-span (readable blk) span,
         group 0,
         group 1,

@@ -8,6 +8,7 @@ use lib.ListN.{getD}
 use Rattle.laws.specs.Tests.{among, mark}
 use Rattle.days.specs.Days.{isReal, dayNumber}
 use Rattle.headings.specs.declared.Code.{Code}
+use Rattle.headings.specs.declared.ItemNo.{ItemNo}
 use Rattle.headings.specs.declared.Heading.{Heading}
 use Rattle.headings.specs.ItemTypes.{isPayment, isPriority}
 use Rattle.headings.specs.HeadRules.{rule10, rule13, rule14}
@@ -28,7 +29,7 @@ use Rattle.blocks.specs.declared.Block.{Block}
 -- ---- the rules of one item
 unfoldable pub basisOf : Terms → Basis
 basisOf terms =
-    record { code = record { 0 = terms .code }; day = terms .today; number = dayNumber (terms .today); real = isReal (terms .today) }
+    record { code = terms .code; day = terms .today; number = dayNumber (terms .today); real = isReal (terms .today) }
 
 unfoldable pub breaks8 : Basis → ℕ → ℕ → Bool
 breaks8 j kind day =
@@ -58,23 +59,23 @@ ownMarks j h kc =
 abbrev pub breaks18 : Bool → ℕ → ℕ → Bool
 breaks18 some first day = some && not (eqb day first)
 
-abbrev pub skipsTo : Bool → ℕ → ℕ → Bool
-skipsTo some last n = some && not (eqb n (last + 1))
+abbrev pub skipsTo : Bool → ItemNo → ItemNo → Bool
+skipsTo some last n = some && not (eqb (n .0) (last .0 + 1))
 
 -- 19 at a heading that is no 51, and at one that is
-abbrev pub breaks19 : Bool → ℕ → ℕ → Bool
-breaks19 some last n = eqb n 0 || skipsTo some last n
+abbrev pub breaks19 : Bool → ItemNo → ItemNo → Bool
+breaks19 some last n = eqb (n .0) 0 || skipsTo some last n
 
-abbrev pub breaks19Closing : Bool → ℕ → ℕ → Bool
-breaks19Closing some last n = not (eqb n 0) && skipsTo some last n
+abbrev pub breaks19Closing : Bool → ItemNo → ItemNo → Bool
+breaks19Closing some last n = not (eqb (n .0) 0) && skipsTo some last n
 
 abbrev pub breaks20 : Bool → Bool → ℕ → Bool
 breaks20 classed priority kind = isPayment kind && (classed && unlike (isPriority kind) priority)
 
-abbrev pub breaks21 : Bool → ℕ → ℕ → FirstIn → Bool
+abbrev pub breaks21 : Bool → ItemNo → ItemNo → FirstIn → Bool
 breaks21 some first last NoIn = true
 breaks21 some first last BrokenIn = false
-breaks21 some first last (Runs a b) = some && not (eqb (a .0) first && eqb (b .0) last)
+breaks21 some first last (Runs a b) = some && not (eqb (a .0) (first .0) && eqb (b .0) (last .0))
 
 -- the caps: a true count or sum that reaches its cap equals no Sd
 abbrev pub countCap : ℕ
@@ -105,13 +106,13 @@ groupMarks counts sums groups =
 
 unfoldable pub openMarks : Block → Heading → ℕ
 openMarks b h =
-    mark 18 (breaks18 (b .some) (b .day) (h .day)) + mark 19 (breaks19 (b .some) (b .last .0) (h .number .0))
+    mark 18 (breaks18 (b .some) (b .day) (h .day)) + mark 19 (breaks19 (b .some) (b .last) (h .number))
     + mark 20 (breaks20 (b .classed) (b .priority) (h .kind))
 
 unfoldable pub closingMarks : Block → Heading → FirstIn → Bool → Sums → ℕ
 closingMarks b h span s9 stated =
     mark 17 (not (b .any)) + mark 18 (breaks18 (b .some) (b .day) (h .day))
-    + mark 19 (breaks19Closing (b .some) (b .last .0) (h .number .0))
-    + mark 21 (breaks21 (b .some) (b .first .0) (b .last .0) span)
+    + mark 19 (breaks19Closing (b .some) (b .last) (h .number))
+    + mark 21 (breaks21 (b .some) (b .first) (b .last) span)
     + mark 22 s9
     + groupMarks (b .counts) (b .sums) (stated .groups)

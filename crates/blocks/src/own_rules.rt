@@ -1,5 +1,11 @@
 // The rules that look at one item alone.
 use crate::Basis;
+use crate::marks::MARK_10;
+use crate::marks::MARK_11;
+use crate::marks::MARK_12;
+use crate::marks::MARK_13;
+use crate::marks::MARK_14;
+use crate::marks::MARK_15;
 use crate::marks::flag;
 use days::day_number;
 use days::is_real;
@@ -126,10 +132,10 @@ fn breaks_fifteen(kind: u32, kc: FirstKc) -> bool
 pub fn own_marks(basis: Basis, h: Heading, kc: FirstKc) -> u64
     ensures { λ r. ⌜ (r ≡ ownMarks basis h kc) × (r < 2 ^ 16) ⌝ }
 {
-    flag(breaks_ten(h), 1024)
-        + flag(breaks_eleven(basis, h.day), 2048)
-        + flag(breaks_twelve(basis, h.first), 4096)
-        + flag(breaks_thirteen(h), 8192)
-        + flag(breaks_fourteen(h), 16384)
-        + flag(breaks_fifteen(h.kind, kc), 32768)
+    flag(breaks_ten(h), MARK_10)
+        + flag(breaks_eleven(basis, h.day), MARK_11)
+        + flag(breaks_twelve(basis, h.first), MARK_12)
+        + flag(breaks_thirteen(h), MARK_13)
+        + flag(breaks_fourteen(h), MARK_14)
+        + flag(breaks_fifteen(h.kind, kc), MARK_15)
 }

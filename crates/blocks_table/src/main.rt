@@ -110,8 +110,14 @@ fn kc_marks(basis: Basis, head: Read, kc: FirstKc) -> u64 {
             FirstKc::NoKc => 0,
             FirstKc::BrokenKc => 0,
             FirstKc::Pays(amount, day) => {
-                blocks::marks::flag(blocks::own_rules::breaks_eight(basis, h.kind, day), 256)
-                    + blocks::marks::flag(blocks::own_rules::breaks_nine(h.kind, amount), 512)
+                blocks::marks::flag(
+                    blocks::own_rules::breaks_eight(basis, h.kind, day),
+                    blocks::marks::MARK_8,
+                )
+                    + blocks::marks::flag(
+                        blocks::own_rules::breaks_nine(h.kind, amount),
+                        blocks::marks::MARK_9,
+                    )
             }
         },
     }

@@ -19,7 +19,7 @@ use Rattle.outcomes.specs.Deriving.{barred, turned, deriveRefusals, derivedTarg
 use Rattle.figures.specs.Layouts.{run, isEmpty, headIs, fits, part}
 use Rattle.figures.specs.Accounts.{weights, weighed, passes, accountHolds, accountOf}
 use Rattle.fields.specs.Kinds.{place, kindOf}
-use Rattle.fields.specs.Classes.{classOf, groupOf}
+use Rattle.fields.specs.Classes.{classOf, sumGroup}
 use Rattle.fields.specs.Readings.{textOf, readingOf}
 use Rattle.fields.specs.Tails.{takes, reads, saysOf}
 use Rattle.lines.specs.Lines.{body, crlf, onto, lines}
@@ -31,5 +31,5 @@ use Rattle.rules.specs.Spots.{fieldTests, ownTests, blockTests, headTests, fiel
 use Rattle.cases.specs.Cases.{holds, marked}
 
 pub every-marked : every (map holds marked) ≡ true
-unfolding anyOf isAdmissible valueAfter digits isLeap row monthLength isReal dayNumber begins template hasForm numbers formText isInput isTrilateral isPriority isPayment rule10 rule13 rule14 headingOf headingText outgoing codes inClass barred turned deriveRefusals derivedTarget run isEmpty headIs fits part place kindOf classOf groupOf weights weighed passes accountHolds accountOf textOf readingOf takes reads saysOf body crlf onto lines faultsOf sorted rowsFrom rule1 continuations says stands fieldTests continued headOf firstSaid digest ownTests blockTests headTests fieldSpot faultsIn faults
+unfolding anyOf isAdmissible valueAfter digits isLeap row monthLength isReal dayNumber begins template hasForm numbers formText isInput isTrilateral isPriority isPayment rule10 rule13 rule14 headingOf headingText outgoing codes inClass barred turned deriveRefusals derivedTarget run isEmpty headIs fits part place kindOf classOf sumGroup weights weighed passes accountHolds accountOf textOf readingOf takes reads saysOf body crlf onto lines faultsOf sorted rowsFrom rule1 continuations says stands fieldTests continued headOf firstSaid digest ownTests blockTests headTests fieldSpot faultsIn faults
 every-marked = refl

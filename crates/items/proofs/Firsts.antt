@@ -11,7 +11,7 @@ use Rattle.laws.proofs.Any.{or-left, or-right}
 use Rattle.fields.specs.declared.readings.Reading.{Reading}
 use Rattle.fields.specs.declared.readings.Reading.the-variants.{Broken, Plain, Paid, Span, Stated, Party}
 use Rattle.fields.specs.Kinds.{named, place}
-use Rattle.fields.specs.Classes.{groupOf}
+use Rattle.fields.specs.Classes.{sumGroup}
 use Rattle.rules.specs.declared.FirstKc.{FirstKc}
 use Rattle.rules.specs.declared.FirstIn.{FirstIn}
 use Rattle.rules.specs.declared.FirstSum.{FirstSum}
@@ -150,7 +150,7 @@ grownClaims ups i r =
     record {
       kc = kcOf (orElse (firstUp (is (named "KC")) ups) (ifThere (eqb i (named "KC")) r));
       span = spanOf (orElse (firstUp (is (named "IN")) ups) (ifThere (eqb i (named "IN")) r));
-      sums = record { groups = nineSums (λ d. record { stated = statedOf (orElse (inGroups ups d) (ifThere (eqb (groupOf i) d) r)) }) };
+      sums = record { groups = nineSums (λ d. record { stated = statedOf (orElse (inGroups ups d) (ifThere (eqb (sumGroup i) d) r)) }) };
       s9 = eqb i (named "S9") || stands (named "S9") ups;
     }
 
@@ -175,47 +175,47 @@ same-span : (ups : List (Owned FieldRow)) → spanOf (firstUp (is (named "IN")) 
 same-span ups = ap spanOf (sym (else-none (firstUp (is (named "IN")) ups)))
 
 claim-kc : (ups : List (Owned FieldRow)) (r : Reading) → claimsWith (claimsOf ups) (named "KC") r ≡ grownClaims ups (named "KC") r
-unfolding claimsWith place groupOf
+unfolding claimsWith place sumGroup
 claim-kc ups r = λ j. claimsAs (kc-more (firstUp (is (named "KC")) ups) r j) (same-span ups j) (same-groups ups r j) (stands (named "S9") ups)
 
 claim-in : (ups : List (Owned FieldRow)) (r : Reading) → claimsWith (claimsOf ups) (named "IN") r ≡ grownClaims ups (named "IN") r
-unfolding claimsWith place groupOf
+unfolding claimsWith place sumGroup
 claim-in ups r = λ j. claimsAs (same-kc ups j) (span-more (firstUp (is (named "IN")) ups) r j) (same-groups ups r j) (stands (named "S9") ups)
 
 -- a field that is neither
 module _ (ups : List (Owned FieldRow)) (i : ℕ) (r : Reading) (k : eqb i (named "KC") ≡ false) (e : eqb i (named "IN") ≡ false) where
-  claim-other : claimsAs (claimsOf ups .kc) (claimsOf ups .span) (groupClaims (claimsOf ups .sums .groups) (groupOf i) r) (eqb i (named "S9") || stands (named "S9") ups) ≡ grownClaims ups i r
+  claim-other : claimsAs (claimsOf ups .kc) (claimsOf ups .span) (groupClaims (claimsOf ups .sums .groups) (sumGroup i) r) (eqb i (named "S9") || stands (named "S9") ups) ≡ grownClaims ups i r
   claim-other =
       rw (k, e)
-      (λ j. claimsAs (same-kc ups j) (same-span ups j) ((groups-more (inGroups ups) (groupOf i) r ∙ groups-are ups (groupOf i) r) j) (eqb i (named "S9") || stands (named "S9") ups))
+      (λ j. claimsAs (same-kc ups j) (same-span ups j) ((groups-more (inGroups ups) (sumGroup i) r ∙ groups-are ups (sumGroup i) r) j) (eqb i (named "S9") || stands (named "S9") ups))
 
-  with-other : (c : Claims) → claimsWith c i r ≡ claimsAs (c .kc) (c .span) (groupClaims (c .sums .groups) (groupOf i) r) (eqb i (named "S9") || c .s9)
+  with-other : (c : Claims) → claimsWith c i r ≡ claimsAs (c .kc) (c .span) (groupClaims (c .sums .groups) (sumGroup i) r) (eqb i (named "S9") || c .s9)
   unfolding claimsWith
   with-other c = rw (k, e)
 
 -- a field that claims nothing
-none-claimed : (c : Claims) (i : ℕ) (r : Reading) → eqb i (named "S9") ≡ false → 9 ≤ groupOf i
-    → c ≡ claimsAs (c .kc) (c .span) (groupClaims (c .sums .groups) (groupOf i) r) (eqb i (named "S9") || c .s9)
+none-claimed : (c : Claims) (i : ℕ) (r : Reading) → eqb i (named "S9") ≡ false → 9 ≤ sumGroup i
+    → c ≡ claimsAs (c .kc) (c .span) (groupClaims (c .sums .groups) (sumGroup i) r) (eqb i (named "S9") || c .s9)
 unfolding groupClaims
-none-claimed c i r e h = rw (e, le-leb 9 (groupOf i) h)
+none-claimed c i r e h = rw (e, le-leb 9 (sumGroup i) h)
 
 -- it is one that claims
 abbrev pub claimed : ℕ → Bool
-claimed i = eqb i (named "KC") || (eqb i (named "IN") || (eqb i (named "S9") || ltb (groupOf i) 9))
+claimed i = eqb i (named "KC") || (eqb i (named "IN") || (eqb i (named "S9") || ltb (sumGroup i) 9))
 
 pub claim-at : (ups : List (Owned FieldRow)) (i : ℕ) (r : Reading) → cond (claimed i) (claimsWith (claimsOf ups) i r) (claimsOf ups) ≡ grownClaims ups i r
 claim-at ups i r = go (eqb i (named "KC")) refl
   where
-    other : (t : Bool) → (eqb i (named "S9") || ltb (groupOf i) 9) ≡ t → eqb i (named "KC") ≡ false → eqb i (named "IN") ≡ false → cond t (claimsWith (claimsOf ups) i r) (claimsOf ups) ≡ grownClaims ups i r
+    other : (t : Bool) → (eqb i (named "S9") || ltb (sumGroup i) 9) ≡ t → eqb i (named "KC") ≡ false → eqb i (named "IN") ≡ false → cond t (claimsWith (claimsOf ups) i r) (claimsOf ups) ≡ grownClaims ups i r
     other true q k e = with-other ups i r k e (claimsOf ups) ∙ claim-other ups i r k e
     other false q k e =
-        none-claimed (claimsOf ups) i r (or-left (eqb i (named "S9")) (ltb (groupOf i) 9) q) (ltb-false (groupOf i) 9 (or-right (eqb i (named "S9")) (ltb (groupOf i) 9) q))
+        none-claimed (claimsOf ups) i r (or-left (eqb i (named "S9")) (ltb (sumGroup i) 9) q) (ltb-false (sumGroup i) 9 (or-right (eqb i (named "S9")) (ltb (sumGroup i) 9) q))
         ∙ claim-other ups i r k e
 
-    in-or : (t : Bool) → eqb i (named "IN") ≡ t → eqb i (named "KC") ≡ false → cond (t || (eqb i (named "S9") || ltb (groupOf i) 9)) (claimsWith (claimsOf ups) i r) (claimsOf ups) ≡ grownClaims ups i r
+    in-or : (t : Bool) → eqb i (named "IN") ≡ t → eqb i (named "KC") ≡ false → cond (t || (eqb i (named "S9") || ltb (sumGroup i) 9)) (claimsWith (claimsOf ups) i r) (claimsOf ups) ≡ grownClaims ups i r
     in-or true e k = rw (eqb-true i (named "IN") e) (claim-in ups r)
-    in-or false e k = other (eqb i (named "S9") || ltb (groupOf i) 9) refl k e
+    in-or false e k = other (eqb i (named "S9") || ltb (sumGroup i) 9) refl k e
 
-    go : (t : Bool) → eqb i (named "KC") ≡ t → cond (t || (eqb i (named "IN") || (eqb i (named "S9") || ltb (groupOf i) 9))) (claimsWith (claimsOf ups) i r) (claimsOf ups) ≡ grownClaims ups i r
+    go : (t : Bool) → eqb i (named "KC") ≡ t → cond (t || (eqb i (named "IN") || (eqb i (named "S9") || ltb (sumGroup i) 9))) (claimsWith (claimsOf ups) i r) (claimsOf ups) ≡ grownClaims ups i r
     go true k = rw (eqb-true i (named "KC") k) (claim-kc ups r)
     go false k = in-or (eqb i (named "IN")) refl k

@@ -6,7 +6,7 @@ use lib.Dec.{eqb, leb}
 use lib.ListN.{getD, set, replicate}
 use Rattle.fields.specs.declared.readings.Reading.{Reading}
 use Rattle.fields.specs.Kinds.{named}
-use Rattle.fields.specs.Classes.{groupOf}
+use Rattle.fields.specs.Classes.{sumGroup}
 use Rattle.rules.specs.declared.FirstKc.{FirstKc}
 use Rattle.rules.specs.declared.FirstKc.the-variants.{NoKc, BrokenKc, Pays}
 use Rattle.rules.specs.declared.FirstIn.{FirstIn}
@@ -49,6 +49,6 @@ claimsWith c ident said =
     (record {
       kc = c .kc;
       span = c .span;
-      sums = record { groups = groupClaims (c .sums .groups) (groupOf ident) said };
+      sums = record { groups = groupClaims (c .sums .groups) (sumGroup ident) said };
       s9 = eqb ident (named "S9") || c .s9;
     }))

@@ -140,7 +140,7 @@ pub fn with_claim(c: Claims, ident: usize, said: Reading) -> Claims
         };
     }
     let before = sums.groups;
-    let groups = group_claims(before, classes::group_of(ident), said);
+    let groups = group_claims(before, classes::sum_group(ident), said);
     let after = Sums { groups };
     Claims {
         kc,

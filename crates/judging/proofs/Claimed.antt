@@ -10,7 +10,7 @@ use Rattle.laws.specs.Tests.{among}
 use Rattle.fields.specs.declared.readings.Reading.{Reading}
 use Rattle.fields.specs.declared.readings.Reading.the-variants.{Broken, Plain, Paid, Span, Stated, Party}
 use Rattle.fields.specs.Kinds.{named, place}
-use Rattle.fields.specs.Classes.{groupFields, accountFields, textFields, classBy, classOf, groupOf}
+use Rattle.fields.specs.Classes.{groupFields, accountFields, textFields, classBy, classOf, sumGroup}
 use Rattle.fields.specs.Readings.{textOf, readingOf, ifFits}
 use Rattle.fields.specs.Tails.{isBroken, tailOf, takesBy}
 use Rattle.fields.proofs.Places.{place-in}
@@ -39,11 +39,11 @@ module _ (i : ℕ) where
 
   -- neither KC nor IN nor S9 nor a number: a group, if anything
   no-name : eqb i (named "S9") ≡ false → eqb i (named "KC") ≡ false → eqb i (named "EC") ≡ false → eqb i (named "AK") ≡ false → eqb i (named "ZK") ≡ false → eqb i (named "IN") ≡ false → Tells i
-  unfolding codeOf classOf groupOf
+  unfolding codeOf classOf sumGroup
   no-name s k e a z n =
       (λ j. leb 5 (cond (s j) 7 (codeBy (classBy (k j || false) (e j || (a j || (z j || false))) (n j || false) (among i groupFields) (among i accountFields) (among i textFields)))))
       ∙ only (among i groupFields) (among i accountFields) (among i textFields) ∙ sym (place-in i groupFields)
-      ∙ sym (λ j. k j || (n j || (s j || ltb (groupOf i) 9)))
+      ∙ sym (λ j. k j || (n j || (s j || ltb (sumGroup i) 9)))
     where
       only : (d f g : Bool) → leb 5 (codeBy (classBy false false false d f g)) ≡ d
       only true f g = refl
@@ -52,7 +52,7 @@ module _ (i : ℕ) where
       only false false false = refl
 
   claimed-is : eqb i (named "KC") ≡ false → Tells i
-  unfolding codeOf classOf groupOf place
+  unfolding codeOf classOf sumGroup place
   claimed-is k = go (eqb i (named "S9")) (eqb i (named "EC")) (eqb i (named "AK")) (eqb i (named "ZK")) (eqb i (named "IN")) refl refl refl refl refl
     where
       go : (s e a z n : Bool) → eqb i (named "S9") ≡ s → eqb i (named "EC") ≡ e → eqb i (named "AK") ≡ a → eqb i (named "ZK") ≡ z → eqb i (named "IN") ≡ n → Tells i
@@ -156,7 +156,7 @@ own-claims ups y = go (eqb (y .ident) (named "KC")) refl
     go true e =
         sym (grown-is ups y [])
         ∙ sym (claim-at ups (y .ident) (says (closed y [])))
-        ∙ ap (λ (t : Bool). cond (t || (eqb (y .ident) (named "IN") || (eqb (y .ident) (named "S9") || ltb (groupOf (y .ident)) 9))) (claimsWith (claimsOf ups) (y .ident) (says (closed y []))) (claimsOf ups)) e
+        ∙ ap (λ (t : Bool). cond (t || (eqb (y .ident) (named "IN") || (eqb (y .ident) (named "S9") || ltb (sumGroup (y .ident)) 9))) (claimsWith (claimsOf ups) (y .ident) (says (closed y []))) (claimsOf ups)) e
         ∙ ap (claimsWith (claimsOf ups) (y .ident)) (says-own y)
     go false e = refl
 

@@ -3,6 +3,8 @@ use crate::Shut;
 use crate::Wait;
 use blocks::Basis;
 use blocks::Block;
+use blocks::marks::MARK_6;
+use blocks::marks::MARK_16;
 use blocks::marks::flag;
 use headings::Read;
 use items::Claims;
@@ -48,7 +50,7 @@ fn head_marks(own: u64, read: Read, marks: u64) -> u64
     requires { ⌜ (marks < 2 ^ 39) × (own ≤ 18) ⌝ }
     ensures { λ r. ⌜ (r ≡ own + mark 6 (isUnreadable read) + marks) × (r < 2 ^ 40) ⌝ }
 {
-    own + flag(is_unreadable(read), 64) + marks
+    own + flag(is_unreadable(read), MARK_6) + marks
 }
 
 // The open item closes, whose heading stands at the line `no` (0: none) and has the marks `own` of its line.
@@ -107,5 +109,5 @@ pub fn last_marks(b: Block, w: Wait) -> u64
     requires { ⌜ w .marks < 2 ^ 40 ⌝ }
     ensures { λ r. ⌜ (r ≡ lastMarks b w) × (r < 2 ^ 41) ⌝ }
 {
-    flag(b.any, w.marks + 65536)
+    flag(b.any, w.marks + MARK_16)
 }

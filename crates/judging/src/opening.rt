@@ -1,5 +1,12 @@
 // The open field: it is judged at its own line, and only its marks are kept. A continuation can only break it.
 use blocks::Basis;
+use blocks::marks::MARK_2;
+use blocks::marks::MARK_3;
+use blocks::marks::MARK_5;
+use blocks::marks::MARK_6;
+use blocks::marks::MARK_7;
+use blocks::marks::MARK_8;
+use blocks::marks::MARK_9;
 use blocks::marks::flag;
 use fields::classes;
 use fields::classes::Class;
@@ -66,7 +73,11 @@ fn breaks_tail(class: u8, tail: u32, length: usize) -> bool
 fn broken_by(breaks: bool, marks: u64) -> u64
     ensures { λ r. ⌜ r ≡ brokenBy breaks marks ⌝ }
 {
-    if breaks { marks % 64 + 64 } else { marks }
+    if breaks {
+        marks % MARK_6 + MARK_6
+    } else {
+        marks
+    }
 }
 
 // One continuation more: where the class does not let it, the field is broken, and 7 falls away.
@@ -100,7 +111,7 @@ pub fn low_marks(own: u64, since: u32, no: u32, continues: bool) -> u64
     requires { ⌜ own ≤ 18 ⌝ }
     ensures { λ r. ⌜ r ≡ lowMarksAt own since no continues ⌝ }
 {
-    own + flag(((since == 0) & (no == 0)) | !continues, 4) + flag(since == 0, 8)
+    own + flag(((since == 0) & (no == 0)) | !continues, MARK_2) + flag(since == 0, MARK_3)
 }
 
 fn code_by(class: Class) -> u8
@@ -133,21 +144,21 @@ fn said_marks(basis: Basis, first: bool, reads: bool, h: Heading, said: Reading)
     ensures { λ r. ⌜ (r ≡ saidMarks basis first (readAs reads h) said) × (r ≤ 768) ⌝ }
 {
     match said {
-        Reading::Broken => 64,
+        Reading::Broken => MARK_6,
         Reading::Plain => 0,
         Reading::Paid(amount, day) => {
             flag(
                 (first & reads) & blocks::own_rules::breaks_eight(basis, h.kind, day),
-                256,
+                MARK_8,
             )
                 + flag(
                     (first & reads) & blocks::own_rules::breaks_nine(h.kind, amount),
-                    512,
+                    MARK_9,
                 )
         }
         Reading::Span(_, _) => 0,
         Reading::Stated(_, _) => 0,
-        Reading::Party(holds) => flag(!holds, 128),
+        Reading::Party(holds) => flag(!holds, MARK_7),
     }
 }
 
@@ -156,7 +167,11 @@ pub fn claim_closed(claims: Claims, o: Open, p: Pend) -> Claims
     ensures { λ r. ⌜ r ≡ claimsWith claims (p .ident) (ifFits (fitsBy (o .marks)) (p .said)) ⌝ }
 {
     let said = p.said;
-    claiming::with_claim(claims, p.ident, readings::if_fits(o.marks % 128 < 64, said))
+    claiming::with_claim(
+        claims,
+        p.ident,
+        readings::if_fits(o.marks % MARK_7 < MARK_6, said),
+    )
 }
 
 // A KC is claimed at its own line.
@@ -200,7 +215,7 @@ pub fn field_open(
     if since == 0 {
         return Open {
             no,
-            marks: own + 8,
+            marks: own + MARK_3,
             class: 0,
             tail: 0,
         };
@@ -208,7 +223,7 @@ pub fn field_open(
     let first = (ident == classes::KC) & blocks::own_rules::has_no_kc(kc);
     Open {
         no,
-        marks: own + flag(again, 32) + said_marks(basis, first, reads, h, said),
+        marks: own + flag(again, MARK_5) + said_marks(basis, first, reads, h, said),
         class,
         tail: 0,
     }

@@ -1,5 +1,5 @@
--- How the code keeps the list: 'the rules broken at one line form one set of marks' (document 01), one number, bit r for rule r; and
--- faults put in at their places.
+-- Model of the code, not part of the statement: how the list is kept. 'The rules broken at one line form one set of marks' (document 01), one
+-- number, bit r for rule r; and faults put in at their places.
 use Prim.Native.Nat.{ℕ, zero, suc, _+_, _*_, _/_, _%_}
 use mathlib.Core.Bool.{Bool, true, cond, _&&_}
 use mathlib.Core.List.{List, [], _∷_, _++_, map}

@@ -1,4 +1,5 @@
--- What two lent slices, for line numbers and rule numbers, hold of the list of faults while the code enters them.
+-- Model of the code, not part of the statement: what two lent slices, for line numbers and rule numbers, hold of the list of faults while
+-- the code enters them.
 use Prim.Native.Nat.{ℕ, suc, _+_, _-_, _≤_, min}
 use mathlib.Core.Path.{_≡_}
 use mathlib.Core.List.{List, [], _∷_, _++_, zipWith}

@@ -1,7 +1,7 @@
 // The running account of a block, lent by `&mut`: `step` takes it out, has `account` close an item by value, and stores it back;
 // `advance` lends a local account to `step`, for callers that hold theirs by value. Promised, for every account, item and basis:
-// the account and the marks that `closeModel` of `blocks` says. It judges no rule; the rules, the records and that model stand
-// in `blocks`, the account by value in `account`.
+// the account and the marks that `closeModel` of `account` says. It judges no rule; the rules as functions and the record of the account
+// stand in `blocks`, the account by value and its model in `account`.
 use account::Accounted;
 use account::close_item;
 use blocks::Basis;

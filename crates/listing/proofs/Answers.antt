@@ -26,10 +26,10 @@ module _ (file : List ℕ) (terms : Terms) (ls rs : List ℕ) where
   refused : (r : Checked) → checkedNumber r ≡ refusal → eqb refusal 0 ≡ false → ((old : ℕ) → checkedOr r old ≡ old) → Checks file terms ls rs r ls rs
   refused r e z t = record { number = e; total = λ old. rw z (t old); lines = rw z; rules = rw z }
 
-  pub bad-code : not (isCode (terms .code)) ≡ true → Checks file terms ls rs BadCode ls rs
+  pub bad-code : not (isCode (terms .code .0)) ≡ true → Checks file terms ls rs BadCode ls rs
   bad-code a = refused BadCode (rw a) (rw a) (λ old. refl)
 
-  module _ (a : not (isCode (terms .code)) ≡ false) where
+  module _ (a : not (isCode (terms .code .0)) ≡ false) where
     pub bad-day : not (isAccountingDay (terms .today)) ≡ true → Checks file terms ls rs BadDay ls rs
     bad-day b = refused BadDay (rw (a, b)) (rw (a, b)) (λ old. refl)
 

@@ -23,7 +23,7 @@ isAccountingDay day = isReal day && (leb 20000101 day && leb day 20991231)
 -- of a file, its terms, and the lengths of the two slices
 abbrev pub checkRefusals : List ℕ → Terms → ℕ → ℕ → List Refusal
 checkRefusals file terms m n =
-    (1 if not (isCode (terms .code))) ∷
+    (1 if not (isCode (terms .code .0))) ∷
     (2 if not (isAccountingDay (terms .today))) ∷
     (3 if ltb 10000000 (length file)) ∷
     (4 if not (eqb m n)) ∷

@@ -1,8 +1,8 @@
 // One forward pass over the lines of a body: no line is looked at again, and none ahead. A field is judged at its own line and entered
 // when the next heading or field comes, a heading when the next heading comes, and the first heading of a block when the block ends or the file does.
 // Promised by `enter_faults`, for every body of at most 10,000,000 bytes and two lent slices of equal length: the slices and the
-// total are those of `faultsIn` of `items`. It judges no rule; the rules and the state stand in `items` and `blocks`, the list in
-// `ledger`, the cut in `lines`, the table of characters in `text`.
+// total are those of `faultsIn` of `rules`. It judges no rule: lines, fields and items are judged by `judging`. The list stands in `ledger`,
+// the cut in `lines`, the table of characters in `text`.
 use blocks::Basis;
 use blocks::Block;
 use fields::classes;

@@ -2,7 +2,7 @@
 use Prim.Native.Nat.{ℕ}
 use mathlib.Core.Path.{_≡_, refl, sym, subst}
 use mathlib.Core.Bool.{Bool, true}
-use mathlib.Core.Option.{some}
+use mathlib.Core.Option.{none, some}
 use mathlib.Core.List.{List, map, List·Memᴰ, List·Memᴰ·head, List·Memᴰ·tail, Memᴰ·append-left, Memᴰ·append-right}
 use mathlib.Core.Logic.{_↔_, _⊎_, inl, inr}
 use Rattle.headings.specs.declared.Heading.{Heading}
@@ -16,8 +16,8 @@ use Rattle.rules.specs.Said.{headOf, digest}
 use Rattle.rules.specs.LineRules.{Place}
 use Rattle.rules.specs.FieldRules.{rule6}
 use Rattle.rules.specs.HeadingRules.{rule6At}
-use Rattle.rules.specs.BlockRules.{rule19}
-use Rattle.rules.specs.Spots.{lowTests, fieldTests, ownTests, blockTests, rule16At, headTests, lowSpot, fieldSpot, headSpot}
+use Rattle.rules.specs.BlockRules.{rule16, rule19}
+use Rattle.rules.specs.Spots.{lowTests, fieldTests, looseTests, ownTests, blockTests, rule16At, headTests, lowSpot, fieldSpot, headSpot}
 use Rattle.rules.specs.Faults.{fault, faults}
 use Rattle.rules.specs.Demand.{spotsOf}
 use Rattle.rules.proofs.Demand.{listed-by-its-test}
@@ -38,6 +38,12 @@ module _ (terms : Terms) (file : List ℕ) where
   unfolding fieldSpot
   at-field h above g m r b t = listed-by-its-test terms file (fieldSpot terms (some h) above g) m r b t
 
+  -- 1, 3 and 4, at a field above the first heading
+  pub at-loose : (above : List (Owned FieldRow)) (g : Owned FieldRow) → List·Memᴰ (fieldSpot terms none above g) (spotsOf terms file)
+      → (r : ℕ) (b : Bool) → List·Memᴰ (r if b) (looseTests g) → InList (g .owner .row .no) r ↔ (b ≡ true)
+  unfolding fieldSpot
+  at-loose above g m r b t = listed-by-its-test terms file (fieldSpot terms none above g) m r b t
+
   -- so 6 at a field
   pub six-at-field : (h : Owned Row) (above : List (Owned FieldRow)) (g : Owned FieldRow) → List·Memᴰ (fieldSpot terms (some h) above g) (spotsOf terms file)
       → InList (g .owner .row .no) 6 ↔ (rule6 g ≡ true)
@@ -46,14 +52,15 @@ module _ (terms : Terms) (file : List ℕ) where
 
   -- at the heading of an item with these items above and below
   module _ (above : List Item) (i : Item) (below : List Item) (m : List·Memᴰ (headSpot terms above i below) (spotsOf terms file)) where
-    at-heading : (r : ℕ) (b : Bool) → List·Memᴰ (r if b) (headTests terms above i below) → InList (i .head .owner .no) r ↔ (b ≡ true)
+    -- 1 and 4, and all others
+    pub at-heading : (r : ℕ) (b : Bool) → List·Memᴰ (r if b) (headTests terms above i below) → InList (i .head .owner .no) r ↔ (b ≡ true)
     at-heading r b t = listed-by-its-test terms file (headSpot terms above i below) m r b t
 
     pub six-at-heading : InList (i .head .owner .no) 6 ↔ (rule6At (i .head) ≡ true)
     unfolding headTests
     six-at-heading = at-heading 6 (rule6At (i .head)) (List·Memᴰ·tail (List·Memᴰ·tail (List·Memᴰ·head refl)))
 
-    pub sixteen-at-heading : InList (i .head .owner .no) 16 ↔ (rule16At above i below ≡ true)
+    pub sixteen-at-heading : InList (i .head .owner .no) 16 ↔ (rule16 (map digest above) (digest i) (map digest below) ≡ true)
     unfolding headTests
     sixteen-at-heading =
         at-heading 16 (rule16At above i below) (List·Memᴰ·tail (List·Memᴰ·tail (List·Memᴰ·tail

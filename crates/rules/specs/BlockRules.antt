@@ -6,6 +6,7 @@ use mathlib.Core.List.{List, [], _∷_}
 use lib.Dec.{eqb}
 use lib.ListN.{length, getD}
 use Rattle.days.specs.Days.{sum}
+use Rattle.headings.specs.declared.ItemNo.{ItemNo}
 use Rattle.headings.specs.declared.Heading.{Heading}
 use Rattle.headings.specs.ItemTypes.{isClosing, isPayment, isPriority}
 use Rattle.rules.specs.declared.FirstIn.{FirstIn}
@@ -31,16 +32,16 @@ abbrev pub rule18 : List Digest → Heading → Bool
 rule18 above h = not (eqb (h .day) (oldest h (readable (blockAbove above)) .day))
 
 -- a number isn't one more than that of the nearest heading, if there is one
-abbrev pub skips : List Heading → ℕ → Bool
+abbrev pub skips : List Heading → ItemNo → Bool
 skips [] n = false
-skips (g ∷ gs) n = not (eqb n (g .number .0 + 1))
+skips (g ∷ gs) n = not (eqb (n .0) (g .number .0 + 1))
 
 -- '19: not a 51: number is 0, or isn't one more than that of the previous one in the block; a 51: number not 0 and not one more
 -- than the last, if there is one'
 abbrev pub rule19 : List Digest → Heading → Bool
 rule19 above h =
-    cond (isClosing (h .kind)) (not (eqb (h .number .0) 0) && skips (readable (blockAbove above)) (h .number .0))
-    (eqb (h .number .0) 0 || skips (readable (blockAbove above)) (h .number .0))
+    cond (isClosing (h .kind)) (not (eqb (h .number .0) 0) && skips (readable (blockAbove above)) (h .number))
+    (eqb (h .number .0) 0 || skips (readable (blockAbove above)) (h .number))
 
 abbrev pub unlike : Bool → Bool → Bool
 unlike p q = (p && not q) || (not p && q)

@@ -22,7 +22,7 @@ rule11 terms h = not (isReal (h .day)) || (later (h .day) (terms .today) 0 || la
 
 -- '12: first code isn't the submitter's'
 abbrev pub rule12 : Terms → Heading → Bool
-rule12 terms h = not (eqb (h .first .0) (terms .code))
+rule12 terms h = not (eqb (h .first .0) (terms .code .0))
 
 abbrev pub noKc : FirstKc → Bool
 noKc NoKc = true

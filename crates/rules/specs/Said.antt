@@ -10,7 +10,7 @@ use Rattle.headings.specs.Reading.{headingOf}
 use Rattle.fields.specs.declared.readings.Reading.{Reading}
 use Rattle.fields.specs.declared.readings.Reading.the-variants.{Broken, Plain, Paid, Span, Stated, Party}
 use Rattle.fields.specs.Kinds.{named}
-use Rattle.fields.specs.Classes.{classOf, groupOf}
+use Rattle.fields.specs.Classes.{classOf, sumGroup}
 use Rattle.fields.specs.Tails.{saysOf}
 use Rattle.rules.specs.declared.FirstKc.{FirstKc}
 use Rattle.rules.specs.declared.FirstKc.the-variants.{NoKc, BrokenKc, Pays}
@@ -56,7 +56,7 @@ abbrev pub is : ℕ → ℕ → Bool
 is i j = eqb j i
 
 abbrev pub isGroup : ℕ → ℕ → Bool
-isGroup d j = eqb (groupOf j) d
+isGroup d j = eqb (sumGroup j) d
 
 -- ---- headings
 -- a continuation stands among some lines

@@ -25,15 +25,15 @@ returns-2 : tie.Need-returns-2
 unfolding claimsWith place
 returns-2 c = rw (ne-eqb _ 732 (c .before .before .before .if1 .left), eq-eqb _ 671 (c .before .before .if2 .taken), c .span-kept .ensures, c .before .span-by .ensures)
 
-group-of-requires : tie.Need-group-of-requires
-group-of-requires c κs = search needs
+sum-group-requires : tie.Need-sum-group-requires
+sum-group-requires c κs = search needs
 
 group-claims-requires : tie.Need-group-claims-requires
 group-claims-requires c κs = search needs
 
 returns-3 : tie.Need-returns-3
 unfolding claimsWith place
-returns-3 c = rw (ne-eqb _ 732 (c .before .before .before .before .before .if1 .left), ne-eqb _ 671 (c .before .before .before .before .if2 .left), c .before .group-claims .ensures, c .before .before .group-of .ensures)
+returns-3 c = rw (ne-eqb _ 732 (c .before .before .before .before .before .if1 .left), ne-eqb _ 671 (c .before .before .before .before .if2 .left), c .before .group-claims .ensures, c .before .before .sum-group .ensures)
 
 pub with-claim-spec : {M : Type 1} → statement M
 with-claim-spec =
@@ -45,6 +45,6 @@ with-claim-spec =
     span-by-requires
     span-kept-requires
     returns-2
-    group-of-requires
+    sum-group-requires
     group-claims-requires
     returns-3)

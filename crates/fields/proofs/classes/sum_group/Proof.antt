@@ -3,8 +3,8 @@ use borrow.Author.Needs.{needs}
 use borrow.Author.Tests.{leb-true}
 use Rattle.figures.proofs.Tests.{and-parts}
 use Rattle.fields.proofs.Places.{group-in, group-out}
-use Rattle.fields.proofs.classes.group_of.Statement.{statement}
-use Rattle.fields.proofs.classes.group_of.Tie as tie
+use Rattle.fields.proofs.classes.sum_group.Statement.{statement}
+use Rattle.fields.proofs.classes.sum_group.Tie as tie
 
 add-if1 : tie.Need-add-if1
 add-if1 c = search needs
@@ -18,5 +18,5 @@ returns c = group-in _ (c .if1 .taken)
 returns-2 : tie.Need-returns-2
 returns-2 c = group-out _ (c .if1 .left)
 
-pub group-of-spec : {M : Type 1} → statement M
-group-of-spec = tie.close (tie.spec add-if1 sub-result returns returns-2)
+pub sum-group-spec : {M : Type 1} → statement M
+sum-group-spec = tie.close (tie.spec add-if1 sub-result returns returns-2)
