@@ -1,11 +1,10 @@
-// The running account of the open block, by value, brought up to date at each heading. Promised, for every account, item and job:
-// the account and the marks that `closeModel` of `blocks` says, which are those of the items themselves (theorem `account` there).
-// It judges no rule: those stand in `blocks`, with the records. Stands on `blocks`, and on `headings` for the types of items.
+// The running account of the open block, by value, brought up to date at each heading. Promised, for every account, item and basis:
+// the account and the marks that `closeModel` says (specs/Model.antt), which are those of the items themselves: the account is the summary
+// of the items above, and the marks are the set of the tests that `rules` has broken at the heading (theorem `account`).
+// It judges no rule: those are `blocks`' functions. Stands on `blocks`, on `rules`, on `ledger` for sets of marks, and on `headings` for the
+// types of items.
+use blocks::Basis;
 use blocks::Block;
-use blocks::Closed;
-use blocks::Item;
-use blocks::Job;
-use blocks::Kc;
 use blocks::block_rules::closing_marks;
 use blocks::block_rules::open_marks;
 use blocks::groups::capped;
@@ -15,13 +14,22 @@ use headings::ItemNo;
 use headings::Read;
 use headings::item_types::is_payment;
 use headings::item_types::is_priority;
+use rules::Digest;
+use rules::FirstKc;
 ghost use mathlib.Core.Path.{_≡_};
 ghost use mathlib.Core.Bool.{cond};
 ghost use mathlib.Core.List.{[]};
 ghost use Prim.Native.Nat.{_<_, _^_};
-ghost use Rattle.blocks.specs.Items.{closesAt};
-ghost use Rattle.blocks.specs.Model.{amountBlock, kcBlock, headingBlock, touchedBlock, emptyBlock, readBlock, readMarks, closeModel};
-ghost use Rattle.blocks.specs.Summary.{summary};
+ghost use Rattle.rules.specs.declared.FirstKc.{FirstKc};
+ghost use Rattle.rules.specs.Blocks.{closesAt};
+ghost use Rattle.account.specs.Model.{amountBlock, kcBlock, headingBlock, touchedBlock, emptyBlock, readBlock, readMarks, closeModel};
+ghost use Rattle.account.specs.Summary.{summary};
+
+// An item is closed: the account with it, and the marks of its heading.
+pub struct Accounted {
+    pub block: Block,
+    pub marks: u64,
+}
 
 // Whether an item with this heading closes its block.
 pub fn closes_block(head: Read) -> bool
@@ -48,13 +56,13 @@ fn with_amount(b: Block, kind: u32, amount: u64) -> Block
 }
 
 // A KC counts in an item of an input type other than 51, and only if it reads.
-fn with_kc(b: Block, kind: u32, kc: Kc) -> Block
+fn with_kc(b: Block, kind: u32, kc: FirstKc) -> Block
     ensures { λ r. ⌜ r ≡ kcBlock b kind kc ⌝ }
 {
     match kc {
-        Kc::NoKc => b,
-        Kc::BrokenKc => b,
-        Kc::Paid(amount, _) => {
+        FirstKc::NoKc => b,
+        FirstKc::BrokenKc => b,
+        FirstKc::Pays(amount, _) => {
             if is_payment(kind) {
                 with_amount(b, kind, amount.0)
             } else {
@@ -127,7 +135,7 @@ fn no_block(classed: bool, priority: bool) -> Block
     }
 }
 
-fn read_block(b: Block, h: Heading, kc: Kc) -> Block
+fn read_block(b: Block, h: Heading, kc: FirstKc) -> Block
     ensures { λ r. ⌜ r ≡ readBlock b h kc ⌝ }
 {
     if h.kind == 51 {
@@ -137,13 +145,13 @@ fn read_block(b: Block, h: Heading, kc: Kc) -> Block
     }
 }
 
-fn read_marks(job: Job, b: Block, it: Item, h: Heading) -> u64
-    ensures { λ r. ⌜ (r ≡ readMarks job b it h) × (r < 2 ^ 39) ⌝ }
+fn read_marks(basis: Basis, b: Block, it: Digest, h: Heading) -> u64
+    ensures { λ r. ⌜ (r ≡ readMarks basis b it h) × (r < 2 ^ 39) ⌝ }
 {
     let kc = it.kc;
     let span = it.span;
     let stated = it.sums;
-    let own = own_marks(job, h, kc);
+    let own = own_marks(basis, h, kc);
     if h.kind == 51 {
         own + closing_marks(b, h, span, it.s9, stated)
     } else {
@@ -152,23 +160,23 @@ fn read_marks(job: Job, b: Block, it: Item, h: Heading) -> u64
 }
 
 // An item is closed, by value.
-pub fn close_item(b: Block, it: Item, job: Job) -> Closed
-    ensures { λ r. ⌜ (r ≡ closeModel job b it) × (r .marks < 2 ^ 39) ⌝ }
+pub fn close_item(b: Block, it: Digest, basis: Basis) -> Accounted
+    ensures { λ r. ⌜ (r ≡ closeModel basis b it) × (r .marks < 2 ^ 39) ⌝ }
 {
     let head = it.head;
     let kc = it.kc;
     match head {
         Read::Unreadable => {
             let next = with_unreadable(b);
-            Closed {
+            Accounted {
                 block: next,
                 marks: 0,
             }
         }
         Read::Reads(h) => {
             let next = read_block(b, h, kc);
-            let marks = read_marks(job, b, it, h);
-            Closed {
+            let marks = read_marks(basis, b, it, h);
+            Accounted {
                 block: next,
                 marks: marks,
             }

@@ -1,4 +1,1 @@
 mod Same
-mod Nine
-pub mod Accounting
-pub mod Tuesday

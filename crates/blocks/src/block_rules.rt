@@ -1,12 +1,19 @@
 // The rules of blocks, each asked of the account and not of the items above.
 use crate::Block;
-use crate::Span;
-use crate::Sums;
 use crate::groups::group_marks;
+use crate::marks::MARK_17;
+use crate::marks::MARK_18;
+use crate::marks::MARK_19;
+use crate::marks::MARK_20;
+use crate::marks::MARK_21;
+use crate::marks::MARK_22;
 use crate::marks::flag;
 use headings::Heading;
+use headings::ItemNo;
 use headings::item_types::is_payment;
 use headings::item_types::is_priority;
+use rules::FirstIn;
+use rules::Sums;
 ghost use mathlib.Core.Path.{_≡_};
 ghost use Prim.Native.Nat.{_+_, _-_, _<_, _≤_, _^_};
 ghost use lib.Dec.{eqb};
@@ -19,34 +26,34 @@ fn breaks_eighteen(some: bool, first: u32, day: u32) -> bool
 }
 
 // n is one more than last.
-fn follows(n: u32, last: u32) -> bool
-    ensures { λ r. ⌜ r ≡ eqb n (last + 1) ⌝ }
+fn follows(n: ItemNo, last: ItemNo) -> bool
+    ensures { λ r. ⌜ r ≡ eqb (n .0) (last .0 + 1) ⌝ }
 {
-    if n == 0 {
+    if n.0 == 0 {
         return false;
     }
-    n - 1 == last
+    n.0 - 1 == last.0
 }
 
-fn skips_to(some: bool, last: u32, n: u32) -> bool
+fn skips_to(some: bool, last: ItemNo, n: ItemNo) -> bool
     ensures { λ r. ⌜ r ≡ skipsTo some last n ⌝ }
 {
     let next = follows(n, last);
     some & !next
 }
 
-fn breaks_nineteen(some: bool, last: u32, n: u32) -> bool
+fn breaks_nineteen(some: bool, last: ItemNo, n: ItemNo) -> bool
     ensures { λ r. ⌜ r ≡ breaks19 some last n ⌝ }
 {
     let skips = skips_to(some, last, n);
-    (n == 0) | skips
+    (n.0 == 0) | skips
 }
 
-fn breaks_nineteen_closing(some: bool, last: u32, n: u32) -> bool
+fn breaks_nineteen_closing(some: bool, last: ItemNo, n: ItemNo) -> bool
     ensures { λ r. ⌜ r ≡ breaks19Closing some last n ⌝ }
 {
     let skips = skips_to(some, last, n);
-    (n != 0) & skips
+    (n.0 != 0) & skips
 }
 
 fn breaks_twenty(classed: bool, priority: bool, kind: u32) -> bool
@@ -57,13 +64,13 @@ fn breaks_twenty(classed: bool, priority: bool, kind: u32) -> bool
     paying & (classed & ((own & !priority) | (!own & priority)))
 }
 
-fn breaks_twenty_one(some: bool, first: u32, last: u32, span: Span) -> bool
+fn breaks_twenty_one(some: bool, first: ItemNo, last: ItemNo, span: FirstIn) -> bool
     ensures { λ r. ⌜ r ≡ breaks21 some first last span ⌝ }
 {
     match span {
-        Span::NoIn => true,
-        Span::BrokenIn => false,
-        Span::Runs(a, b) => some & !((a.0 == first) & (b.0 == last)),
+        FirstIn::NoIn => true,
+        FirstIn::BrokenIn => false,
+        FirstIn::Runs(a, b) => some & !((a.0 == first.0) & (b.0 == last.0)),
     }
 }
 
@@ -71,28 +78,22 @@ fn breaks_twenty_one(some: bool, first: u32, last: u32, span: Span) -> bool
 pub fn open_marks(b: Block, h: Heading) -> u64
     ensures { λ r. ⌜ (r ≡ openMarks b h) × (r < 2 ^ 21) ⌝ }
 {
-    flag(breaks_eighteen(b.some, b.day, h.day), 262144)
-        + flag(breaks_nineteen(b.some, b.last.0, h.number.0), 524288)
-        + flag(breaks_twenty(b.classed, b.priority, h.kind), 1048576)
+    flag(breaks_eighteen(b.some, b.day, h.day), MARK_18)
+        + flag(breaks_nineteen(b.some, b.last, h.number), MARK_19)
+        + flag(breaks_twenty(b.classed, b.priority, h.kind), MARK_20)
 }
 
 // The marks of 17 to 22 and 30 to 38 at a 51.
-pub fn closing_marks(b: Block, h: Heading, span: Span, s9: bool, stated: Sums) -> u64
+pub fn closing_marks(b: Block, h: Heading, span: FirstIn, s9: bool, stated: Sums) -> u64
     ensures { λ r. ⌜ (r ≡ closingMarks b h span s9 stated) × (r ≤ 2 ^ 39 - 2 ^ 16) ⌝ }
 {
     let counts = b.counts;
     let sums = b.sums;
     let groups = stated.groups;
-    flag(!b.any, 131072)
-        + flag(breaks_eighteen(b.some, b.day, h.day), 262144)
-        + flag(
-            breaks_nineteen_closing(b.some, b.last.0, h.number.0),
-            524288,
-        )
-        + flag(
-            breaks_twenty_one(b.some, b.first.0, b.last.0, span),
-            2097152,
-        )
-        + flag(s9, 4194304)
+    flag(!b.any, MARK_17)
+        + flag(breaks_eighteen(b.some, b.day, h.day), MARK_18)
+        + flag(breaks_nineteen_closing(b.some, b.last, h.number), MARK_19)
+        + flag(breaks_twenty_one(b.some, b.first, b.last, span), MARK_21)
+        + flag(s9, MARK_22)
         + group_marks(counts, sums, groups)
 }

@@ -1,7 +1,16 @@
 // The nine groups: what a 51 states of each against what the account has.
-use crate::Stated;
-use crate::Sum;
+use crate::marks::MARK_30;
+use crate::marks::MARK_31;
+use crate::marks::MARK_32;
+use crate::marks::MARK_33;
+use crate::marks::MARK_34;
+use crate::marks::MARK_35;
+use crate::marks::MARK_36;
+use crate::marks::MARK_37;
+use crate::marks::MARK_38;
 use crate::marks::flag;
+use rules::FirstSum;
+use rules::Sum;
 ghost use mathlib.Core.Path.{_≡_};
 ghost use mathlib.Core.Bool.{cond};
 ghost use Prim.Native.Nat.{_+_, _-_, _<_, _≤_, _^_, min};
@@ -13,13 +22,13 @@ fn tells_true(count: u64, sum: u64, c: u64, s: u64) -> bool
     (count < 10000000) & ((sum < 100000000000000000) & ((c == count) & (s == sum)))
 }
 
-fn misstates(count: u64, sum: u64, stated: Stated) -> bool
+fn misstates(count: u64, sum: u64, stated: FirstSum) -> bool
     ensures { λ r. ⌜ r ≡ misstatedCapped count sum stated ⌝ }
 {
     match stated {
-        Stated::NoSum => !tells_true(count, sum, 0, 0),
-        Stated::BrokenSum => false,
-        Stated::Says(c, s) => !tells_true(count, sum, c as u64, s.0),
+        FirstSum::NoSum => !tells_true(count, sum, 0, 0),
+        FirstSum::BrokenSum => false,
+        FirstSum::Says(c, s) => !tells_true(count, sum, c as u64, s.0),
     }
 }
 
@@ -32,26 +41,26 @@ fn group_breaks(counts: [u64; 9], sums: [u64; 9], groups: [Sum; 9], d: usize) ->
     misstates(counts[d], sums[d], stated)
 }
 
-fn group_mark(counts: [u64; 9], sums: [u64; 9], groups: [Sum; 9], d: usize, bit: u64) -> u64
+fn group_mark(counts: [u64; 9], sums: [u64; 9], groups: [Sum; 9], d: usize, mark: u64) -> u64
     requires { ⌜ d < 9 ⌝ }
-    ensures { λ r. ⌜ (r ≡ cond (groupBreaks counts sums groups d) bit 0) × (r ≤ bit) ⌝ }
+    ensures { λ r. ⌜ (r ≡ cond (groupBreaks counts sums groups d) mark 0) × (r ≤ mark) ⌝ }
 {
-    flag(group_breaks(counts, sums, groups, d), bit)
+    flag(group_breaks(counts, sums, groups, d), mark)
 }
 
 // The marks of 30 to 38.
 pub fn group_marks(counts: [u64; 9], sums: [u64; 9], groups: [Sum; 9]) -> u64
     ensures { λ r. ⌜ (r ≡ groupMarks counts sums groups) × (r ≤ 2 ^ 39 - 2 ^ 30) ⌝ }
 {
-    group_mark(counts, sums, groups, 0, 1073741824)
-        + group_mark(counts, sums, groups, 1, 2147483648)
-        + group_mark(counts, sums, groups, 2, 4294967296)
-        + group_mark(counts, sums, groups, 3, 8589934592)
-        + group_mark(counts, sums, groups, 4, 17179869184)
-        + group_mark(counts, sums, groups, 5, 34359738368)
-        + group_mark(counts, sums, groups, 6, 68719476736)
-        + group_mark(counts, sums, groups, 7, 137438953472)
-        + group_mark(counts, sums, groups, 8, 274877906944)
+    group_mark(counts, sums, groups, 0, MARK_30)
+        + group_mark(counts, sums, groups, 1, MARK_31)
+        + group_mark(counts, sums, groups, 2, MARK_32)
+        + group_mark(counts, sums, groups, 3, MARK_33)
+        + group_mark(counts, sums, groups, 4, MARK_34)
+        + group_mark(counts, sums, groups, 5, MARK_35)
+        + group_mark(counts, sums, groups, 6, MARK_36)
+        + group_mark(counts, sums, groups, 7, MARK_37)
+        + group_mark(counts, sums, groups, 8, MARK_38)
 }
 
 // The sum, up to the cap.

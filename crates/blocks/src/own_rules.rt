@@ -1,6 +1,11 @@
 // The rules that look at one item alone.
-use crate::Job;
-use crate::Kc;
+use crate::Basis;
+use crate::marks::MARK_10;
+use crate::marks::MARK_11;
+use crate::marks::MARK_12;
+use crate::marks::MARK_13;
+use crate::marks::MARK_14;
+use crate::marks::MARK_15;
 use crate::marks::flag;
 use days::day_number;
 use days::is_real;
@@ -11,21 +16,25 @@ use headings::head_rules::breaks_fourteen;
 use headings::head_rules::breaks_ten;
 use headings::head_rules::breaks_thirteen;
 use headings::item_types::is_payment;
+use rules::FirstKc;
 ghost use mathlib.Core.Path.{_≡_};
 ghost use mathlib.Core.Bool.{not};
 ghost use Prim.Native.Nat.{_+_, _<_, _^_};
 ghost use lib.Dec.{ltb};
 ghost use Rattle.laws.specs.Tests.{among};
-ghost use Rattle.blocks.specs.OwnRules.{untilToday, untilThirty, rule9, noKc};
-ghost use Rattle.blocks.specs.Model.{jobOf, breaks8, breaks11, breaks12, breaks15, ownMarks};
+ghost use Rattle.rules.specs.declared.FirstKc.{FirstKc};
+ghost use Rattle.rules.specs.Terms.{input};
+ghost use Rattle.rules.specs.FieldRules.{untilToday, untilThirty, rule9};
+ghost use Rattle.rules.specs.HeadingRules.{noKc};
+ghost use Rattle.blocks.specs.Model.{basisOf, breaks8, breaks11, breaks12, breaks15, ownMarks};
 
 // The accounting day is reckoned once.
-pub fn job_of(code: Code, day: u32) -> Job
-    ensures { λ r. ⌜ r ≡ jobOf code day ⌝ }
+pub fn basis_of(code: Code, day: u32) -> Basis
+    ensures { λ r. ⌜ r ≡ basisOf (input (code .0) day) ⌝ }
 {
     let number = day_number(day);
     let real = is_real(day);
-    Job {
+    Basis {
         code: code,
         day: day,
         number: number,
@@ -61,19 +70,19 @@ fn until_thirty(kind: u32) -> bool
 }
 
 // Rule 8. The accounting day itself, which is the day of nearly every item, is not reckoned again.
-pub fn breaks_eight(job: Job, kind: u32, day: u32) -> bool
-    ensures { λ r. ⌜ r ≡ breaks8 job kind day ⌝ }
+pub fn breaks_eight(basis: Basis, kind: u32, day: u32) -> bool
+    ensures { λ r. ⌜ r ≡ breaks8 basis kind day ⌝ }
 {
     let paying = is_payment(kind);
-    if day == job.day {
-        return paying & !job.real;
+    if day == basis.day {
+        return paying & !basis.real;
     }
     let real = is_real(day);
     let n = day_number(day);
     let by_today = until_today(kind);
     let by_thirty = until_thirty(kind);
-    let after = past(n, job.number, 0);
-    let far = past(n, job.number, 30);
+    let after = past(n, basis.number, 0);
+    let far = past(n, basis.number, 30);
     paying & (!real | ((by_today & after) | (by_thirty & far)))
 }
 
@@ -83,36 +92,36 @@ pub fn breaks_nine(kind: u32, amount: Amount) -> bool
     (kind == 32) & (100000000000 < amount.0)
 }
 
-fn breaks_eleven(job: Job, day: u32) -> bool
-    ensures { λ r. ⌜ r ≡ breaks11 job day ⌝ }
+fn breaks_eleven(basis: Basis, day: u32) -> bool
+    ensures { λ r. ⌜ r ≡ breaks11 basis day ⌝ }
 {
-    if day == job.day {
-        return !job.real;
+    if day == basis.day {
+        return !basis.real;
     }
     let real = is_real(day);
     let n = day_number(day);
-    let after = past(n, job.number, 0);
-    let before = past(job.number, n, 10);
+    let after = past(n, basis.number, 0);
+    let before = past(basis.number, n, 10);
     !real | (after | before)
 }
 
-fn breaks_twelve(job: Job, first: Code) -> bool
-    ensures { λ r. ⌜ r ≡ breaks12 job first ⌝ }
+fn breaks_twelve(basis: Basis, first: Code) -> bool
+    ensures { λ r. ⌜ r ≡ breaks12 basis first ⌝ }
 {
-    first.0 != job.code.0
+    first.0 != basis.code.0
 }
 
-pub fn has_no_kc(kc: Kc) -> bool
+pub fn has_no_kc(kc: FirstKc) -> bool
     ensures { λ r. ⌜ r ≡ noKc kc ⌝ }
 {
     match kc {
-        Kc::NoKc => true,
-        Kc::BrokenKc => false,
-        Kc::Paid(_, _) => false,
+        FirstKc::NoKc => true,
+        FirstKc::BrokenKc => false,
+        FirstKc::Pays(_, _) => false,
     }
 }
 
-fn breaks_fifteen(kind: u32, kc: Kc) -> bool
+fn breaks_fifteen(kind: u32, kc: FirstKc) -> bool
     ensures { λ r. ⌜ r ≡ breaks15 kind kc ⌝ }
 {
     let none = has_no_kc(kc);
@@ -120,13 +129,13 @@ fn breaks_fifteen(kind: u32, kc: Kc) -> bool
 }
 
 // The marks of rules 10 to 15.
-pub fn own_marks(job: Job, h: Heading, kc: Kc) -> u64
-    ensures { λ r. ⌜ (r ≡ ownMarks job h kc) × (r < 2 ^ 16) ⌝ }
+pub fn own_marks(basis: Basis, h: Heading, kc: FirstKc) -> u64
+    ensures { λ r. ⌜ (r ≡ ownMarks basis h kc) × (r < 2 ^ 16) ⌝ }
 {
-    flag(breaks_ten(h), 1024)
-        + flag(breaks_eleven(job, h.day), 2048)
-        + flag(breaks_twelve(job, h.first), 4096)
-        + flag(breaks_thirteen(h), 8192)
-        + flag(breaks_fourteen(h), 16384)
-        + flag(breaks_fifteen(h.kind, kc), 32768)
+    flag(breaks_ten(h), MARK_10)
+        + flag(breaks_eleven(basis, h.day), MARK_11)
+        + flag(breaks_twelve(basis, h.first), MARK_12)
+        + flag(breaks_thirteen(h), MARK_13)
+        + flag(breaks_fourteen(h), MARK_14)
+        + flag(breaks_fifteen(h.kind, kc), MARK_15)
 }

@@ -9,12 +9,12 @@ use lib.Dec.{eqb}
 use Rattle.laws.specs.Ascii.{ascii}
 use Rattle.laws.specs.Refusals.{first}
 use Rattle.text.specs.Characters.{isAdmissible}
-use Rattle.days.specs.Days.{isReal}
 use Rattle.text.specs.Strings.{begins}
+use Rattle.days.specs.Days.{isReal}
 use Rattle.outcomes.specs.Deriving.{tellRefusals, outgoingKind, recipient, deriveRefusals, derivedTarget}
 use Rattle.figures.specs.Accounts.{weighed, accountOf, accountValue}
-use Rattle.ledger.specs.Faults.{Fault, fault}
-use Rattle.items.specs.Faults.{faults}
+use Rattle.rules.specs.Terms.{input}
+use Rattle.rules.specs.Faults.{Fault, fault, faults}
 
 pub data Case : Type 0 where
   -- a byte may stand in a text, or may not
@@ -63,7 +63,7 @@ holds (weighs part sum) = eqb (weighed (ascii part)) sum
 holds (passes prefix number) = accountValue (accountOf (ascii prefix) (ascii number)) false
 holds (fails prefix number) = not (accountValue (accountOf (ascii prefix) (ascii number)) true)
 holds (unreal day) = not (isReal day)
-holds (faulty code today file fs) = sameFaults (faults code today (bytesOf file)) fs
+holds (faulty code today file fs) = sameFaults (faults (input code today) (bytesOf file)) fs
 holds (derives text outcome standing number out) = same (derivedTarget (ascii text) outcome standing (record { 0 = number }) blank) (ascii out)
 holds (refuses text outcome standing number k) = eqb (first (deriveRefusals (ascii text) outcome standing (record { 0 = number }) (length blank))) k
 holds (tells text outcome standing kind code) =

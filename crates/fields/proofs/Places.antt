@@ -16,7 +16,7 @@ use Rattle.figures.proofs.Tests.{and-parts}
 use Rattle.fields.specs.declared.classes.Class.{Class}
 use Rattle.fields.specs.declared.classes.Class.the-variants.{Money, Number, Range, Group, Account, Text, Free}
 use Rattle.fields.specs.Kinds.{symbols, place, identOf, named, isField}
-use Rattle.fields.specs.Classes.{moneyFields, numberFields, rangeFields, groupFields, accountFields, textFields, classBy, classOf, groupOf}
+use Rattle.fields.specs.Classes.{moneyFields, numberFields, rangeFields, groupFields, accountFields, textFields, classBy, classOf, sumGroup}
 
 -- a number stands in a list just where its place is in it
 pub place-in : (x : ℕ) (ys : List ℕ) → ltb (place x ys) (length ys) ≡ among x ys
@@ -112,24 +112,24 @@ not-group a b c f g e = true≢false (sym (ap isGroup e) ∙ none a b c f g)
     none false false false false false = refl
 
 module _ (i : ℕ) where
-  pub group-in : (leb 1008 i && ltb i 1017) ≡ true → i - 1008 ≡ groupOf i
-  unfolding groupOf
+  pub group-in : (leb 1008 i && ltb i 1017) ≡ true → i - 1008 ≡ sumGroup i
+  unfolding sumGroup
   group-in e =
       let p = and-parts (leb 1008 i) (ltb i 1017) e in
       sym (rw groups (row-in i 1008 9 (leb-true 1008 i (p .0)) (ltb-true i 1017 (p .1))))
 
-  pub group-out : (leb 1008 i && ltb i 1017) ≡ false → 9 ≡ groupOf i
-  unfolding groupOf
+  pub group-out : (leb 1008 i && ltb i 1017) ≡ false → 9 ≡ sumGroup i
+  unfolding sumGroup
   group-out e = sym (rw groups (row-out i 1008 9 (λ p q. true≢false (rw (le-leb 1008 i p, lt-ltb i 1017 q) at e))))
 
-  pub class-is : classBy (eqb i (named "KC")) ((eqb i (named "EC") || eqb i (named "AK")) || eqb i (named "ZK")) (eqb i (named "IN")) (ltb (groupOf i) 9)
+  pub class-is : classBy (eqb i (named "KC")) ((eqb i (named "EC") || eqb i (named "AK")) || eqb i (named "ZK")) (eqb i (named "IN")) (ltb (sumGroup i) 9)
       (eqb i (named "UD") || eqb i (named "UK")) (((eqb i (named "DI") || eqb i (named "KI")) || eqb i (named "ZP")) || eqb i (named "AV")) ≡ classOf i
-  unfolding classOf groupOf
+  unfolding classOf sumGroup
   class-is = same-class (one-of i moneyFields) (one-of i numberFields) (one-of i rangeFields) (place-in i groupFields) (one-of i accountFields) (one-of i textFields)
 
   -- a field of the class of groups has a group's digit
-  pub group-lt : classOf i ≡ Group → groupOf i < 9
-  unfolding classOf groupOf
+  pub group-lt : classOf i ≡ Group → sumGroup i < 9
+  unfolding classOf sumGroup
   group-lt e = go (among i moneyFields) (among i numberFields) (among i rangeFields) (among i groupFields) (among i accountFields) (among i textFields) refl e
     where
       go : (a b c d f g : Bool) → among i groupFields ≡ d → classBy a b c d f g ≡ Group → place i groupFields < 9

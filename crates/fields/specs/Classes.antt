@@ -35,5 +35,5 @@ unfoldable pub classOf : ℕ → Class
 classOf i = classBy (among i moneyFields) (among i numberFields) (among i rangeFields) (among i groupFields) (among i accountFields) (among i textFields)
 
 -- the digit of a group's identifier, and the number of groups for any other identifier
-unfoldable pub groupOf : ℕ → ℕ
-groupOf i = place i groupFields
+unfoldable pub sumGroup : ℕ → ℕ
+sumGroup i = place i groupFields

@@ -1,6 +1,6 @@
 // Classes of fields: the identifiers that share a layout.
 ghost use mathlib.Core.Path.{_≡_};
-ghost use Rattle.fields.specs.Classes.{classBy, classOf, groupOf};
+ghost use Rattle.fields.specs.Classes.{classBy, classOf, sumGroup};
 
 // KC; EC, AK, ZK; IN; S0 to S8; UD, UK; DI, KI, ZP, AV; any other identifier.
 pub enum Class {
@@ -44,8 +44,8 @@ const ZP: usize = 35 * 36 + 25;
 pub const GROUPS: usize = 9;
 
 // The digit of a group's identifier, and the number of groups for any other identifier.
-pub fn group_of(ident: usize) -> usize
-    ensures { λ r. ⌜ r ≡ groupOf ident ⌝ }
+pub fn sum_group(ident: usize) -> usize
+    ensures { λ r. ⌜ r ≡ sumGroup ident ⌝ }
 {
     if (S0 <= ident) & (ident < S0 + GROUPS) {
         return ident - S0;
@@ -86,7 +86,7 @@ pub fn class_of(ident: usize) -> Class
         ident == KC,
         (ident == EC) | (ident == AK) | (ident == ZK),
         ident == IN,
-        group_of(ident) < GROUPS,
+        sum_group(ident) < GROUPS,
         (ident == UD) | (ident == UK),
         (ident == DI) | (ident == KI) | (ident == ZP) | (ident == AV),
     )

@@ -1,4 +1,4 @@
--- Numbers inside a text: digits from a place on, and two numbers with a space between.
+-- Model of the code, not part of the statement: numbers inside a text, digits from a place on, and two numbers with a space between.
 use Prim.Native.Nat.{ℕ, _+_}
 use mathlib.Core.Bool.{cond, _&&_}
 use mathlib.Core.List.{List}

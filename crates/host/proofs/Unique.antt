@@ -4,8 +4,8 @@ use mathlib.Core.Bool.{cond}
 use mathlib.Core.List.{List}
 use Prim.Native.Nat.{ℕ}
 use lib.ListN.{length}
-use Rattle.ledger.specs.Faults.{Fault}
-use Rattle.items.specs.Faults.{faults}
+use Rattle.rules.specs.Terms.{input}
+use Rattle.rules.specs.Faults.{Fault, faults}
 use Rattle.listing.specs.Checking.{slicesAfter}
 use Rattle.figures.specs.Accounts.{accountHolds}
 use lib.IntN.{ℤ}
@@ -15,16 +15,16 @@ use Rattle.host.specs.Face.{storedAt, TotalAt, CheckedAt, ToldAt, Derive
 pub total-unique : {file : List ℕ} {code day before r r′ after after′ : ℕ} → TotalAt file code day before r after → TotalAt file code day before r′ after′ → (r ≡ r′) × (after ≡ after′)
 total-unique {file} {code} {day} {before} C D =
     let e = C .number ∙ sym (D .number) in
-    (e, C .total ∙ ap (λ (k : ℕ). storedAt k (length (faults code day file)) before) e ∙ sym (D .total))
+    (e, C .total ∙ ap (λ (k : ℕ). storedAt k (length (faults (input code day) file)) before) e ∙ sym (D .total))
 
 pub checked-unique : {file : List ℕ} {code day : ℕ} {ls₀ rs₀ : List ℕ} {before r r′ : ℕ} {ls ls′ rs rs′ : List ℕ} {after after′ : ℕ} → CheckedAt file code day ls₀ rs₀ before r ls rs after → CheckedAt file code day ls₀ rs₀ before r′ ls′ rs′ after′
     → (r ≡ r′) × (ls ≡ ls′) × (rs ≡ rs′) × (after ≡ after′)
 checked-unique {file} {code} {day} {ls₀} {rs₀} {before} C D =
     let e = C .number ∙ sym (D .number) in (
       e,
-      C .lines ∙ ap (λ (k : ℕ). slicesAfter k (λ (f : Fault). f .line) (faults code day file) ls₀) e ∙ sym (D .lines),
-      C .rules ∙ ap (λ (k : ℕ). slicesAfter k (λ (f : Fault). f .rule) (faults code day file) rs₀) e ∙ sym (D .rules),
-      C .total ∙ ap (λ (k : ℕ). storedAt k (length (faults code day file)) before) e ∙ sym (D .total),
+      C .lines ∙ ap (λ (k : ℕ). slicesAfter k (λ (f : Fault). f .line) (faults (input code day) file) ls₀) e ∙ sym (D .lines),
+      C .rules ∙ ap (λ (k : ℕ). slicesAfter k (λ (f : Fault). f .rule) (faults (input code day) file) rs₀) e ∙ sym (D .rules),
+      C .total ∙ ap (λ (k : ℕ). storedAt k (length (faults (input code day) file)) before) e ∙ sym (D .total),
     )
 
 pub told-unique : {s : List ℕ} {o p kind₀ code₀ r r′ kind kind′ code code′ : ℕ} → ToldAt s o p kind₀ code₀ r kind code → ToldAt s o p kind₀ code₀ r′ kind′ code′

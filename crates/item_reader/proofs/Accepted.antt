@@ -23,16 +23,19 @@ use Rattle.fields.specs.declared.classes.Class.the-variants.{Money}
 use Rattle.fields.specs.declared.readings.Reading.the-variants.{Paid as PaidReading}
 use Rattle.fields.specs.Readings.{textOf, layoutOf, readingOf, saidBy, ifFits}
 use Rattle.fields.specs.Tails.{takes, reads}
-use Rattle.blocks.specs.declared.Kc.the-variants.{Paid}
-use Rattle.blocks.specs.OwnRules.{rule11, rule12, rule15, noKc}
-use Rattle.ledger.specs.Faults.{Fault, fault, Spot, _if_}
-use Rattle.items.specs.Rows.{Row, FieldRow, rowsFrom}
-use Rattle.items.specs.Tree.{Group, Item, File, tree}
-use Rattle.items.specs.Fields.{nowhere, inside, continuations, says, rule6}
-use Rattle.items.specs.Headings.{headOf, rule6At, isUnreadable, firstSaid, orElse, ifThere, is, kcBy, kcOf, digest, ownTests}
-use Rattle.items.specs.Faults.{lows, fields, inner, items, headSpot, faults}
-use Rattle.items.proofs.Demand.{spotsOf}
-use Rattle.items.proofs.ByRule.{six-at-field, six-at-heading, at-readable}
+use Rattle.rules.specs.declared.FirstKc.the-variants.{Pays}
+use Rattle.rules.specs.Terms.{Terms}
+use Rattle.rules.specs.Tests.{Spot, _if_}
+use Rattle.rules.specs.Rows.{Row, FieldRow, rowsFrom}
+use Rattle.rules.specs.Tree.{Owned, Item, File, tree}
+use Rattle.rules.specs.Said.{continuations, says, headOf, isUnreadable, firstSaid, orElse, ifThere, is, kcBy, kcOf, digest}
+use Rattle.rules.specs.LineRules.{nowhere, inside}
+use Rattle.rules.specs.FieldRules.{rule6}
+use Rattle.rules.specs.HeadingRules.{rule11, rule12, rule15, noKc, rule6At}
+use Rattle.rules.specs.Spots.{ownTests, lows, fields, inner, items, headSpot}
+use Rattle.rules.specs.Faults.{Fault, fault, faults}
+use Rattle.rules.specs.Demand.{spotsOf}
+use Rattle.rules.proofs.ByRule.{six-at-field, six-at-heading, at-readable}
 use Rattle.item_reader.specs.Slips.{kcAmong, slipOf, slipsFrom}
 use Rattle.item_reader.specs.Accepted.{Fine, Each}
 use Rattle.item_reader.proofs.Sinking.{says-kc}
@@ -46,7 +49,7 @@ kc-reads : (l : List ℕ) (ls : List (List ℕ)) → reads (classOf (named "KC")
 unfolding reads takes classOf place
 kc-reads l ls e = both-left (fits (layoutOf Money .own) (textOf l)) true e
 
-paid-group : (g : Group FieldRow) → g .owner .ident ≡ named "KC" → rule6 g ≡ false → (a : Amount) × (d : ℕ) × (kcBy (says g) ≡ Paid a d)
+paid-group : (g : Owned FieldRow) → g .owner .ident ≡ named "KC" → rule6 g ≡ false → (a : Amount) × (d : ℕ) × (kcBy (says g) ≡ Pays a d)
 paid-group g i e =
     let b = g .owner .row .bytes in
     let r : reads (classOf (named "KC")) b (continuations (g .below)) ≡ true =
@@ -60,45 +63,45 @@ no-member : {A : Type 0} (l : List A) → length l ≡ 0 → (x : A) → List·M
 no-member [] e x m = List·Memᴰ·not-nil m
 no-member (y ∷ l) e x m = omega arith
 
-module _ (code today : ℕ) (file : List ℕ) (clean : length (faults code today file) ≡ 0) where
+module _ (terms : Terms) (file : List ℕ) (clean : length (faults terms file) ≡ 0) where
   -- a test that would put a fault in the list does not hold
-  holds-not : (b : Bool) (f : Fault) → List·Memᴰ f (faults code today file) ↔ (b ≡ true) → b ≡ false
-  holds-not b f w = never-true b (λ e. no-member (faults code today file) clean f (w .1 e))
+  holds-not : (b : Bool) (f : Fault) → List·Memᴰ f (faults terms file) ↔ (b ≡ true) → b ≡ false
+  holds-not b f w = never-true b (λ e. no-member (faults terms file) clean f (w .1 e))
 
   -- some spots are among those of the file
   abbrev Within : List Spot → Type 0
-  Within ss = (s : Spot) → List·Memᴰ s ss → List·Memᴰ s (spotsOf code today file)
+  Within ss = (s : Spot) → List·Memᴰ s ss → List·Memᴰ s (spotsOf terms file)
 
   -- ---- the fields of an item
-  kc-in : (h : Group Row) (above gs : List (Group FieldRow)) → Within (fields code today (some h) above gs) → noKc (kcAmong gs) ≡ false
-      → (a : Amount) × (d : ℕ) × (kcAmong gs ≡ Paid a d)
+  kc-in : (h : Owned Row) (above gs : List (Owned FieldRow)) → Within (fields terms (some h) above gs) → noKc (kcAmong gs) ≡ false
+      → (a : Amount) × (d : ℕ) × (kcAmong gs ≡ Pays a d)
   unfolding firstSaid
   kc-in h above [] W n = absurd (true≢false n)
   kc-in h above (g ∷ gs) W n = go (eqb (g .owner .ident) (named "KC")) refl (kc-in h (g ∷ above) gs (λ s m. W s (List·Memᴰ·tail (Memᴰ·append-right (lows inside (g .below)) m)))) n
     where
-      go : (t : Bool) → eqb (g .owner .ident) (named "KC") ≡ t → (noKc (kcAmong gs) ≡ false → (a : Amount) × (d : ℕ) × (kcAmong gs ≡ Paid a d))
+      go : (t : Bool) → eqb (g .owner .ident) (named "KC") ≡ t → (noKc (kcAmong gs) ≡ false → (a : Amount) × (d : ℕ) × (kcAmong gs ≡ Pays a d))
           → noKc (kcOf (orElse (ifThere t (says g)) (firstSaid (is (named "KC")) gs))) ≡ false
-          → (a : Amount) × (d : ℕ) × (kcOf (orElse (ifThere t (says g)) (firstSaid (is (named "KC")) gs)) ≡ Paid a d)
+          → (a : Amount) × (d : ℕ) × (kcOf (orElse (ifThere t (says g)) (firstSaid (is (named "KC")) gs)) ≡ Pays a d)
       go true q ih w =
           paid-group g (eqb-true (g .owner .ident) (named "KC") q)
-          (holds-not (rule6 g) _ (six-at-field code today file h above g (W _ (List·Memᴰ·head refl))))
+          (holds-not (rule6 g) _ (six-at-field terms file h above g (W _ (List·Memᴰ·head refl))))
       go false q ih w = ih w
 
   -- ---- an item
-  module _ (above : List Item) (i : Item) (below : List Item) (at : List·Memᴰ (headSpot code today above i below) (spotsOf code today file)) (W : Within (fields code today (some (i .head)) [] (i .fields))) where
+  module _ (above : List Item) (i : Item) (below : List Item) (at : List·Memᴰ (headSpot terms above i below) (spotsOf terms file)) (W : Within (fields terms (some (i .head)) [] (i .fields))) where
     module _ (h : Heading) (q : headOf (i .head) ≡ Reads h) where
       -- 10 to 15
-      own : (r : ℕ) (b : Bool) → List·Memᴰ (r if b) (ownTests code today (digest i) (Reads h)) → b ≡ false
-      own r b t = holds-not b _ (at-readable code today file above i below at h q r b (inl t))
+      own : (r : ℕ) (b : Bool) → List·Memᴰ (r if b) (ownTests terms (digest i) (Reads h)) → b ≡ false
+      own r b t = holds-not b _ (at-readable terms file above i below at h q r b (inl t))
 
-      fine-by : Fine code today (slipOf i)
+      fine-by : Fine terms (slipOf i)
       unfolding ownTests digest
       fine-by = record {
         heading = h;
         reads = q;
         kind = own 10 (rule10 h) (List·Memᴰ·head refl);
-        day = own 11 (rule11 today h) (List·Memᴰ·tail (List·Memᴰ·head refl));
-        own = eqb-true (h .first .0) code (not-false (eqb (h .first .0) code) (own 12 (rule12 code h) (List·Memᴰ·tail (List·Memᴰ·tail (List·Memᴰ·head refl)))));
+        day = own 11 (rule11 terms h) (List·Memᴰ·tail (List·Memᴰ·head refl));
+        own = eqb-true (h .first .0) (terms .code .0) (not-false (eqb (h .first .0) (terms .code .0)) (own 12 (rule12 terms h) (List·Memᴰ·tail (List·Memᴰ·tail (List·Memᴰ·head refl)))));
         number = own 13 (rule13 h) (List·Memᴰ·tail (List·Memᴰ·tail (List·Memᴰ·tail (List·Memᴰ·head refl))));
         codes = own 14 (rule14 h) (List·Memᴰ·tail (List·Memᴰ·tail (List·Memᴰ·tail (List·Memᴰ·tail (List·Memᴰ·head refl)))));
         paid = λ p.
@@ -107,22 +110,22 @@ module _ (code today : ℕ) (file : List ℕ) (clean : length (faults code today
             ∙ own 15 (rule15 h (kcAmong (i .fields))) (List·Memᴰ·tail (List·Memᴰ·tail (List·Memᴰ·tail (List·Memᴰ·tail (List·Memᴰ·tail (List·Memᴰ·head refl)))))));
       }
 
-    fine : Fine code today (slipOf i)
-    fine = go (headOf (i .head)) refl (holds-not (rule6At (i .head)) _ (six-at-heading code today file above i below at))
+    fine : Fine terms (slipOf i)
+    fine = go (headOf (i .head)) refl (holds-not (rule6At (i .head)) _ (six-at-heading terms file above i below at))
       where
-        go : (r : Read) → headOf (i .head) ≡ r → isUnreadable r ≡ false → Fine code today (slipOf i)
+        go : (r : Read) → headOf (i .head) ≡ r → isUnreadable r ≡ false → Fine terms (slipOf i)
         go (Reads h) q u = fine-by h q
         go Unreadable q u = absurd (true≢false u)
 
   -- ---- all items
-  all-fine : (above is : List Item) → Within (items code today above is) → Each (Fine code today) (map slipOf is)
+  all-fine : (above is : List Item) → Within (items terms above is) → Each (Fine terms) (map slipOf is)
   all-fine above [] W = tt
   all-fine above (i ∷ below) W = (
-    fine above i below (W _ (List·Memᴰ·head refl)) (λ s m. W s (List·Memᴰ·tail (Memᴰ·append-left (items code today (i ∷ above) below) (Memᴰ·append-right (lows inside (i .head .below)) m)))),
-    all-fine (i ∷ above) below (λ s m. W s (List·Memᴰ·tail (Memᴰ·append-right (inner code today i) m))),
+    fine above i below (W _ (List·Memᴰ·head refl)) (λ s m. W s (List·Memᴰ·tail (Memᴰ·append-left (items terms (i ∷ above) below) (Memᴰ·append-right (lows inside (i .head .below)) m)))),
+    all-fine (i ∷ above) below (λ s m. W s (List·Memᴰ·tail (Memᴰ·append-right (inner terms i) m))),
   )
 
-  pub accepted : Each (Fine code today) (slipsFrom 1 (body file))
+  pub accepted : Each (Fine terms) (slipsFrom 1 (body file))
   accepted =
       let f : File = tree (rowsFrom 1 (lines (body file))) in
-      all-fine [] (f .items) (λ s m. Memᴰ·append-right (lows nowhere (f .top)) (Memᴰ·append-right (fields code today none [] (f .loose)) m))
+      all-fine [] (f .items) (λ s m. Memᴰ·append-right (lows nowhere (f .top)) (Memᴰ·append-right (fields terms none [] (f .loose)) m))

@@ -1,4 +1,4 @@
--- What holds of each item of a file without faults, for the submitter's code and the accounting day: so that no job which uses a file's
+-- What holds of each item of a file without faults, by its terms: so that no job which uses a file's
 -- items leaves one out because it does not read.
 use Prim.Native.Nat.{ℕ}
 use mathlib.Core.Path.{_≡_}
@@ -9,20 +9,21 @@ use Rattle.headings.specs.declared.Amount.{Amount}
 use Rattle.headings.specs.declared.Read.the-variants.{Reads}
 use Rattle.headings.specs.ItemTypes.{isPayment}
 use Rattle.headings.specs.HeadRules.{rule10, rule13, rule14}
-use Rattle.blocks.specs.declared.Kc.the-variants.{Paid}
-use Rattle.blocks.specs.OwnRules.{rule11}
+use Rattle.rules.specs.declared.FirstKc.the-variants.{Pays}
+use Rattle.rules.specs.Terms.{Terms}
+use Rattle.rules.specs.HeadingRules.{rule11}
 use Rattle.item_reader.specs.declared.Slip.{Slip}
 
 -- its heading reads and keeps 10 to 14, and a payment's first KC reads
-pub record Fine (code today : ℕ) (s : Slip) : Type 0 where
+pub record Fine (terms : Terms) (s : Slip) : Type 0 where
   pub heading : Heading
   pub reads : s .head ≡ Reads heading
   pub kind : rule10 heading ≡ false
-  pub day : rule11 today heading ≡ false
-  pub own : heading .first .0 ≡ code
+  pub day : rule11 terms heading ≡ false
+  pub own : heading .first .0 ≡ terms .code .0
   pub number : rule13 heading ≡ false
   pub codes : rule14 heading ≡ false
-  pub paid : isPayment (heading .kind) ≡ true → (a : Amount) × (d : ℕ) × (s .kc ≡ Paid a d)
+  pub paid : isPayment (heading .kind) ≡ true → (a : Amount) × (d : ℕ) × (s .kc ≡ Pays a d)
 
 abbrev pub Each : (Slip → Type 0) → List Slip → Type 0
 Each P [] = Unit {0}

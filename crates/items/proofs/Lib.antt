@@ -1,12 +1,5 @@
-pub mod Sets
 pub mod Ideal
 pub mod Order
-pub mod Numbers
 pub mod Turned
-pub mod Opened
-pub mod Within
-pub mod Shutting
-pub mod Meant
-pub mod Told
-pub mod Demand
-pub mod ByRule
+pub mod Puts
+pub mod Firsts

@@ -8,17 +8,16 @@ use native.Mathlib.Nat.{zero-add, add-zero}
 use native.Mathlib.Omega.{arith}
 use lib.Dec.{eqb}
 use lib.ListN.{length}
-use Rattle.fields.specs.declared.readings.Reading.{Reading}
 use Rattle.figures.specs.Layouts.{Part, fits}
+use Rattle.fields.specs.declared.readings.Reading.{Reading}
 use Rattle.fields.specs.Classes.{classOf}
 use Rattle.fields.specs.Readings.{textOf, readingOf, ifFits}
 use Rattle.fields.specs.Tails.{allFit, tailOf, takesBy}
 use Rattle.fields.proofs.Kept.{same-tail}
 use Rattle.fields.proofs.Kept.{says as said-with}
-use Rattle.items.specs.Rows.{FieldRow, LowRow}
-use Rattle.items.specs.Tree.{Group}
-use Rattle.items.specs.Fields.{continuations, says, stands}
-use Rattle.items.specs.Headings.{continued, orElse, ifThere, firstSaid}
+use Rattle.rules.specs.Rows.{FieldRow, LowRow}
+use Rattle.rules.specs.Tree.{Owned}
+use Rattle.rules.specs.Said.{continuations, says, stands, continued, orElse, ifThere, firstSaid}
 use Rattle.items.proofs.Ideal.{closed}
 
 or-turn : (a b c : Bool) → (b || (a || c)) ≡ ((a || b) || c)
@@ -82,17 +81,17 @@ says-closed x ls =
     rw (← tail-closed ls) (said-with (classOf (x .ident)) (x .row .bytes) (continuations (reverseAux ls [])))
 
 -- ---- identifiers and the first fields
-stands-turn : (i : ℕ) (gs hs : List (Group FieldRow)) → stands i (reverseAux gs hs) ≡ (stands i gs || stands i hs)
+stands-turn : (i : ℕ) (gs hs : List (Owned FieldRow)) → stands i (reverseAux gs hs) ≡ (stands i gs || stands i hs)
 unfolding stands
 stands-turn i [] hs = refl
 stands-turn i (g ∷ gs) hs = stands-turn i gs (g ∷ hs) ∙ or-turn (eqb (g .owner .ident) i) (stands i gs) (stands i hs)
 
-pub stands-closed : (i : ℕ) (gs : List (Group FieldRow)) → stands i (reverseAux gs []) ≡ stands i gs
+pub stands-closed : (i : ℕ) (gs : List (Owned FieldRow)) → stands i (reverseAux gs []) ≡ stands i gs
 unfolding stands
 stands-closed i gs = stands-turn i gs [] ∙ or-false (stands i gs)
 
 -- the first from the nearest upwards
-unfoldable pub firstUp : (ℕ → Bool) → List (Group FieldRow) → Option Reading
+unfoldable pub firstUp : (ℕ → Bool) → List (Owned FieldRow) → Option Reading
 firstUp p [] = none
 firstUp p (g ∷ ups) = orElse (firstUp p ups) (ifThere (p (g .owner .ident)) (says g))
 
@@ -104,11 +103,11 @@ else-none : (o : Option Reading) → orElse o none ≡ o
 else-none none = refl
 else-none (some r) = refl
 
-first-turn : (p : ℕ → Bool) (ups gs : List (Group FieldRow)) → firstSaid p (reverseAux ups gs) ≡ orElse (firstUp p ups) (firstSaid p gs)
+first-turn : (p : ℕ → Bool) (ups gs : List (Owned FieldRow)) → firstSaid p (reverseAux ups gs) ≡ orElse (firstUp p ups) (firstSaid p gs)
 unfolding firstUp firstSaid
 first-turn p [] gs = refl
 first-turn p (g ∷ ups) gs = first-turn p ups (g ∷ gs) ∙ else-assoc (firstUp p ups) (ifThere (p (g .owner .ident)) (says g)) (firstSaid p gs)
 
-pub first-closed : (p : ℕ → Bool) (ups : List (Group FieldRow)) → firstSaid p (reverseAux ups []) ≡ firstUp p ups
+pub first-closed : (p : ℕ → Bool) (ups : List (Owned FieldRow)) → firstSaid p (reverseAux ups []) ≡ firstUp p ups
 unfolding firstSaid
 first-closed p ups = first-turn p ups [] ∙ else-none (firstUp p ups)

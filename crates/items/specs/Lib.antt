@@ -1,7 +1,1 @@
-pub mod Rows
-pub mod Tree
-pub mod Fields
-pub mod Headings
-pub mod Faults
-pub mod Kept
-pub mod State
+pub mod Claims

@@ -11,35 +11,35 @@ use Rattle.headings.specs.declared.Read.the-variants.{Reads, Unreadable}
 use Rattle.headings.specs.declared.Amount.{Amount}
 use Rattle.headings.specs.declared.ItemNo.{ItemNo}
 use Rattle.fields.specs.declared.readings.Reading.the-variants.{Broken, Plain, Paid, Span, Stated, Party}
-use Rattle.blocks.specs.OwnRules.{rule9}
-use Rattle.blocks.specs.Model.{breaks8}
-use Rattle.judging.specs.Opening.{readAs, saidMarks, itemOf, closeAs}
-use Rattle.blocks.specs.declared.Job.{Job}
+use Rattle.rules.specs.declared.Digest.{Digest}
+use Rattle.rules.specs.FieldRules.{rule9}
+use Rattle.rules.specs.Blocks.{closesAt}
+use Rattle.rules.specs.Said.{isUnreadable}
+use Rattle.blocks.specs.declared.Basis.{Basis}
 use Rattle.blocks.specs.declared.Block.{Block}
-use Rattle.blocks.specs.declared.Closed.{Closed}
-use Rattle.blocks.specs.declared.Item.{Item as Digest}
-use Rattle.blocks.specs.Items.{closesAt}
-use Rattle.blocks.specs.Model.{closeModel as blockModel}
+use Rattle.blocks.specs.Model.{breaks8}
+use Rattle.account.specs.declared.Accounted.{Accounted}
+use Rattle.account.specs.Model.{closeModel}
 use Rattle.items.specs.declared.Claims.{Claims}
-use Rattle.items.specs.declared.Wait.{Wait}
-use Rattle.items.specs.Headings.{isUnreadable}
-use Rattle.items.specs.State.{kcMarks, noWait, shut, shutAs}
+use Rattle.judging.specs.declared.Wait.{Wait}
+use Rattle.judging.specs.Opening.{readAs, saidMarks, kcMarks}
+use Rattle.judging.specs.Closing.{digestOf, closeAs, noWait, shut, shutAs}
 
-module _ (j : Job) (b : Block) (w : Wait) (n own : ℕ) (r : Read) (c : Claims) where
+module _ (j : Basis) (b : Block) (w : Wait) (n own : ℕ) (r : Read) (c : Claims) where
   pub close-none : eqb n 0 ≡ true → shut b w 0 0 ≡ closeAs j b w n own r c
   unfolding closeAs
   close-none h = rw h
 
   -- the item's account and its heading's marks
-  module _ (h : eqb n 0 ≡ false) (it : Digest) (ei : it ≡ itemOf n r c) (cl : Closed) (ec : cl ≡ blockModel j b it) (m : ℕ) (em : m ≡ own + mark 6 (isUnreadable r) + cl .marks) where
-    closed-is : cl ≡ blockModel j b (itemOf n r c)
-    closed-is = ec ∙ ap (blockModel j b) ei
+  module _ (h : eqb n 0 ≡ false) (it : Digest) (ei : it ≡ digestOf r c) (cl : Accounted) (ec : cl ≡ closeModel j b it) (m : ℕ) (em : m ≡ own + mark 6 (isUnreadable r) + cl .marks) where
+    closed-is : cl ≡ closeModel j b (digestOf r c)
+    closed-is = ec ∙ ap (closeModel j b) ei
 
     by-tests : (t a : Bool) → closesAt r ≡ t → b .any ≡ a → shutAs true t a b (cl .block) w n m ≡ closeAs j b w n own r c
     unfolding closeAs
     by-tests t a p q =
         sym (λ i. shutAs (not (h i)) (p i) (q i) b (sym closed-is i .block) w n
-        ((ap (λ (x : Closed). own + mark 6 (isUnreadable r) + x .marks) (sym closed-is) ∙ sym em) i))
+        ((ap (λ (x : Accounted). own + mark 6 (isUnreadable r) + x .marks) (sym closed-is) ∙ sym em) i))
 
     pub close-ends : closesAt r ≡ true → (x : Wait) → x ≡ noWait → (t : ℕ) → t ≡ cond (b .any) (w .marks) 0 → shut (cl .block) x t m ≡ closeAs j b w n own r c
     close-ends p x ex t et = (λ i. shut (cl .block) (ex i) (et i) m) ∙ by-tests true (b .any) p refl
@@ -51,7 +51,7 @@ module _ (j : Job) (b : Block) (w : Wait) (n own : ℕ) (r : Read) (c : Claims) 
     close-first p q = by-tests false false p q
 
 -- ---- 6 to 9 by what a field's own line says
-module _ (j : Job) where
+module _ (j : Basis) where
   pub marks-broken : (first : Bool) (r : Read) → _≡_ {A = ℕ} 64 (saidMarks j first r Broken)
   unfolding kcMarks saidMarks
   marks-broken true (Reads h) = refl

@@ -1,34 +1,31 @@
 -- What is claimed while a field is open and once it has closed, against the tree.
 use mathlib.Core.Path.{_≡_, refl, sym, ap, _∙_, subst}
-use mathlib.Core.Bool.{Bool, true, false, cond, not, _&&_, _||_}
+use mathlib.Core.Bool.{Bool, true, false, cond, not, _||_}
 use mathlib.Core.List.{List, [], _∷_}
-use Prim.Native.Nat.{ℕ, suc, _+_}
+use Prim.Native.Nat.{ℕ, suc}
 use lib.Dec.{eqb, ltb, leb}
 use lib.ListN.{length}
 use borrow.Author.Tests.{eqb-true}
 use Rattle.laws.specs.Tests.{among}
-use Rattle.fields.specs.declared.classes.Class.{Class}
-use Rattle.fields.specs.declared.classes.Class.the-variants.{Money, Number, Range, Group, Account, Text, Free}
 use Rattle.fields.specs.declared.readings.Reading.{Reading}
 use Rattle.fields.specs.declared.readings.Reading.the-variants.{Broken, Plain, Paid, Span, Stated, Party}
 use Rattle.fields.specs.Kinds.{named, place}
-use Rattle.fields.specs.Classes.{moneyFields, numberFields, rangeFields, groupFields, accountFields, textFields, classBy, classOf, groupOf}
+use Rattle.fields.specs.Classes.{groupFields, accountFields, textFields, classBy, classOf, sumGroup}
 use Rattle.fields.specs.Readings.{textOf, readingOf, ifFits}
 use Rattle.fields.specs.Tails.{isBroken, tailOf, takesBy}
 use Rattle.fields.proofs.Places.{place-in}
+use Rattle.rules.specs.Terms.{Terms}
+use Rattle.rules.specs.Rows.{Row, FieldRow, LowRow, low, field}
+use Rattle.rules.specs.Tree.{Item, Owned}
+use Rattle.rules.specs.Said.{continuations, says, stands, headOf}
 use Rattle.items.specs.declared.Claims.{Claims}
-use Rattle.items.specs.Rows.{Row, FieldRow, LowRow, low, field}
-use Rattle.items.specs.Tree.{Item}
-use Rattle.items.specs.Tree.{Group as Owned}
-use Rattle.items.specs.Fields.{continuations, says, stands}
-use Rattle.items.specs.Headings.{headOf}
-use Rattle.items.specs.State.{claimsWith}
-use Rattle.items.proofs.Ideal.{Open, start, early, atHead, atField, closed, push}
+use Rattle.items.specs.Claims.{claimsWith}
+use Rattle.items.proofs.Ideal.{start, early, atHead, atField, closed, push, Pieces}
 use Rattle.items.proofs.Turned.{firstUp, says-closed}
-use Rattle.items.proofs.Opened.{claimsOf, grownClaims, claimed, claim-at}
-use Rattle.judging.specs.declared.opening.Open.{Open as Held}
+use Rattle.items.proofs.Firsts.{claimsOf, grownClaims, claimed, claim-at}
 use Rattle.judging.specs.declared.opening.Pend.{Pend}
 use Rattle.judging.specs.Opening.{codeBy, codeOf, breaksTail, fitsBy, ownClaims, closeClaims, pendOf}
+use Rattle.judging.proofs.Shutting.{claimsLater}
 use Rattle.judging.proofs.OpenField.{says-more, says-same, says-own, openOf, fits-is}
 
 -- ---- which fields claim when they close
@@ -42,11 +39,11 @@ module _ (i : ℕ) where
 
   -- neither KC nor IN nor S9 nor a number: a group, if anything
   no-name : eqb i (named "S9") ≡ false → eqb i (named "KC") ≡ false → eqb i (named "EC") ≡ false → eqb i (named "AK") ≡ false → eqb i (named "ZK") ≡ false → eqb i (named "IN") ≡ false → Tells i
-  unfolding codeOf classOf groupOf
+  unfolding codeOf classOf sumGroup
   no-name s k e a z n =
       (λ j. leb 5 (cond (s j) 7 (codeBy (classBy (k j || false) (e j || (a j || (z j || false))) (n j || false) (among i groupFields) (among i accountFields) (among i textFields)))))
       ∙ only (among i groupFields) (among i accountFields) (among i textFields) ∙ sym (place-in i groupFields)
-      ∙ sym (λ j. k j || (n j || (s j || ltb (groupOf i) 9)))
+      ∙ sym (λ j. k j || (n j || (s j || ltb (sumGroup i) 9)))
     where
       only : (d f g : Bool) → leb 5 (codeBy (classBy false false false d f g)) ≡ d
       only true f g = refl
@@ -55,7 +52,7 @@ module _ (i : ℕ) where
       only false false false = refl
 
   claimed-is : eqb i (named "KC") ≡ false → Tells i
-  unfolding codeOf classOf groupOf place
+  unfolding codeOf classOf sumGroup place
   claimed-is k = go (eqb i (named "S9")) (eqb i (named "EC")) (eqb i (named "AK")) (eqb i (named "ZK")) (eqb i (named "IN")) refl refl refl refl refl
     where
       go : (s e a z n : Bool) → eqb i (named "S9") ≡ s → eqb i (named "EC") ≡ e → eqb i (named "AK") ≡ a → eqb i (named "ZK") ≡ z → eqb i (named "IN") ≡ n → Tells i
@@ -67,21 +64,14 @@ module _ (i : ℕ) where
       go false false false false false p q r t u = no-name p k q r t u
 
 -- ---- what is claimed with a field open
-abbrev pub claimsNow : Open → Claims
+abbrev pub claimsNow : Pieces → Claims
 claimsNow start = claimsOf []
 claimsNow (early ups x ls) = claimsOf []
 claimsNow (atHead b h ls) = claimsOf []
 claimsNow (atField b h hl ups x ls) = cond (eqb (x .ident) (named "KC")) (claimsOf (closed x ls ∷ ups)) (claimsOf ups)
 
--- and once it has closed
-abbrev pub claimsLater : Open → Claims
-claimsLater start = claimsOf []
-claimsLater (early ups x ls) = claimsOf []
-claimsLater (atHead b h ls) = claimsOf []
-claimsLater (atField b h hl ups x ls) = claimsOf (closed x ls ∷ ups)
-
 -- what is kept of a field that waits
-abbrev pub Pending : Open → Pend → Type 0
+abbrev pub Pending : Pieces → Pend → Type 0
 Pending start p = Unit {0}
 Pending (early ups x ls) p = Unit {0}
 Pending (atHead b h ls) p = Unit {0}
@@ -102,7 +92,7 @@ kc-any x l ls e = go (l .continues) refl
     go true c = says-more x l ls c ∙ ap (λ (b : Bool). cond b Broken (says (closed x ls))) free
     go false c = says-same x l ls c
 
-pub claims-low : (c : Open) (l : LowRow) → claimsNow (push c (low l)) ≡ claimsNow c
+pub claims-low : (c : Pieces) (l : LowRow) → claimsNow (push c (low l)) ≡ claimsNow c
 claims-low start l = refl
 claims-low (early ups x ls) l = refl
 claims-low (atHead b h ls) l = refl
@@ -123,33 +113,33 @@ fitting true (Stated n a) = refl
 fitting true (Party b) = refl
 fitting false r = refl
 
-said-by : (today : ℕ) (b : List Item) (h : Row) (hl : List LowRow) (ups : List (Owned FieldRow)) (x : FieldRow) (ls : List LowRow)
-    → ifFits (fitsBy (openOf today (atField b h hl ups x ls) .marks)) (readingOf (classOf (x .ident)) (textOf (x .row .bytes))) ≡ says (closed x ls)
-said-by today b h hl ups x ls =
+said-by : (terms : Terms) (b : List Item) (h : Row) (hl : List LowRow) (ups : List (Owned FieldRow)) (x : FieldRow) (ls : List LowRow)
+    → ifFits (fitsBy (openOf terms (atField b h hl ups x ls) .marks)) (readingOf (classOf (x .ident)) (textOf (x .row .bytes))) ≡ says (closed x ls)
+said-by terms b h hl ups x ls =
     let r : Reading = readingOf (classOf (x .ident)) (textOf (x .row .bytes)) in
-    ap (λ (t : Bool). ifFits t r) (fits-is today (headOf (closed h hl)) ups x ls)
+    ap (λ (t : Bool). ifFits t r) (fits-is terms (headOf (closed h hl)) ups x ls)
     ∙ ap (λ (s : Reading). ifFits (not (isBroken s)) r) (sym (says-closed x ls)) ∙ fitting (takesBy (classOf (x .ident)) (tailOf (continuations ls))) r ∙ says-closed x ls
 
 -- the open field closes
-pub claims-close : (today : ℕ) (c : Open) (p : Pend) → Pending c p → closeClaims (claimsNow c) (openOf today c) p ≡ claimsLater c
-claims-close today start p P = refl
-claims-close today (early ups x ls) p P = refl
-claims-close today (atHead b h ls) p P = refl
-claims-close today (atField b h hl ups x ls) p P = go (eqb (x .ident) (named "KC")) refl
+pub claims-close : (terms : Terms) (c : Pieces) (p : Pend) → Pending c p → closeClaims (claimsNow c) (openOf terms c) p ≡ claimsLater c
+claims-close terms start p P = refl
+claims-close terms (early ups x ls) p P = refl
+claims-close terms (atHead b h ls) p P = refl
+claims-close terms (atField b h hl ups x ls) p P = go (eqb (x .ident) (named "KC")) refl
   where
     m : ℕ
-    m = openOf today (atField b h hl ups x ls) .marks
+    m = openOf terms (atField b h hl ups x ls) .marks
 
     kc-code : eqb (x .ident) (named "KC") ≡ true → leb 5 (codeOf (x .ident)) ≡ false
     kc-code e = rw (eqb-true (x .ident) (named "KC") e) (unfold codeOf classOf place in refl)
 
     by : (t : Bool) → leb 5 (codeOf (x .ident)) ≡ t
         → cond t (claimsWith (claimsOf ups) (p .ident) (ifFits (fitsBy m) (p .said))) (claimsOf ups) ≡ cond t (claimsWith (claimsOf ups) (x .ident) (says (closed x ls))) (claimsOf ups)
-    by true e = (λ i. claimsWith (claimsOf ups) (P e i .ident) (ifFits (fitsBy m) (P e i .said))) ∙ ap (claimsWith (claimsOf ups) (x .ident)) (said-by today b h hl ups x ls)
+    by true e = (λ i. claimsWith (claimsOf ups) (P e i .ident) (ifFits (fitsBy m) (P e i .said))) ∙ ap (claimsWith (claimsOf ups) (x .ident)) (said-by terms b h hl ups x ls)
     by false e = refl
 
     go : (t : Bool) → eqb (x .ident) (named "KC") ≡ t
-        → closeClaims (cond t (claimsOf (closed x ls ∷ ups)) (claimsOf ups)) (openOf today (atField b h hl ups x ls)) p ≡ claimsOf (closed x ls ∷ ups)
+        → closeClaims (cond t (claimsOf (closed x ls ∷ ups)) (claimsOf ups)) (openOf terms (atField b h hl ups x ls)) p ≡ claimsOf (closed x ls ∷ ups)
     go true e = ap (λ (t : Bool). cond t (claimsWith (claimsOf (closed x ls ∷ ups)) (p .ident) (ifFits (fitsBy m) (p .said))) (claimsOf (closed x ls ∷ ups))) (kc-code e)
     go false e =
         by (leb 5 (codeOf (x .ident))) refl
@@ -166,17 +156,17 @@ own-claims ups y = go (eqb (y .ident) (named "KC")) refl
     go true e =
         sym (grown-is ups y [])
         ∙ sym (claim-at ups (y .ident) (says (closed y [])))
-        ∙ ap (λ (t : Bool). cond (t || (eqb (y .ident) (named "IN") || (eqb (y .ident) (named "S9") || ltb (groupOf (y .ident)) 9))) (claimsWith (claimsOf ups) (y .ident) (says (closed y []))) (claimsOf ups)) e
+        ∙ ap (λ (t : Bool). cond (t || (eqb (y .ident) (named "IN") || (eqb (y .ident) (named "S9") || ltb (sumGroup (y .ident)) 9))) (claimsWith (claimsOf ups) (y .ident) (says (closed y []))) (claimsOf ups)) e
         ∙ ap (claimsWith (claimsOf ups) (y .ident)) (says-own y)
     go false e = refl
 
-abbrev pub headed : Open → Bool
+abbrev pub headed : Pieces → Bool
 headed start = false
 headed (early ups x ls) = false
 headed (atHead b h ls) = true
 headed (atField b h hl ups x ls) = true
 
-pub claims-own : (c : Open) (y : FieldRow)
+pub claims-own : (c : Pieces) (y : FieldRow)
     → claimsNow (push c (field y)) ≡ cond (headed c) (ownClaims (claimsLater c) (y .ident) (readingOf (classOf (y .ident)) (textOf (y .row .bytes)))) (claimsLater c)
 claims-own start y = refl
 claims-own (early ups x ls) y = refl
@@ -184,13 +174,13 @@ claims-own (atHead b h ls) y = own-claims [] y
 claims-own (atField b h hl ups x ls) y = own-claims (closed x ls ∷ ups) y
 
 -- what is kept of it
-pub pending-own : (c : Open) (y : FieldRow) (p : Pend) → Pending (push c (field y)) (pendOf p (y .ident) (readingOf (classOf (y .ident)) (textOf (y .row .bytes))))
+pub pending-own : (c : Pieces) (y : FieldRow) (p : Pend) → Pending (push c (field y)) (pendOf p (y .ident) (readingOf (classOf (y .ident)) (textOf (y .row .bytes))))
 pending-own start y p = tt
 pending-own (early ups x ls) y p = tt
 pending-own (atHead b h ls) y p = λ e. rw e
 pending-own (atField b h hl ups x ls) y p = λ e. rw e
 
-pub pending-low : (c : Open) (l : LowRow) (p : Pend) → Pending c p → Pending (push c (low l)) p
+pub pending-low : (c : Pieces) (l : LowRow) (p : Pend) → Pending c p → Pending (push c (low l)) p
 pending-low start l p P = tt
 pending-low (early ups x ls) l p P = tt
 pending-low (atHead b h ls) l p P = tt

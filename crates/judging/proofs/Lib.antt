@@ -1,4 +1,7 @@
 mod Cases
+pub mod Sets
+mod Within
+pub mod Shutting
 pub mod OpenField
 pub mod Claimed
 pub mod Meaning

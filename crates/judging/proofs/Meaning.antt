@@ -5,87 +5,89 @@ use mathlib.Core.Bool.{Bool, true, false, cond, not, _&&_, _||_}
 use mathlib.Core.List.{List, [], _∷_, _++_}
 use Prim.Native.Nat.{ℕ, zero, suc, _+_, _≤_, _<_}
 use native.Mathlib.Omega.{arith}
-use lib.Dec.{eqb, ltb, leb}
+use lib.Dec.{eqb, ltb}
 use lib.ListN.{length, getD, set, length-set}
-use borrow.Author.Tests.{le-ltb, ne-eqb}
+use lib.Seq.{getD-set-same, getD-set-other}
+use borrow.Author.Tests.{le-ltb, lt-ltb, eqb-true, eqb-false}
 use Rattle.laws.specs.Tests.{mark}
-use Rattle.ledger.specs.Faults.{Fault, Spot}
-use Rattle.ledger.specs.Marks.{insertAll, marked}
-use Rattle.ledger.proofs.Insertion.{insertAll-append}
-use Rattle.ledger.proofs.Entries.{putAll, putAll-append, put}
 use Rattle.headings.specs.declared.Read.{Read}
-use Rattle.headings.specs.declared.Read.the-variants.{Reads, Unreadable}
+use Rattle.headings.specs.declared.Read.the-variants.{Unreadable}
 use Rattle.headings.specs.Reading.{headingOf}
 use Rattle.fields.specs.declared.readings.Reading.{Reading}
 use Rattle.fields.specs.Kinds.{named}
 use Rattle.fields.specs.Classes.{classOf}
 use Rattle.fields.specs.Readings.{textOf, readingOf}
-use Rattle.blocks.specs.declared.Kc.{Kc}
+use Rattle.rules.specs.Terms.{Terms}
+use Rattle.rules.specs.Faults.{Fault}
+use Rattle.rules.specs.Tests.{Spot}
+use Rattle.rules.specs.Rows.{Row, FieldRow, LowRow, heading, field, low}
+use Rattle.rules.specs.Tree.{Item, Owned}
+use Rattle.rules.specs.LineRules.{nowhere, prelude}
+use Rattle.rules.specs.LineRules.{inside as within}
+use Rattle.rules.specs.Said.{stands, continued, headOf, is}
+use Rattle.rules.specs.Spots.{lowSpot}
+use Rattle.ledger.specs.Marks.{insertAll, marked}
+use Rattle.ledger.proofs.Insertion.{insertAll-append}
+use Rattle.ledger.proofs.Entries.{putAll, putAll-append, put}
 use Rattle.blocks.specs.declared.Block.{Block}
-use Rattle.blocks.specs.Items.{closesAt}
-use Rattle.blocks.specs.Model.{closeModel as blockModel}
-use Rattle.blocks.specs.OwnRules.{noKc}
+use Rattle.blocks.specs.Model.{basisOf}
 use Rattle.items.specs.declared.Claims.{Claims}
-use Rattle.items.specs.declared.Wait.{Wait}
-use Rattle.items.specs.declared.Shut.{Shut}
-use Rattle.items.specs.Rows.{Row, FieldRow, LowRow, heading, field, low}
-use Rattle.items.specs.Tree.{Item}
-use Rattle.items.specs.Tree.{Group as Owned}
-use Rattle.items.specs.Fields.{nowhere, prelude, stands}
-use Rattle.items.specs.Fields.{inside as within}
-use Rattle.items.specs.Headings.{continued, headOf, isUnreadable, is}
-use Rattle.items.specs.Faults.{lowSpot}
-use Rattle.items.specs.Kept.{headKept}
-use Rattle.items.specs.State.{noClaims, shutAs, headMarksOf, shutModel, lastMarks}
-use Rattle.items.proofs.Sets.{lineMarks, lowMarks, low-set}
-use Rattle.items.proofs.Ideal.{Open, start, early, atHead, atField, closed, push, waits, out, final}
-use Rattle.items.proofs.Turned.{firstUp, continued-closed}
-use Rattle.items.proofs.Opened.{live, no-kc-is, claimsOf, no-claims-is}
-use Rattle.items.proofs.Shutting.{accountOf, wait, last-out, read-is}
-use Rattle.items.proofs.Meant.{job, set-le, stood-on, Numbered, above, aboveThen, fieldsOut, itemsOut, model, item-says, field-puts, head-puts, final-puts}
-use Rattle.judging.specs.declared.opening.Open.{Open as Held}
+use Rattle.items.specs.Claims.{noClaims}
+use Rattle.items.proofs.Ideal.{start, early, atHead, atField, closed, push, waits, out, final, Pieces}
+use Rattle.items.proofs.Turned.{continued-closed}
+use Rattle.items.proofs.Firsts.{no-kc-is, claimsOf, no-claims-is}
+use Rattle.items.proofs.Puts.{above, aboveThen, fieldsOut, itemsOut, field-puts, head-puts, final-puts}
+use Rattle.judging.specs.declared.Wait.{Wait}
+use Rattle.judging.specs.declared.Shut.{Shut}
+use Rattle.judging.specs.declared.opening.Open.{Open}
 use Rattle.judging.specs.declared.opening.Pend.{Pend}
-use Rattle.judging.specs.Opening.{codeOf, saidMarks, noOpen, lowOpen, ownClaims, closeClaims, pendOf, openOwn, openLoose, lowMarksAt, itemOf, closeAs, closeFaults}
-use Rattle.judging.proofs.OpenField.{openAt, Positive, openOf, low-open, early-open, field-open, close-open}
-use Rattle.judging.proofs.Claimed.{claimsNow, claimsLater, Pending, claims-low, claims-close, claims-own, pending-own, pending-low, headed}
+use Rattle.judging.specs.Closing.{lastMarks, closeAs, closeFaults}
+use Rattle.judging.specs.Opening.{codeOf, saidMarks, noOpen, lowOpen, ownClaims, closeClaims, pendOf, openOwn, openLoose, lowMarksAt}
+use Rattle.judging.proofs.Sets.{lineMarks, lowMarks, low-set}
+use Rattle.judging.proofs.Shutting.{accountOf, wait, last-out, item-says, Positive, claimsLater, ownOf, shutOf, readNow, no-zero, sinceOf}
+use Rattle.judging.proofs.OpenField.{openAt, openOf, low-open, early-open, field-open, close-open}
+use Rattle.judging.proofs.Claimed.{claimsNow, Pending, claims-low, claims-close, claims-own, pending-own, pending-low, headed}
 
--- ---- the heading of the open item
-abbrev pub sinceOf : Open → ℕ
-sinceOf start = 0
-sinceOf (early ups x ls) = 0
-sinceOf (atHead b h ls) = h .no
-sinceOf (atField b h hl ups x ls) = h .no
+-- ---- the lines at which identifiers last stood
+-- the numbers of what is open, after n lines
+abbrev pub Numbered : Pieces → ℕ → Type 0
+Numbered start n = Unit {0}
+Numbered (early ups x ls) n = (x .row .no ≤ n) × (x .ident < 1296)
+Numbered (atHead b h ls) n = h .no ≤ n
+Numbered (atField b h hl ups x ls) n = (h .no < x .row .no) × (x .row .no ≤ n) × (x .ident < 1296)
 
-abbrev pub ownOf : Open → ℕ
-ownOf start = 0
-ownOf (early ups x ls) = 0
-ownOf (atHead b h ls) = lineMarks h
-ownOf (atField b h hl ups x ls) = lineMarks h
+set-le : (a : List ℕ) (i v n k : ℕ) → v ≤ n → getD a k 0 ≤ n → getD (set a i v) k 0 ≤ n
+set-le [] i v n k h q = q
+set-le (x ∷ a) zero v n zero h q = h
+set-le (x ∷ a) zero v n (suc k) h q = q
+set-le (x ∷ a) (suc i) v n zero h q = q
+set-le (x ∷ a) (suc i) v n (suc k) h q = set-le a i v n k h q
 
-abbrev pub readNow : Open → Read
-readNow start = Unreadable
-readNow (early ups x ls) = Unreadable
-readNow (atHead b h ls) = headOf (closed h ls)
-readNow (atField b h hl ups x ls) = headOf (closed h hl)
+-- a field more: its identifier stands at its line, the others where they stood
+stood-on : (a : List ℕ) (since i v k : ℕ) (t : Bool) → i < length a → since < v → ltb since (getD a k 0) ≡ t → ltb since (getD (set a i v) k 0) ≡ (eqb i k || t)
+stood-on a since i v k t h s e = go (eqb i k) refl
+  where
+    go : (q : Bool) → eqb i k ≡ q → ltb since (getD (set a i v) k 0) ≡ (q || t)
+    go true q =
+        let same : i ≡ k = eqb-true i k q in
+        ap (λ (j : ℕ). ltb since (getD (set a i v) j 0)) (sym same) ∙ ap (ltb since) (getD-set-same a i v 0 h) ∙ lt-ltb since v s
+    go false q = ap (ltb since) (getD-set-other a i k v 0 (λ p. eqb-false i k q (sym p))) ∙ e
 
 -- inside an item: an identifier stood in a field of it exactly when it last stood below the heading
-abbrev pub Stood : Open → List ℕ → Type 0
+abbrev pub Stood : Pieces → List ℕ → Type 0
 Stood start a = Unit {0}
 Stood (early ups x ls) a = Unit {0}
 Stood (atHead b h ls) a = (k : ℕ) → getD a k 0 ≤ h .no
 Stood (atField b h hl ups x ls) a = (k : ℕ) → ltb (h .no) (getD a k 0) ≡ stands k (closed x ls ∷ ups)
 
 -- the fields of the item above the next one
-abbrev pub upsThen : Open → List (Owned FieldRow)
+abbrev pub upsThen : Pieces → List (Owned FieldRow)
 upsThen start = []
 upsThen (early ups x ls) = []
 upsThen (atHead b h ls) = []
 upsThen (atField b h hl ups x ls) = closed x ls ∷ ups
 
-no-zero : (n : ℕ) → 0 < n → eqb n 0 ≡ false
-no-zero n h = ne-eqb n 0 (λ z. omega arith)
-
-headed-is : (c : Open) → Positive c → eqb (sinceOf c) 0 ≡ not (headed c)
+headed-is : (c : Pieces) → Positive c → eqb (sinceOf c) 0 ≡ not (headed c)
 headed-is start P = refl
 headed-is (early ups x ls) P = refl
 headed-is (atHead b h ls) P = no-zero (h .no) P
@@ -104,31 +106,10 @@ read-own : (h : Row) → headOf (closed h []) ≡ headingOf (h .bytes)
 unfolding headOf continued
 read-own h = refl
 
-module _ (code today : ℕ) where
-  -- ---- an item closes
-  close-is : (c : Open) → Positive c → closeAs (job code today) (accountOf (above c)) (wait code today (above c)) (sinceOf c) (ownOf c) (readNow c) (claimsLater c) ≡ model code today c
-  unfolding closeAs shutModel headMarksOf headKept lineMarks
-  close-is start P = refl
-  close-is (early ups x ls) P = refl
-  close-is (atHead b h ls) P =
-      λ i. let r = sym (read-is code today b h ls []) i in
-      let q = blockModel (job code today) (accountOf b) (itemOf (h .no) r (claimsOf [])) in
-      shutAs (not (no-zero (h .no) P i)) (closesAt r) (accountOf b .any) (accountOf b) (q .block) (wait code today b) (h .no) (lineMarks h + mark 6 (isUnreadable r) + q .marks)
-  close-is (atField b h hl ups x ls) P =
-      λ i. let r = sym (read-is code today b h hl (closed x ls ∷ ups)) i in
-      let q = blockModel (job code today) (accountOf b) (itemOf (h .no) r (claimsOf (closed x ls ∷ ups))) in
-      shutAs (not (no-zero (h .no) (P .0) i)) (closesAt r) (accountOf b .any) (accountOf b) (q .block) (wait code today b) (h .no) (lineMarks h + mark 6 (isUnreadable r) + q .marks)
-
-  since-is-no : (c : Open) → live c .head .no ≡ sinceOf c
-  unfolding headKept
-  since-is-no start = refl
-  since-is-no (early ups x ls) = refl
-  since-is-no (atHead b h ls) = refl
-  since-is-no (atField b h hl ups x ls) = refl
-
+module _ (terms : Terms) where
   -- ---- a continuation or a line of no kind
-  low-enters : (c : Open) → Positive c → (l : LowRow) (all : List Fault)
-      → putAll put (out code today c (low l)) all ≡ insertAll (marked (l .row .no) (lowMarksAt (lineMarks (l .row)) (sinceOf c) (openOf today c .no) (l .continues))) all
+  low-enters : (c : Pieces) → Positive c → (l : LowRow) (all : List Fault)
+      → putAll put (out terms c (low l)) all ≡ insertAll (marked (l .row .no) (lowMarksAt (lineMarks (l .row)) (sinceOf c) (openOf terms c .no) (l .continues))) all
   unfolding lowSpot lowMarks
   low-enters start P l all = ap (λ (m : ℕ). insertAll (marked (l .row .no) m) all) (low-set nowhere l)
   low-enters (early ups x ls) P l all = rw (no-zero (x .row .no) P) (ap (λ (m : ℕ). insertAll (marked (l .row .no) m) all) (low-set prelude l))
@@ -137,89 +118,89 @@ module _ (code today : ℕ) where
 
   -- a field opens in an item
   open-in : (b : List Item) (h : Row) (hl : List LowRow) (ups : List (Owned FieldRow)) (y : FieldRow) (again : Bool) → again ≡ stands (y .ident) ups
-      → openOwn (job code today) (claimsOf ups .kc) (headOf (closed h hl)) (y .row .no) (lineMarks (y .row)) again (y .ident) (readingOf (classOf (y .ident)) (textOf (y .row .bytes)))
-      ≡ openOf today (atField b h hl ups y [])
+      → openOwn (basisOf terms) (claimsOf ups .kc) (headOf (closed h hl)) (y .row .no) (lineMarks (y .row)) again (y .ident) (readingOf (classOf (y .ident)) (textOf (y .row .bytes)))
+      ≡ openOf terms (atField b h hl ups y [])
   open-in b h hl ups y again e =
-      (λ i. openAt (y .row .no) (lineMarks (y .row) + mark 5 (e i) + saidMarks (job code today) (eqb (y .ident) (named "KC") && no-kc-is (named "KC") ups i) (headOf (closed h hl)) (readingOf (classOf (y .ident)) (textOf (y .row .bytes)))) (codeOf (y .ident)) 0)
-      ∙ sym (field-open today code b h hl ups y)
+      (λ i. openAt (y .row .no) (lineMarks (y .row) + mark 5 (e i) + saidMarks (basisOf terms) (eqb (y .ident) (named "KC") && no-kc-is (named "KC") ups i) (headOf (closed h hl)) (readingOf (classOf (y .ident)) (textOf (y .row .bytes)))) (codeOf (y .ident)) 0)
+      ∙ sym (field-open terms b h hl ups y)
 
   -- ---- all that the pass holds
-  pub record Means (c : Open) (n : ℕ) (o : Held) (since own : ℕ) (r : Read) (cl : Claims) (p : Pend) (b : Block) (w : Wait) (stood : List ℕ) : Type 0 where
-    pub open-is : o ≡ openOf today c
+  pub record Means (c : Pieces) (n : ℕ) (o : Open) (since own : ℕ) (r : Read) (cl : Claims) (p : Pend) (b : Block) (w : Wait) (stood : List ℕ) : Type 0 where
+    pub open-is : o ≡ openOf terms c
     pub since-is : since ≡ sinceOf c
     pub own-is : own ≡ ownOf c
     pub reads-as : r ≡ readNow c
     pub claims-are : cl ≡ claimsNow c
     pub pending : Pending c p
     pub account-is : b ≡ accountOf (above c)
-    pub wait-is : w ≡ wait code today (above c)
+    pub wait-is : w ≡ wait terms (above c)
     pub numbered : Numbered c n
     pub positive : Positive c
     pub long : length stood ≡ 1296
     pub past : (k : ℕ) → getD stood k 0 ≤ n
     pub inside : Stood c stood
 
-  module _ (c : Open) (n : ℕ) (o : Held) (since own : ℕ) (r : Read) (cl : Claims) (p : Pend) (b : Block) (w : Wait) (stood : List ℕ) (M : Means c n o since own r cl p b w stood) where
+  module _ (c : Pieces) (n : ℕ) (o : Open) (since own : ℕ) (r : Read) (cl : Claims) (p : Pend) (b : Block) (w : Wait) (stood : List ℕ) (M : Means c n o since own r cl p b w stood) where
     abbrev pub claimed : Claims
     claimed = closeClaims cl o p
 
     claims-then : claimed ≡ claimsLater c
-    claims-then = (λ i. closeClaims (M .claims-are i) (M .open-is i) p) ∙ claims-close today c p (M .pending)
+    claims-then = (λ i. closeClaims (M .claims-are i) (M .open-is i) p) ∙ claims-close terms c p (M .pending)
 
     abbrev pub closing : Shut
-    closing = closeAs (job code today) b w since own r claimed
+    closing = closeAs (basisOf terms) b w since own r claimed
 
-    closing-is : closing ≡ model code today c
-    closing-is = (λ i. closeAs (job code today) (M .account-is i) (M .wait-is i) (M .since-is i) (M .own-is i) (M .reads-as i) (claims-then i)) ∙ close-is c (M .positive)
+    closing-is : closing ≡ shutOf terms c
+    closing-is = (λ i. closeAs (basisOf terms) (M .account-is i) (M .wait-is i) (M .since-is i) (M .own-is i) (M .reads-as i) (claims-then i))
 
-    pub low-out : (l : LowRow) (all : List Fault) → putAll put (out code today c (low l)) all ≡ insertAll (marked (l .row .no) (lowMarksAt (lineMarks (l .row)) since (o .no) (l .continues))) all
+    pub low-out : (l : LowRow) (all : List Fault) → putAll put (out terms c (low l)) all ≡ insertAll (marked (l .row .no) (lowMarksAt (lineMarks (l .row)) since (o .no) (l .continues))) all
     low-out l all = rw (M .since-is, M .open-is) (low-enters c (M .positive) l all)
 
-    field-enters : (all : List Fault) → putAll put (fieldsOut code today c) all ≡ insertAll (marked (o .no) (o .marks)) all
-    field-enters all = rw (M .open-is) (close-open today code c all)
+    field-enters : (all : List Fault) → putAll put (fieldsOut terms c) all ≡ insertAll (marked (o .no) (o .marks)) all
+    field-enters all = rw (M .open-is) (close-open terms c all)
 
-    pub field-out : (y : FieldRow) (all : List Fault) → putAll put (out code today c (field y)) all ≡ insertAll (marked (o .no) (o .marks)) all
-    field-out y all = ap (λ (es : List Spot). putAll put es all) (field-puts code today c y) ∙ field-enters all
+    pub field-out : (y : FieldRow) (all : List Fault) → putAll put (out terms c (field y)) all ≡ insertAll (marked (o .no) (o .marks)) all
+    field-out y all = ap (λ (es : List Spot). putAll put es all) (field-puts terms c y) ∙ field-enters all
 
-    item-enters : (all : List Fault) → putAll put (itemsOut code today c) all ≡ insertAll (closeFaults (job code today) b w since own r claimed) all
+    item-enters : (all : List Fault) → putAll put (itemsOut terms c) all ≡ insertAll (closeFaults (basisOf terms) b w since own r claimed) all
     item-enters all =
-        item-says code today c all .0
-        ∙ (λ i. insertAll (marked ((since-is-no c ∙ sym (M .since-is)) i) (sym closing-is i .marks)) (insertAll (marked (sym (M .wait-is) i .line) (sym closing-is i .told)) all))
+        item-says terms c (M .positive) all .0
+        ∙ (λ i. insertAll (marked (sym (M .since-is) i) (sym closing-is i .marks)) (insertAll (marked (sym (M .wait-is) i .line) (sym closing-is i .told)) all))
         ∙ sym (insertAll-append (marked (w .line) (closing .told)) (marked since (closing .marks)) all)
 
     all-enter : (all : List Fault)
-        → putAll put (fieldsOut code today c ++ itemsOut code today c) all ≡ insertAll (marked (o .no) (o .marks) ++ closeFaults (job code today) b w since own r claimed) all
+        → putAll put (fieldsOut terms c ++ itemsOut terms c) all ≡ insertAll (marked (o .no) (o .marks) ++ closeFaults (basisOf terms) b w since own r claimed) all
     all-enter all =
-        putAll-append put (fieldsOut code today c) (itemsOut code today c) all ∙ ap (putAll put (itemsOut code today c)) (field-enters all)
+        putAll-append put (fieldsOut terms c) (itemsOut terms c) all ∙ ap (putAll put (itemsOut terms c)) (field-enters all)
         ∙ item-enters (insertAll (marked (o .no) (o .marks)) all)
-        ∙ sym (insertAll-append (marked (o .no) (o .marks)) (closeFaults (job code today) b w since own r claimed) all)
+        ∙ sym (insertAll-append (marked (o .no) (o .marks)) (closeFaults (basisOf terms) b w since own r claimed) all)
 
-    pub head-out : (k : Row) (all : List Fault) → putAll put (out code today c (heading k)) all ≡ insertAll (marked (o .no) (o .marks) ++ closeFaults (job code today) b w since own r claimed) all
-    head-out k all = ap (λ (es : List Spot). putAll put es all) (head-puts code today c k) ∙ all-enter all
+    pub head-out : (k : Row) (all : List Fault) → putAll put (out terms c (heading k)) all ≡ insertAll (marked (o .no) (o .marks) ++ closeFaults (basisOf terms) b w since own r claimed) all
+    head-out k all = ap (λ (es : List Spot). putAll put es all) (head-puts terms c k) ∙ all-enter all
 
     pub final-out : (all : List Fault)
-        → putAll put (final code today c) all
-        ≡ insertAll (marked (closing .wait .line) (lastMarks (closing .block) (closing .wait))) (insertAll (marked (o .no) (o .marks) ++ closeFaults (job code today) b w since own r claimed) all)
+        → putAll put (final terms c) all
+        ≡ insertAll (marked (closing .wait .line) (lastMarks (closing .block) (closing .wait))) (insertAll (marked (o .no) (o .marks) ++ closeFaults (basisOf terms) b w since own r claimed) all)
     final-out all =
-        let eb : closing .block ≡ accountOf (aboveThen c) = ap (λ (x : Shut). x .block) closing-is ∙ item-says code today c all .1 in
-        let ew : closing .wait ≡ wait code today (aboveThen c) = ap (λ (x : Shut). x .wait) closing-is ∙ item-says code today c all .2 in
-        let now : List Fault = insertAll (marked (o .no) (o .marks) ++ closeFaults (job code today) b w since own r claimed) all in
-        ap (λ (es : List Spot). putAll put es all) (final-puts code today c) ∙ putAll-append put (fieldsOut code today c ++ itemsOut code today c) (waits code today (aboveThen c) true) all
-        ∙ ap (putAll put (waits code today (aboveThen c) true)) (all-enter all) ∙ last-out code today (aboveThen c) now
+        let eb : closing .block ≡ accountOf (aboveThen c) = ap (λ (x : Shut). x .block) closing-is ∙ item-says terms c (M .positive) all .1 in
+        let ew : closing .wait ≡ wait terms (aboveThen c) = ap (λ (x : Shut). x .wait) closing-is ∙ item-says terms c (M .positive) all .2 in
+        let now : List Fault = insertAll (marked (o .no) (o .marks) ++ closeFaults (basisOf terms) b w since own r claimed) all in
+        ap (λ (es : List Spot). putAll put es all) (final-puts terms c) ∙ putAll-append put (fieldsOut terms c ++ itemsOut terms c) (waits terms (aboveThen c) true) all
+        ∙ ap (putAll put (waits terms (aboveThen c) true)) (all-enter all) ∙ last-out terms (aboveThen c) now
         ∙ sym (λ j. insertAll (marked (ew j .line) (lastMarks (eb j) (ew j))) now)
 
     -- ---- and what it holds then
     pub means-low : (l : LowRow)
         → Means (push c (low l)) (suc n) (lowOpen (l .continues) o (length (l .row .bytes))) since own (cond (l .continues && eqb (o .no) 0) Unreadable r) cl p b w stood
     means-low l = record {
-      open-is = ap (λ (x : Held). lowOpen (l .continues) x (length (l .row .bytes))) (M .open-is) ∙ sym (low-open today c l (M .positive));
+      open-is = ap (λ (x : Open). lowOpen (l .continues) x (length (l .row .bytes))) (M .open-is) ∙ sym (low-open terms c l (M .positive));
       since-is = M .since-is ∙ same-since c;
       own-is = M .own-is ∙ same-own c;
       reads-as = (λ i. cond (l .continues && eqb (M .open-is i .no) 0) Unreadable (M .reads-as i)) ∙ reads c (M .positive);
       claims-are = M .claims-are ∙ sym (claims-low c l);
       pending = pending-low c l p (M .pending);
       account-is = M .account-is ∙ ap accountOf (same-above c);
-      wait-is = M .wait-is ∙ ap (wait code today) (same-above c);
+      wait-is = M .wait-is ∙ ap (wait terms) (same-above c);
       numbered = numbers c (M .numbered);
       positive = stay c (M .positive);
       long = M .long;
@@ -227,13 +208,13 @@ module _ (code today : ℕ) where
       inside = stays c (M .inside);
     }
       where
-        same-since : (c : Open) → sinceOf c ≡ sinceOf (push c (low l))
+        same-since : (c : Pieces) → sinceOf c ≡ sinceOf (push c (low l))
         same-since start = refl
         same-since (early ups x ls) = refl
         same-since (atHead b h ls) = refl
         same-since (atField b h hl ups x ls) = refl
 
-        same-own : (c : Open) → ownOf c ≡ ownOf (push c (low l))
+        same-own : (c : Pieces) → ownOf c ≡ ownOf (push c (low l))
         same-own start = refl
         same-own (early ups x ls) = refl
         same-own (atHead b h ls) = refl
@@ -251,31 +232,31 @@ module _ (code today : ℕ) where
         on true x = refl
         on false x = refl
 
-        reads : (c : Open) → Positive c → cond (l .continues && eqb (openOf today c .no) 0) Unreadable (readNow c) ≡ readNow (push c (low l))
+        reads : (c : Pieces) → Positive c → cond (l .continues && eqb (openOf terms c .no) 0) Unreadable (readNow c) ≡ readNow (push c (low l))
         reads start P = both (l .continues && true)
         reads (early ups x ls) P = both (l .continues && eqb (x .row .no) 0)
         reads (atHead b h ls) P = on (l .continues) (headOf (closed h ls)) ∙ sym (read-more h l ls)
         reads (atField b h hl ups x ls) P = rw (no-zero (x .row .no) (P .1)) (off (l .continues) (headOf (closed h hl)))
 
-        same-above : (c : Open) → above c ≡ above (push c (low l))
+        same-above : (c : Pieces) → above c ≡ above (push c (low l))
         same-above start = refl
         same-above (early ups x ls) = refl
         same-above (atHead b h ls) = refl
         same-above (atField b h hl ups x ls) = refl
 
-        numbers : (c : Open) → Numbered c n → Numbered (push c (low l)) (suc n)
+        numbers : (c : Pieces) → Numbered c n → Numbered (push c (low l)) (suc n)
         numbers start N = tt
         numbers (early ups x ls) N = (omega (arith, N), omega (arith, N))
         numbers (atHead b h ls) N = omega arith
         numbers (atField b h hl ups x ls) N = (omega (arith, N), omega (arith, N), omega (arith, N))
 
-        stay : (c : Open) → Positive c → Positive (push c (low l))
+        stay : (c : Pieces) → Positive c → Positive (push c (low l))
         stay start P = tt
         stay (early ups x ls) P = P
         stay (atHead b h ls) P = P
         stay (atField b h hl ups x ls) P = P
 
-        stays : (c : Open) → Stood c stood → Stood (push c (low l)) stood
+        stays : (c : Pieces) → Stood c stood → Stood (push c (low l)) stood
         stays start I = tt
         stays (early ups x ls) I = tt
         stays (atHead b h ls) I = I
@@ -285,11 +266,11 @@ module _ (code today : ℕ) where
         → let said = readingOf (classOf (y .ident)) (textOf (y .row .bytes)) in
         Means (push c (field y)) (suc n)
         (cond (eqb since 0) (openLoose (y .row .no) (lineMarks (y .row)))
-        (openOwn (job code today) (claimed .kc) r (y .row .no) (lineMarks (y .row)) (ltb since (getD stood (y .ident) 0)) (y .ident) said))
+        (openOwn (basisOf terms) (claimed .kc) r (y .row .no) (lineMarks (y .row)) (ltb since (getD stood (y .ident) 0)) (y .ident) said))
         since own r (cond (eqb since 0) claimed (ownClaims claimed (y .ident) said)) (cond (eqb since 0) p (pendOf p (y .ident) said)) b w (set stood (y .ident) (y .row .no))
     means-field y e small = record {
       open-is = (λ i. cond (eqb (M .since-is i) 0) (openLoose (y .row .no) (lineMarks (y .row)))
-          (openOwn (job code today) (claims-then i .kc) (M .reads-as i) (y .row .no) (lineMarks (y .row)) (ltb (M .since-is i) (getD stood (y .ident) 0)) (y .ident) said))
+          (openOwn (basisOf terms) (claims-then i .kc) (M .reads-as i) (y .row .no) (lineMarks (y .row)) (ltb (M .since-is i) (getD stood (y .ident) 0)) (y .ident) said))
           ∙ opens c (M .positive) (M .inside);
       since-is = M .since-is ∙ same-since c;
       own-is = M .own-is ∙ same-own c;
@@ -299,7 +280,7 @@ module _ (code today : ℕ) where
           ∙ sym (claims-own c y);
       pending = rw (M .since-is) (pends c (M .positive));
       account-is = M .account-is ∙ ap accountOf (same-above c);
-      wait-is = M .wait-is ∙ ap (wait code today) (same-above c);
+      wait-is = M .wait-is ∙ ap (wait terms) (same-above c);
       numbered = numbers c (M .numbered);
       positive = stay c (M .positive);
       long = length-set stood (y .ident) (y .row .no) ∙ M .long;
@@ -314,58 +295,58 @@ module _ (code today : ℕ) where
         turn true a x = refl
         turn false a x = refl
 
-        opens : (c : Open) → Positive c → Stood c stood
+        opens : (c : Pieces) → Positive c → Stood c stood
             → cond (eqb (sinceOf c) 0) (openLoose (y .row .no) (lineMarks (y .row)))
-            (openOwn (job code today) (claimsLater c .kc) (readNow c) (y .row .no) (lineMarks (y .row)) (ltb (sinceOf c) (getD stood (y .ident) 0)) (y .ident) said)
-            ≡ openOf today (push c (field y))
-        opens start P I = sym (early-open today code [] y)
-        opens (early ups x ls) P I = sym (early-open today code (closed x ls ∷ ups) y)
+            (openOwn (basisOf terms) (claimsLater c .kc) (readNow c) (y .row .no) (lineMarks (y .row)) (ltb (sinceOf c) (getD stood (y .ident) 0)) (y .ident) said)
+            ≡ openOf terms (push c (field y))
+        opens start P I = sym (early-open terms [] y)
+        opens (early ups x ls) P I = sym (early-open terms (closed x ls ∷ ups) y)
         opens (atHead b h ls) P I = rw (no-zero (h .no) P) (open-in b h ls [] y (ltb (h .no) (getD stood (y .ident) 0)) (unfold stands in le-ltb (h .no) (getD stood (y .ident) 0) (I (y .ident))))
         opens (atField b h hl ups x ls) P I = rw (no-zero (h .no) (P .0)) (open-in b h hl (closed x ls ∷ ups) y (ltb (h .no) (getD stood (y .ident) 0)) (I (y .ident)))
 
-        same-since : (c : Open) → sinceOf c ≡ sinceOf (push c (field y))
+        same-since : (c : Pieces) → sinceOf c ≡ sinceOf (push c (field y))
         same-since start = refl
         same-since (early ups x ls) = refl
         same-since (atHead b h ls) = refl
         same-since (atField b h hl ups x ls) = refl
 
-        same-own : (c : Open) → ownOf c ≡ ownOf (push c (field y))
+        same-own : (c : Pieces) → ownOf c ≡ ownOf (push c (field y))
         same-own start = refl
         same-own (early ups x ls) = refl
         same-own (atHead b h ls) = refl
         same-own (atField b h hl ups x ls) = refl
 
-        same-read : (c : Open) → readNow c ≡ readNow (push c (field y))
+        same-read : (c : Pieces) → readNow c ≡ readNow (push c (field y))
         same-read start = refl
         same-read (early ups x ls) = refl
         same-read (atHead b h ls) = refl
         same-read (atField b h hl ups x ls) = refl
 
-        pends : (c : Open) → Positive c → Pending (push c (field y)) (cond (eqb (sinceOf c) 0) p (pendOf p (y .ident) said))
+        pends : (c : Pieces) → Positive c → Pending (push c (field y)) (cond (eqb (sinceOf c) 0) p (pendOf p (y .ident) said))
         pends start P = tt
         pends (early ups x ls) P = tt
         pends (atHead b h ls) P = rw (no-zero (h .no) P) (pending-own (atHead b h ls) y p)
         pends (atField b h hl ups x ls) P = rw (no-zero (h .no) (P .0)) (pending-own (atField b h hl ups x ls) y p)
 
-        same-above : (c : Open) → above c ≡ above (push c (field y))
+        same-above : (c : Pieces) → above c ≡ above (push c (field y))
         same-above start = refl
         same-above (early ups x ls) = refl
         same-above (atHead b h ls) = refl
         same-above (atField b h hl ups x ls) = refl
 
-        numbers : (c : Open) → Numbered c n → Numbered (push c (field y)) (suc n)
+        numbers : (c : Pieces) → Numbered c n → Numbered (push c (field y)) (suc n)
         numbers start N = (omega arith, small)
         numbers (early ups x ls) N = (omega arith, small)
         numbers (atHead b h ls) N = (omega arith, omega arith, small)
         numbers (atField b h hl ups x ls) N = (omega (arith, N), omega arith, small)
 
-        stay : (c : Open) → Positive c → Positive (push c (field y))
+        stay : (c : Pieces) → Positive c → Positive (push c (field y))
         stay start P = omega arith
         stay (early ups x ls) P = omega arith
         stay (atHead b h ls) P = (P, omega arith)
         stay (atField b h hl ups x ls) P = (P .0, omega arith)
 
-        stays : (c : Open) → Stood c stood → Numbered c n → Stood (push c (field y)) (set stood (y .ident) (y .row .no))
+        stays : (c : Pieces) → Stood c stood → Numbered c n → Stood (push c (field y)) (set stood (y .ident) (y .row .no))
         stays start I N = tt
         stays (early ups x ls) I N = tt
         stays (atHead b h ls) I N =
@@ -382,8 +363,8 @@ module _ (code today : ℕ) where
       reads-as = sym (read-own k) ∙ read-then c;
       claims-are = no-claims-is ∙ none c;
       pending = pends c;
-      account-is = ap (λ (x : Shut). x .block) closing-is ∙ item-says code today c [] .1 ∙ ap accountOf (same c);
-      wait-is = ap (λ (x : Shut). x .wait) closing-is ∙ item-says code today c [] .2 ∙ ap (wait code today) (same c);
+      account-is = ap (λ (x : Shut). x .block) closing-is ∙ item-says terms c (M .positive) [] .1 ∙ ap accountOf (same c);
+      wait-is = ap (λ (x : Shut). x .wait) closing-is ∙ item-says terms c (M .positive) [] .2 ∙ ap (wait terms) (same c);
       numbered = numbers c;
       positive = stay c;
       long = M .long;
@@ -391,55 +372,55 @@ module _ (code today : ℕ) where
       inside = stays c;
     }
       where
-        opens : (c : Open) → noOpen ≡ openOf today (push c (heading k))
+        opens : (c : Pieces) → noOpen ≡ openOf terms (push c (heading k))
         opens start = refl
         opens (early ups x ls) = refl
         opens (atHead b h ls) = refl
         opens (atField b h hl ups x ls) = refl
 
-        since-then : (c : Open) → k .no ≡ sinceOf (push c (heading k))
+        since-then : (c : Pieces) → k .no ≡ sinceOf (push c (heading k))
         since-then start = refl
         since-then (early ups x ls) = refl
         since-then (atHead b h ls) = refl
         since-then (atField b h hl ups x ls) = refl
 
-        own-then : (c : Open) → lineMarks k ≡ ownOf (push c (heading k))
+        own-then : (c : Pieces) → lineMarks k ≡ ownOf (push c (heading k))
         own-then start = refl
         own-then (early ups x ls) = refl
         own-then (atHead b h ls) = refl
         own-then (atField b h hl ups x ls) = refl
 
-        read-then : (c : Open) → headOf (closed k []) ≡ readNow (push c (heading k))
+        read-then : (c : Pieces) → headOf (closed k []) ≡ readNow (push c (heading k))
         read-then start = refl
         read-then (early ups x ls) = refl
         read-then (atHead b h ls) = refl
         read-then (atField b h hl ups x ls) = refl
 
-        none : (c : Open) → claimsOf [] ≡ claimsNow (push c (heading k))
+        none : (c : Pieces) → claimsOf [] ≡ claimsNow (push c (heading k))
         none start = refl
         none (early ups x ls) = refl
         none (atHead b h ls) = refl
         none (atField b h hl ups x ls) = refl
 
-        pends : (c : Open) → Pending (push c (heading k)) p
+        pends : (c : Pieces) → Pending (push c (heading k)) p
         pends start = tt
         pends (early ups x ls) = tt
         pends (atHead b h ls) = tt
         pends (atField b h hl ups x ls) = tt
 
-        same : (c : Open) → aboveThen c ≡ above (push c (heading k))
+        same : (c : Pieces) → aboveThen c ≡ above (push c (heading k))
         same start = refl
         same (early ups x ls) = refl
         same (atHead b h ls) = refl
         same (atField b h hl ups x ls) = refl
 
-        numbers : (c : Open) → Numbered (push c (heading k)) (suc n)
+        numbers : (c : Pieces) → Numbered (push c (heading k)) (suc n)
         numbers start = omega arith
         numbers (early ups x ls) = omega arith
         numbers (atHead b h ls) = omega arith
         numbers (atField b h hl ups x ls) = omega arith
 
-        stay : (c : Open) → Positive (push c (heading k))
+        stay : (c : Pieces) → Positive (push c (heading k))
         stay start = omega arith
         stay (early ups x ls) = omega arith
         stay (atHead b h ls) = omega arith
@@ -448,7 +429,7 @@ module _ (code today : ℕ) where
         first : (j : ℕ) → getD stood j 0 ≤ k .no
         first j = let q : getD stood j 0 ≤ n = M .past j in omega arith
 
-        stays : (c : Open) → Stood (push c (heading k)) stood
+        stays : (c : Pieces) → Stood (push c (heading k)) stood
         stays start = first
         stays (early ups x ls) = first
         stays (atHead b h ls) = first

@@ -2,14 +2,13 @@
 use mathlib.Core.Path.{_≡_, refl, sym, ap, _∙_}
 use mathlib.Core.Bool.{Bool, true, false, cond, not, _&&_, _||_}
 use mathlib.Core.List.{List, [], _∷_}
-use Prim.Native.Nat.{ℕ, zero, suc, _+_, _*_, _%_, _≤_, _<_, min}
-use native.Mathlib.Nat.{add-assoc}
+use Prim.Native.Nat.{ℕ, suc, _+_, _*_, _%_, _<_, min}
 use native.Mathlib.Numerals.{add-one}
 use native.Mathlib.Omega.{arith}
 use lib.Dec.{eqb, ltb, leb}
 use lib.ListN.{length}
-use borrow.Author.Tests.{le-leb, lt-leb, le-ltb, lt-ltb, leb-true, leb-false, ltb-true, ltb-false, eqb-true, ne-eqb}
-use Rattle.laws.specs.Tests.{mark, among}
+use borrow.Author.Tests.{le-leb, lt-leb, le-ltb, lt-ltb, ltb-true, ltb-false, eqb-true, ne-eqb}
+use Rattle.laws.specs.Tests.{mark}
 use Rattle.headings.specs.declared.Read.{Read}
 use Rattle.headings.specs.declared.Read.the-variants.{Reads, Unreadable}
 use Rattle.fields.specs.declared.classes.Class.{Class}
@@ -18,30 +17,29 @@ use Rattle.fields.specs.declared.readings.Reading.{Reading}
 use Rattle.fields.specs.declared.readings.Reading.the-variants.{Broken, Plain, Paid, Span, Stated, Party}
 use Rattle.fields.specs.declared.tails.Tail.{Tail}
 use Rattle.fields.specs.Kinds.{named, place}
-use Rattle.fields.specs.Classes.{classBy, classOf}
+use Rattle.fields.specs.Classes.{classOf}
 use Rattle.fields.specs.Readings.{textOf, readingOf, ifFits}
-use Rattle.fields.specs.Tails.{isBroken, allFit, tailOf, tailMore, takesBy, saysOf}
+use Rattle.fields.specs.Tails.{isBroken, allFit, tailOf, tailMore, takesBy}
 use Rattle.fields.proofs.Kept.{broken, tail-more}
-use Rattle.blocks.specs.declared.Job.{Job}
-use Rattle.blocks.specs.Model.{jobOf}
-use Rattle.blocks.proofs.Accounting.{same-eight}
-use Rattle.ledger.specs.Faults.{Fault}
+use Rattle.rules.specs.Terms.{Terms}
+use Rattle.rules.specs.Faults.{Fault}
+use Rattle.rules.specs.Rows.{Row, FieldRow, LowRow, low}
+use Rattle.rules.specs.Tree.{Item, Owned}
+use Rattle.rules.specs.Said.{headOf, continuations, says, stands}
+use Rattle.rules.specs.Spots.{fieldSpot}
+use Rattle.rules.specs.LineRules.{rule1}
+use Rattle.rules.specs.FieldRules.{rule6, failsCheck, late, large}
 use Rattle.ledger.specs.Marks.{insertAll, marked}
 use Rattle.ledger.proofs.Entries.{putAll, put}
-use Rattle.items.specs.Rows.{Row, FieldRow, LowRow, low}
-use Rattle.items.specs.Tree.{Item}
-use Rattle.items.specs.Tree.{Group as Owned}
-use Rattle.items.specs.Headings.{headOf}
-use Rattle.items.specs.Faults.{fieldSpot}
-use Rattle.items.specs.Fields.{rule1, continuations, says, stands, rule6, failsCheck, isFirstKc, late, large}
-use Rattle.items.specs.State.{lateBy, kcMarks}
-use Rattle.items.proofs.Sets.{lineMarks, fieldMarks, field-set, looseMarks, loose-set}
-use Rattle.items.proofs.Ideal.{Open, start, early, atHead, atField, closed, push}
-use Rattle.items.proofs.Shutting.{put-none}
+use Rattle.blocks.specs.Model.{basisOf}
+use Rattle.account.proofs.Accounting.{same-eight}
+use Rattle.items.proofs.Ideal.{start, early, atHead, atField, closed, push, Pieces}
 use Rattle.items.proofs.Turned.{says-closed}
-use Rattle.items.proofs.Meant.{job, late-is, broken-is, fieldsOut}
-use Rattle.judging.specs.declared.opening.Open.{Open as Held}
-use Rattle.judging.specs.Opening.{codeBy, codeOf, breaksTail, noOpen, brokenBy, moreOpen, lowOpen, fitsBy, saidMarks}
+use Rattle.items.proofs.Puts.{fieldsOut}
+use Rattle.judging.specs.declared.opening.Open.{Open}
+use Rattle.judging.specs.Opening.{kcMarks, codeBy, codeOf, breaksTail, noOpen, brokenBy, moreOpen, lowOpen, fitsBy, saidMarks, lateBy}
+use Rattle.judging.proofs.Sets.{lineMarks, fieldMarks, field-set, looseMarks, loose-set}
+use Rattle.judging.proofs.Shutting.{put-none, Positive}
 
 -- ---- a class as a number says whether a tail breaks it
 abbrev breaksAs : Class → ℕ → ℕ → Bool
@@ -212,10 +210,23 @@ six a b c d own h = ap fitsBy (over own (mark 6 a) (mark 7 b) (mark 8 c + mark 9
     go true q = let e : (own + 64 + 128 * q) % 128 ≡ own + 64 = omega arith in rw e (le-ltb (own + 64) 64 (omega arith))
     go false q = let e : (own + 0 + 128 * q) % 128 ≡ own = omega arith in rw e (lt-ltb own 64 h)
 
-module _ (today : ℕ) where
+late-is : (terms : Terms) (h : Read) (r : Reading) → lateBy (basisOf terms) h r ≡ late terms h r
+late-is terms (Reads h) Broken = refl
+late-is terms (Reads h) Plain = refl
+late-is terms (Reads h) (Paid a d) = same-eight terms (h .kind) d
+late-is terms (Reads h) (Span a b) = refl
+late-is terms (Reads h) (Stated n a) = refl
+late-is terms (Reads h) (Party b) = refl
+late-is terms Unreadable r = refl
+
+broken-is : (x : FieldRow) (ls : List LowRow) → isBroken (says (closed x ls)) ≡ rule6 (closed x ls)
+unfolding says
+broken-is x ls = broken (classOf (x .ident)) (x .row .bytes) (continuations (closed x ls .below))
+
+module _ (terms : Terms) where
   -- 6 to 9 by what the field says
   abbrev high : Bool → Read → Reading → ℕ
-  high first r said = mark 6 (isBroken said) + mark 7 (failsCheck said) + (mark 8 (first && late today r said) + mark 9 (first && large r said))
+  high first r said = mark 6 (isBroken said) + mark 7 (failsCheck said) + (mark 8 (first && late terms r said) + mark 9 (first && large r said))
 
   high-broken : (first : Bool) (r : Read) → high first r Broken ≡ 64
   high-broken true (Reads h) = refl
@@ -226,7 +237,7 @@ module _ (today : ℕ) where
   -- a mark below 64 and what is broken
   broken-marks : (own : ℕ) (first : Bool) (r : Read) (said : Reading) → own < 64 → own + high first r Broken ≡ (own + high first r said) % 64 + 64
   broken-marks own first r said h =
-      let q = by-64 (isBroken said) (failsCheck said) (first && late today r said) (first && large r said) in
+      let q = by-64 (isBroken said) (failsCheck said) (first && late terms r said) (first && large r said) in
       rw (high-broken first r, q .1, low-part own (q .0) h)
 
   module _ (r : Read) (ups : List (Owned FieldRow)) (x : FieldRow) where
@@ -236,16 +247,16 @@ module _ (today : ℕ) where
     abbrev first : Bool
     first = eqb (x .ident) (named "KC") && not (stands (named "KC") ups)
 
-    field-sum : (ls : List LowRow) → fieldMarks today r ups (closed x ls) ≡ own + high first r (says (closed x ls))
+    field-sum : (ls : List LowRow) → fieldMarks terms r ups (closed x ls) ≡ own + high first r (says (closed x ls))
     unfolding fieldMarks
     field-sum ls =
-        ap (λ (t : Bool). lineMarks (x .row) + (mark 5 (stands (x .ident) ups) + mark 6 t + mark 7 (failsCheck (says (closed x ls))) + mark 8 (first && late today r (says (closed x ls))) + mark 9 (first && large r (says (closed x ls)))))
-        (sym (broken-is 0 today x ls))
+        ap (λ (t : Bool). lineMarks (x .row) + (mark 5 (stands (x .ident) ups) + mark 6 t + mark 7 (failsCheck (says (closed x ls))) + mark 8 (first && late terms r (says (closed x ls))) + mark 9 (first && large r (says (closed x ls)))))
+        (sym (broken-is x ls))
         ∙ regroup _ _ _ _ _ _
 
     -- one continuation more
     pub marks-more : (l : LowRow) (ls : List LowRow) → l .continues ≡ true
-        → fieldMarks today r ups (closed x (l ∷ ls)) ≡ brokenBy (breaksTail (codeOf (x .ident)) (suc (length (continuations ls))) (length (l .row .bytes))) (fieldMarks today r ups (closed x ls))
+        → fieldMarks terms r ups (closed x (l ∷ ls)) ≡ brokenBy (breaksTail (codeOf (x .ident)) (suc (length (continuations ls))) (length (l .row .bytes))) (fieldMarks terms r ups (closed x ls))
     marks-more l ls e =
         field-sum (l ∷ ls) ∙ ap (λ (s : Reading). own + high first r s) (says-more x l ls e)
         ∙ go (breaksTail (codeOf (x .ident)) (suc (length (continuations ls))) (length (l .row .bytes)))
@@ -256,30 +267,23 @@ module _ (today : ℕ) where
         go false = refl
 
     -- a line of no kind
-    pub marks-same : (l : LowRow) (ls : List LowRow) → l .continues ≡ false → fieldMarks today r ups (closed x (l ∷ ls)) ≡ fieldMarks today r ups (closed x ls)
+    pub marks-same : (l : LowRow) (ls : List LowRow) → l .continues ≡ false → fieldMarks terms r ups (closed x (l ∷ ls)) ≡ fieldMarks terms r ups (closed x ls)
     marks-same l ls e = field-sum (l ∷ ls) ∙ ap (λ (s : Reading). own + high first r s) (says-same x l ls e) ∙ sym (field-sum ls)
 
     -- at its own line
-    pub marks-own : (code : ℕ) → fieldMarks today r ups (closed x []) ≡ own + saidMarks (job code today) first r (readingOf (classOf (x .ident)) (textOf (x .row .bytes)))
+    pub marks-own : fieldMarks terms r ups (closed x []) ≡ own + saidMarks (basisOf terms) first r (readingOf (classOf (x .ident)) (textOf (x .row .bytes)))
     unfolding kcMarks saidMarks
-    marks-own code =
+    marks-own =
         field-sum [] ∙ ap (λ (s : Reading). own + high first r s) (says-own x)
-        ∙ (λ i. let s = readingOf (classOf (x .ident)) (textOf (x .row .bytes)) in own + (mark 6 (isBroken s) + mark 7 (failsCheck s) + (mark 8 (first && sym (late-is code today r s) i) + mark 9 (first && large r s))))
+        ∙ (λ i. let s = readingOf (classOf (x .ident)) (textOf (x .row .bytes)) in own + (mark 6 (isBroken s) + mark 7 (failsCheck s) + (mark 8 (first && sym (late-is terms r s) i) + mark 9 (first && large r s))))
 
     -- bit 6 says whether it reads
-    pub fits-is : (ls : List LowRow) → fitsBy (fieldMarks today r ups (closed x ls)) ≡ not (isBroken (says (closed x ls)))
-    fits-is ls = ap fitsBy (field-sum ls) ∙ six (isBroken (says (closed x ls))) (failsCheck (says (closed x ls))) (first && late today r (says (closed x ls))) (first && large r (says (closed x ls))) own (own-small (x .row) (stands (x .ident) ups))
+    pub fits-is : (ls : List LowRow) → fitsBy (fieldMarks terms r ups (closed x ls)) ≡ not (isBroken (says (closed x ls)))
+    fits-is ls = ap fitsBy (field-sum ls) ∙ six (isBroken (says (closed x ls))) (failsCheck (says (closed x ls))) (first && late terms r (says (closed x ls))) (first && large r (says (closed x ls))) own (own-small (x .row) (stands (x .ident) ups))
 
 -- ---- the open field over the tree's open pieces
-abbrev pub openAt : ℕ → ℕ → ℕ → ℕ → Held
+abbrev pub openAt : ℕ → ℕ → ℕ → ℕ → Open
 openAt n m k t = record { no = n; marks = m; class = k; tail = t }
-
--- the numbers of what is open are none of them 0
-abbrev pub Positive : Open → Type 0
-Positive start = Unit {0}
-Positive (early ups x ls) = 0 < x .row .no
-Positive (atHead b h ls) = 0 < h .no
-Positive (atField b h hl ups x ls) = (0 < h .no) × (0 < x .row .no)
 
 -- where it is continued
 abbrev counted : List LowRow → ℕ
@@ -297,15 +301,15 @@ loose-same : (x : FieldRow) (ls ms : List LowRow) → looseMarks (closed x ls) �
 unfolding looseMarks
 loose-same x ls ms = refl
 
-module _ (today : ℕ) where
-  abbrev pub openOf : Open → Held
+module _ (terms : Terms) where
+  abbrev pub openOf : Pieces → Open
   openOf start = noOpen
   openOf (early ups x ls) = openAt (x .row .no) (looseMarks (closed x ls)) 0 (counted ls)
   openOf (atHead b h ls) = noOpen
-  openOf (atField b h hl ups x ls) = openAt (x .row .no) (fieldMarks today (headOf (closed h hl)) ups (closed x ls)) (codeOf (x .ident)) (counted ls)
+  openOf (atField b h hl ups x ls) = openAt (x .row .no) (fieldMarks terms (headOf (closed h hl)) ups (closed x ls)) (codeOf (x .ident)) (counted ls)
 
   -- a line below it
-  pub low-open : (c : Open) (l : LowRow) → Positive c → openOf (push c (low l)) ≡ lowOpen (l .continues) (openOf c) (length (l .row .bytes))
+  pub low-open : (c : Pieces) (l : LowRow) → Positive c → openOf (push c (low l)) ≡ lowOpen (l .continues) (openOf c) (length (l .row .bytes))
   low-open start l P = go (l .continues)
     where
       go : (t : Bool) → noOpen ≡ cond (t && false) (moreOpen noOpen (length (l .row .bytes))) noOpen
@@ -331,28 +335,28 @@ module _ (today : ℕ) where
       go : (t : Bool) → l .continues ≡ t
           → openOf (atField b h hl ups x (l ∷ ls)) ≡ cond (t && true) (moreOpen (openOf (atField b h hl ups x ls)) (length (l .row .bytes))) (openOf (atField b h hl ups x ls))
       go true e =
-          (λ i. openAt (x .row .no) (marks-more today (headOf (closed h hl)) ups x l ls e i) (codeOf (x .ident)) (counted-more l ls e i))
-          ∙ (λ i. openAt (x .row .no) (brokenBy (breaksTail (codeOf (x .ident)) (sym (add-one (counted ls)) i) (length (l .row .bytes))) (fieldMarks today (headOf (closed h hl)) ups (closed x ls))) (codeOf (x .ident)) (counted ls + 1))
-      go false e = λ i. openAt (x .row .no) (marks-same today (headOf (closed h hl)) ups x l ls e i) (codeOf (x .ident)) (counted-same l ls e i)
+          (λ i. openAt (x .row .no) (marks-more terms (headOf (closed h hl)) ups x l ls e i) (codeOf (x .ident)) (counted-more l ls e i))
+          ∙ (λ i. openAt (x .row .no) (brokenBy (breaksTail (codeOf (x .ident)) (sym (add-one (counted ls)) i) (length (l .row .bytes))) (fieldMarks terms (headOf (closed h hl)) ups (closed x ls))) (codeOf (x .ident)) (counted ls + 1))
+      go false e = λ i. openAt (x .row .no) (marks-same terms (headOf (closed h hl)) ups x l ls e i) (codeOf (x .ident)) (counted-same l ls e i)
 
   -- a field above every heading, and a field of an item
-  pub early-open : (code : ℕ) (ups : List (Owned FieldRow)) (y : FieldRow) → openOf (early ups y []) ≡ openAt (y .row .no) (lineMarks (y .row) + 8) 0 0
+  pub early-open : (ups : List (Owned FieldRow)) (y : FieldRow) → openOf (early ups y []) ≡ openAt (y .row .no) (lineMarks (y .row) + 8) 0 0
   unfolding looseMarks continuations
-  early-open code ups y = refl
+  early-open ups y = refl
 
-  pub field-open : (code : ℕ) (b : List Item) (h : Row) (hl : List LowRow) (ups : List (Owned FieldRow)) (y : FieldRow)
+  pub field-open : (b : List Item) (h : Row) (hl : List LowRow) (ups : List (Owned FieldRow)) (y : FieldRow)
       → openOf (atField b h hl ups y [])
       ≡ openAt (y .row .no)
       (lineMarks (y .row) + mark 5 (stands (y .ident) ups)
-      + saidMarks (job code today) (eqb (y .ident) (named "KC") && not (stands (named "KC") ups)) (headOf (closed h hl)) (readingOf (classOf (y .ident)) (textOf (y .row .bytes))))
+      + saidMarks (basisOf terms) (eqb (y .ident) (named "KC") && not (stands (named "KC") ups)) (headOf (closed h hl)) (readingOf (classOf (y .ident)) (textOf (y .row .bytes))))
       (codeOf (y .ident)) 0
   unfolding continuations
-  field-open code b h hl ups y = ap (λ (m : ℕ). openAt (y .row .no) m (codeOf (y .ident)) 0) (marks-own today (headOf (closed h hl)) ups y code)
+  field-open b h hl ups y = ap (λ (m : ℕ). openAt (y .row .no) m (codeOf (y .ident)) 0) (marks-own terms (headOf (closed h hl)) ups y)
 
   -- what is entered when it closes
-  pub close-open : (code : ℕ) (c : Open) (l : List Fault) → putAll put (fieldsOut code today c) l ≡ insertAll (marked (openOf c .no) (openOf c .marks)) l
+  pub close-open : (c : Pieces) (l : List Fault) → putAll put (fieldsOut terms c) l ≡ insertAll (marked (openOf c .no) (openOf c .marks)) l
   unfolding fieldSpot
-  close-open code start l = sym (put-none 0 l)
-  close-open code (early ups x ls) l = ap (λ (m : ℕ). insertAll (marked (x .row .no) m) l) (loose-set (closed x ls))
-  close-open code (atHead b h ls) l = sym (put-none 0 l)
-  close-open code (atField b h hl ups x ls) l = ap (λ (m : ℕ). insertAll (marked (x .row .no) m) l) (field-set today (headOf (closed h hl)) ups (closed x ls))
+  close-open start l = sym (put-none 0 l)
+  close-open (early ups x ls) l = ap (λ (m : ℕ). insertAll (marked (x .row .no) m) l) (loose-set (closed x ls))
+  close-open (atHead b h ls) l = sym (put-none 0 l)
+  close-open (atField b h hl ups x ls) l = ap (λ (m : ℕ). insertAll (marked (x .row .no) m) l) (field-set terms (headOf (closed h hl)) ups (closed x ls))

@@ -1,35 +1,27 @@
--- The open field as four numbers: its line, its marks as they stand, the number of its class, its continuations so far.
-use Prim.Native.Nat.{ℕ, suc, _+_, _%_}
-use mathlib.Core.Bool.{Bool, true, false, cond, not, _&&_, _||_}
-use mathlib.Core.List.{List, _++_}
+-- Model of the code, not part of the statement: the open field as four numbers, its line, its marks as they stand, the number of its class
+-- and its continuations so far; and what the item's fields claim as they close.
+use Prim.Native.Nat.{ℕ, _+_, _%_}
+use mathlib.Core.Bool.{Bool, false, cond, not, _&&_, _||_}
 use lib.Dec.{eqb, ltb, leb}
 use Rattle.laws.specs.Tests.{mark}
-use Rattle.ledger.specs.Faults.{Fault}
-use Rattle.ledger.specs.Marks.{marked}
 use Rattle.headings.specs.declared.Heading.{Heading}
 use Rattle.headings.specs.declared.Read.{Read}
 use Rattle.headings.specs.declared.Read.the-variants.{Reads, Unreadable}
 use Rattle.fields.specs.declared.classes.Class.{Class}
 use Rattle.fields.specs.declared.classes.Class.the-variants.{Money, Number, Range, Group, Account, Text, Free}
 use Rattle.fields.specs.declared.readings.Reading.{Reading}
-use Rattle.fields.specs.declared.readings.Reading.the-variants.{Plain}
+use Rattle.fields.specs.declared.readings.Reading.the-variants.{Broken, Plain, Paid, Span, Stated, Party}
 use Rattle.fields.specs.Kinds.{named}
 use Rattle.fields.specs.Classes.{classOf}
 use Rattle.fields.specs.Readings.{ifFits}
 use Rattle.fields.specs.Tails.{isBroken}
-use Rattle.blocks.specs.declared.Job.{Job}
-use Rattle.blocks.specs.declared.Kc.{Kc}
-use Rattle.blocks.specs.declared.Block.{Block}
-use Rattle.blocks.specs.declared.Item.{Item as Digest}
-use Rattle.blocks.specs.OwnRules.{noKc}
-use Rattle.blocks.specs.Items.{closesAt}
-use Rattle.blocks.specs.Model.{closeModel as blockModel}
+use Rattle.rules.specs.declared.FirstKc.{FirstKc}
+use Rattle.rules.specs.HeadingRules.{noKc}
+use Rattle.rules.specs.FieldRules.{failsCheck, large}
+use Rattle.blocks.specs.declared.Basis.{Basis}
+use Rattle.blocks.specs.Model.{breaks8}
 use Rattle.items.specs.declared.Claims.{Claims}
-use Rattle.items.specs.declared.Wait.{Wait}
-use Rattle.items.specs.declared.Shut.{Shut}
-use Rattle.items.specs.Fields.{failsCheck}
-use Rattle.items.specs.Headings.{isUnreadable}
-use Rattle.items.specs.State.{claimsWith, kcMarks, shutAs}
+use Rattle.items.specs.Claims.{claimsWith}
 use Rattle.judging.specs.declared.opening.Pend.{Pend}
 use Rattle.judging.specs.declared.opening.Open.{Open}
 
@@ -51,6 +43,11 @@ codeOf i = cond (eqb i (named "S9")) 7 (codeBy (classOf i))
 abbrev pub breaksTail : ℕ → ℕ → ℕ → Bool
 breaksTail k tail n = ((eqb k 2 || eqb k 3) || (eqb k 5 || eqb k 6)) || (eqb k 4 && (ltb 3 tail || ltb 38 n))
 
+-- ---- marks of any line
+-- 1 and 4
+abbrev pub lineMarksOf : Bool → Bool → ℕ
+lineMarksOf bad ended = mark 1 bad + mark 4 (not ended)
+
 -- ---- the open field
 abbrev pub noOpen : Open
 noOpen = record { no = 0; marks = 0; class = 0; tail = 0 }
@@ -67,8 +64,21 @@ moreOpen o n =
 abbrev pub lowOpen : Bool → Open → ℕ → Open
 lowOpen continues o n = cond (continues && not (eqb (o .no) 0)) (moreOpen o n) o
 
--- 6 to 9, by what the field's own line says
-unfoldable pub saidMarks : Job → Bool → Read → Reading → ℕ
+-- 8 and 9, by what the field's own line says, where it is the first KC
+abbrev pub lateBy : Basis → Read → Reading → Bool
+lateBy j (Reads h) (Paid a d) = breaks8 j (h .kind) d
+lateBy j (Reads h) Broken = false
+lateBy j (Reads h) Plain = false
+lateBy j (Reads h) (Span a b) = false
+lateBy j (Reads h) (Stated n a) = false
+lateBy j (Reads h) (Party b) = false
+lateBy j Unreadable r = false
+
+unfoldable pub kcMarks : Basis → Bool → Read → Reading → ℕ
+kcMarks j first h said = mark 8 (first && lateBy j h said) + mark 9 (first && large h said)
+
+-- 6 to 9
+unfoldable pub saidMarks : Basis → Bool → Read → Reading → ℕ
 saidMarks j first h said = mark 6 (isBroken said) + mark 7 (failsCheck said) + kcMarks j first h said
 
 -- it reads: by bit 6 of its marks
@@ -101,7 +111,7 @@ abbrev pub pendOf : Pend → ℕ → Reading → Pend
 pendOf p ident said = cond (leb 5 (codeOf ident)) (record { ident = ident; said = said }) p
 
 -- a field of an item whose heading reads as r, by its own line: its marks 1 and 4, whether its identifier stood already, the first KC
-abbrev pub openOwn : Job → Kc → Read → ℕ → ℕ → Bool → ℕ → Reading → Open
+abbrev pub openOwn : Basis → FirstKc → Read → ℕ → ℕ → Bool → ℕ → Reading → Open
 openOwn j kc r n own again ident said =
     record {
       no = n;
@@ -117,16 +127,3 @@ openLoose n own = record { no = n; marks = own + 8; class = 0; tail = 0 }
 -- a continuation or a line of no kind: since is the heading's line, no the field's
 abbrev pub lowMarksAt : ℕ → ℕ → ℕ → Bool → ℕ
 lowMarksAt own since n continues = own + mark 2 ((eqb since 0 && eqb n 0) || not continues) + mark 3 (eqb since 0)
-
--- ---- an item closes, whose heading stands at the line n (0: none), has the marks m of its line and reads as r
-abbrev pub itemOf : ℕ → Read → Claims → Digest
-itemOf n r c = record { line = n; head = r; kc = c .kc; span = c .span; sums = c .sums; s9 = c .s9 }
-
-unfoldable pub closeAs : Job → Block → Wait → ℕ → ℕ → Read → Claims → Shut
-closeAs j b w n m r c =
-    let closed = blockModel j b (itemOf n r c) in
-    shutAs (not (eqb n 0)) (closesAt r) (b .any) b (closed .block) w n (m + mark 6 (isUnreadable r) + closed .marks)
-
--- what is entered then
-abbrev pub closeFaults : Job → Block → Wait → ℕ → ℕ → Read → Claims → List Fault
-closeFaults j b w n m r c = marked (w .line) (closeAs j b w n m r c .told) ++ marked n (closeAs j b w n m r c .marks)

@@ -1,18 +1,19 @@
 // An item closes: its account, its heading's marks, and the heading that waits for rule 16.
+use crate::Shut;
+use crate::Wait;
+use blocks::Basis;
 use blocks::Block;
-use blocks::Item;
-use blocks::Job;
+use blocks::marks::MARK_6;
+use blocks::marks::MARK_16;
 use blocks::marks::flag;
 use headings::Read;
 use items::Claims;
-use items::Shut;
-use items::Wait;
+use rules::Digest;
 ghost use mathlib.Core.Path.{_≡_};
 ghost use Prim.Native.Nat.{_≤_, _<_, _+_, _^_};
 ghost use Rattle.laws.specs.Tests.{mark};
-ghost use Rattle.items.specs.Headings.{isUnreadable};
-ghost use Rattle.items.specs.State.{noWait, lastMarks};
-ghost use Rattle.judging.specs.Opening.{itemOf, closeAs};
+ghost use Rattle.rules.specs.Said.{isUnreadable};
+ghost use Rattle.judging.specs.Closing.{noWait, lastMarks, digestOf, closeAs};
 
 pub fn no_wait() -> Wait
     ensures { λ r. ⌜ r ≡ noWait ⌝ }
@@ -29,14 +30,13 @@ fn is_unreadable(read: Read) -> bool
     }
 }
 
-fn item_of(no: u32, head: Read, claims: Claims) -> Item
-    ensures { λ r. ⌜ r ≡ itemOf no head claims ⌝ }
+fn digest_of(head: Read, claims: Claims) -> Digest
+    ensures { λ r. ⌜ r ≡ digestOf head claims ⌝ }
 {
     let kc = claims.kc;
     let span = claims.span;
     let sums = claims.sums;
-    Item {
-        line: no,
+    Digest {
         head,
         kc,
         span,
@@ -50,12 +50,12 @@ fn head_marks(own: u64, read: Read, marks: u64) -> u64
     requires { ⌜ (marks < 2 ^ 39) × (own ≤ 18) ⌝ }
     ensures { λ r. ⌜ (r ≡ own + mark 6 (isUnreadable read) + marks) × (r < 2 ^ 40) ⌝ }
 {
-    own + flag(is_unreadable(read), 64) + marks
+    own + flag(is_unreadable(read), MARK_6) + marks
 }
 
 // The open item closes, whose heading stands at the line `no` (0: none) and has the marks `own` of its line.
 pub fn close_item(
-    job: Job,
+    basis: Basis,
     b: Block,
     w: Wait,
     no: u32,
@@ -64,7 +64,7 @@ pub fn close_item(
     claims: Claims,
 ) -> Shut
     requires { ⌜ (w .marks < 2 ^ 40) × (own ≤ 18) ⌝ }
-    ensures { λ r. ⌜ (r ≡ closeAs job b w no own read claims) × (r .wait .marks < 2 ^ 40) × (r .told < 2 ^ 40) × (r .marks < 2 ^ 40) ⌝ }
+    ensures { λ r. ⌜ (r ≡ closeAs basis b w no own read claims) × (r .wait .marks < 2 ^ 40) × (r .told < 2 ^ 40) × (r .marks < 2 ^ 40) ⌝ }
 {
     if no == 0 {
         return Shut {
@@ -75,8 +75,8 @@ pub fn close_item(
         };
     }
     let any = b.any;
-    let item = item_of(no, read, claims);
-    let c = lending::advance(b, item, job);
+    let it = digest_of(read, claims);
+    let c = lending::advance(b, it, basis);
     let block = c.block;
     let m = head_marks(own, read, c.marks);
     if account::closes_block(read) {
@@ -109,5 +109,5 @@ pub fn last_marks(b: Block, w: Wait) -> u64
     requires { ⌜ w .marks < 2 ^ 40 ⌝ }
     ensures { λ r. ⌜ (r ≡ lastMarks b w) × (r < 2 ^ 41) ⌝ }
 {
-    flag(b.any, w.marks + 65536)
+    flag(b.any, w.marks + MARK_16)
 }

@@ -1,7 +1,12 @@
 // The open field: it is judged at its own line, and only its marks are kept. A continuation can only break it.
-use crate::claiming;
-use blocks::Job;
-use blocks::Kc;
+use blocks::Basis;
+use blocks::marks::MARK_2;
+use blocks::marks::MARK_3;
+use blocks::marks::MARK_5;
+use blocks::marks::MARK_6;
+use blocks::marks::MARK_7;
+use blocks::marks::MARK_8;
+use blocks::marks::MARK_9;
 use blocks::marks::flag;
 use fields::classes;
 use fields::classes::Class;
@@ -10,14 +15,17 @@ use fields::readings::Reading;
 use headings::Heading;
 use headings::Read;
 use items::Claims;
+use items::claiming;
+use rules::FirstKc;
 ghost use mathlib.Core.Path.{_≡_};
 ghost use mathlib.Core.Bool.{cond, not};
 ghost use Prim.Native.Nat.{_≤_, _<_, _^_};
 ghost use lib.Dec.{eqb};
 ghost use Rattle.fields.specs.Classes.{classOf};
 ghost use Rattle.fields.specs.Readings.{ifFits};
-ghost use Rattle.items.specs.Headings.{isUnreadable};
-ghost use Rattle.items.specs.State.{claimsWith};
+ghost use Rattle.rules.specs.declared.FirstKc.{FirstKc};
+ghost use Rattle.rules.specs.Said.{isUnreadable};
+ghost use Rattle.items.specs.Claims.{claimsWith};
 ghost use Rattle.judging.specs.Opening.{codeBy, codeOf, breaksTail, brokenBy, noOpen, moreOpen, lowOpen, readAs, saidMarks, fitsBy, ownClaims, closeClaims, headingIn, noPend, pendOf, openOwn, openLoose, lowMarksAt};
 
 // Its line (0: none), its marks as they stand, the number of its class, its continuations.
@@ -65,7 +73,11 @@ fn breaks_tail(class: u8, tail: u32, length: usize) -> bool
 fn broken_by(breaks: bool, marks: u64) -> u64
     ensures { λ r. ⌜ r ≡ brokenBy breaks marks ⌝ }
 {
-    if breaks { marks % 64 + 64 } else { marks }
+    if breaks {
+        marks % MARK_6 + MARK_6
+    } else {
+        marks
+    }
 }
 
 // One continuation more: where the class does not let it, the field is broken, and 7 falls away.
@@ -99,7 +111,7 @@ pub fn low_marks(own: u64, since: u32, no: u32, continues: bool) -> u64
     requires { ⌜ own ≤ 18 ⌝ }
     ensures { λ r. ⌜ r ≡ lowMarksAt own since no continues ⌝ }
 {
-    own + flag(((since == 0) & (no == 0)) | !continues, 4) + flag(since == 0, 8)
+    own + flag(((since == 0) & (no == 0)) | !continues, MARK_2) + flag(since == 0, MARK_3)
 }
 
 fn code_by(class: Class) -> u8
@@ -128,25 +140,25 @@ pub fn code_of(ident: usize, class: Class) -> u8
 }
 
 // 6 to 9; 8 and 9 only where it is the item's first KC, and the heading reads.
-fn said_marks(job: Job, first: bool, reads: bool, h: Heading, said: Reading) -> u64
-    ensures { λ r. ⌜ (r ≡ saidMarks job first (readAs reads h) said) × (r ≤ 768) ⌝ }
+fn said_marks(basis: Basis, first: bool, reads: bool, h: Heading, said: Reading) -> u64
+    ensures { λ r. ⌜ (r ≡ saidMarks basis first (readAs reads h) said) × (r ≤ 768) ⌝ }
 {
     match said {
-        Reading::Broken => 64,
+        Reading::Broken => MARK_6,
         Reading::Plain => 0,
         Reading::Paid(amount, day) => {
             flag(
-                (first & reads) & blocks::own_rules::breaks_eight(job, h.kind, day),
-                256,
+                (first & reads) & blocks::own_rules::breaks_eight(basis, h.kind, day),
+                MARK_8,
             )
                 + flag(
                     (first & reads) & blocks::own_rules::breaks_nine(h.kind, amount),
-                    512,
+                    MARK_9,
                 )
         }
         Reading::Span(_, _) => 0,
         Reading::Stated(_, _) => 0,
-        Reading::Party(holds) => flag(!holds, 128),
+        Reading::Party(holds) => flag(!holds, MARK_7),
     }
 }
 
@@ -155,7 +167,11 @@ pub fn claim_closed(claims: Claims, o: Open, p: Pend) -> Claims
     ensures { λ r. ⌜ r ≡ claimsWith claims (p .ident) (ifFits (fitsBy (o .marks)) (p .said)) ⌝ }
 {
     let said = p.said;
-    claiming::with_claim(claims, p.ident, readings::if_fits(o.marks % 128 < 64, said))
+    claiming::with_claim(
+        claims,
+        p.ident,
+        readings::if_fits(o.marks % MARK_7 < MARK_6, said),
+    )
 }
 
 // A KC is claimed at its own line.
@@ -181,8 +197,8 @@ pub fn keep_own(pend: Pend, class: u8, ident: usize, said: Reading) -> Pend
 
 // A field opens; `kc` is the item's first KC above it, `again` says whether its identifier stood already in the item.
 pub fn field_open(
-    job: Job,
-    kc: Kc,
+    basis: Basis,
+    kc: FirstKc,
     since: u32,
     reads: bool,
     h: Heading,
@@ -194,12 +210,12 @@ pub fn field_open(
     said: Reading,
 ) -> Open
     requires { ⌜ (class ≡ codeOf ident) × (own ≤ 18) ⌝ }
-    ensures { λ r. ⌜ r ≡ cond (eqb since 0) (openLoose no own) (openOwn job kc (readAs reads h) no own again ident said) ⌝ }
+    ensures { λ r. ⌜ r ≡ cond (eqb since 0) (openLoose no own) (openOwn basis kc (readAs reads h) no own again ident said) ⌝ }
 {
     if since == 0 {
         return Open {
             no,
-            marks: own + 8,
+            marks: own + MARK_3,
             class: 0,
             tail: 0,
         };
@@ -207,7 +223,7 @@ pub fn field_open(
     let first = (ident == classes::KC) & blocks::own_rules::has_no_kc(kc);
     Open {
         no,
-        marks: own + flag(again, 32) + said_marks(job, first, reads, h, said),
+        marks: own + flag(again, MARK_5) + said_marks(basis, first, reads, h, said),
         class,
         tail: 0,
     }

@@ -29,7 +29,7 @@ fn show_class(class: Class, ident: usize) {
         Class::Range => word(b"range"),
         Class::Group => {
             word(b"group");
-            number(fields::classes::group_of(ident) as u64);
+            number(fields::classes::sum_group(ident) as u64);
         }
         Class::Account => word(b"account"),
         Class::Text => word(b"text"),

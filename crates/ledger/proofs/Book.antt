@@ -6,8 +6,8 @@ use native.Mathlib.Nat.{min-zero, suc-min-suc}
 use native.Mathlib.Omega.{arith}
 use lib.ListN.{length, take, drop, take-append-drop}
 use lib.Seq.{drop-nil}
+use Rattle.rules.specs.Faults.{Fault, written}
 use Rattle.ledger.specs.declared.Ledger.{Ledger}
-use Rattle.ledger.specs.Faults.{Fault, written}
 use Rattle.ledger.specs.Marks.{insertAll}
 use Rattle.ledger.specs.Slices.{pairs, held, Ready, Put, Entered, Listed}
 use Rattle.ledger.proofs.Insertion.{length-insertAll, insertAll-append}

@@ -6,8 +6,8 @@ use native.Mathlib.Omega.{arith}
 use lib.ListN.{length, length-append}
 use lib.Bits.{bitAnd, and-le-r}
 use lib.Count.{ones, trailingZeros}
+use Rattle.rules.specs.Faults.{Fault, fault}
 use Rattle.ledger.specs.declared.Ledger.{Ledger}
-use Rattle.ledger.specs.Faults.{Fault, fault}
 use Rattle.ledger.specs.Marks.{marked}
 use Rattle.ledger.specs.Slices.{Ready, Put, Entered}
 use Rattle.ledger.proofs.Marks.{least-rule, no-rules, marked-count}

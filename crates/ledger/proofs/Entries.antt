@@ -2,11 +2,13 @@
 use mathlib.Core.Path.{_≡_, refl, sym, ap, _∙_}
 use mathlib.Core.List.{List, [], _∷_, _++_, map}
 use Prim.Native.Nat.{ℕ}
-use Rattle.ledger.specs.Faults.{Fault, Spot, faultsOf}
+use Rattle.rules.specs.Faults.{Fault, faultsOf}
+use Rattle.rules.specs.Tests.{Spot}
+use Rattle.rules.proofs.Rising.{Rising}
+use Rattle.rules.proofs.Orderly.{Orderly}
 use Rattle.ledger.specs.Marks.{setOf, marked, markedOf, insertAll}
-use Rattle.ledger.proofs.Rising.{Rising}
 use Rattle.ledger.proofs.Insertion.{insertAll-append, insertAll-swap}
-use Rattle.ledger.proofs.Faults.{marked-small, faults-in-order, Orderly, marked-faults}
+use Rattle.ledger.proofs.Faults.{marked-small, faults-in-order, marked-faults}
 
 -- ---- things put one by one, where the order of two does not matter
 

@@ -9,10 +9,10 @@ use lib.Dec.{ltb}
 use lib.ListN.{length, take}
 use lib.Seq.{take-take}
 use borrow.Author.Tests.{ltb-true, ltb-false, le-ltb, lt-ltb}
-use Rattle.ledger.specs.Faults.{Fault}
+use Rattle.rules.specs.Faults.{Fault}
+use Rattle.rules.proofs.Rising.{Under}
 use Rattle.ledger.specs.Marks.{key, insert, insertAll}
 use Rattle.ledger.specs.Slices.{Ordered}
-use Rattle.ledger.proofs.Rising.{Under}
 
 -- ---- the room
 

@@ -1,4 +1,3 @@
-pub mod Rising
 pub mod Marks
 pub mod Insertion
 pub mod Faults

@@ -1,6 +1,6 @@
 -- Laws of a set of marks: how many rules it has, which is the least and which are the others, and what a sum of marks holds.
 use mathlib.Core.Path.{_≡_, refl, sym, ap, _∙_}
-use mathlib.Core.Bool.{Bool, true, false, cond, _&&_}
+use mathlib.Core.Bool.{Bool, true, false, cond}
 use mathlib.Core.List.{List, [], _∷_, _++_, map, append-nil, append-assoc}
 use Prim.Native.Nat.{ℕ, zero, suc, _+_, _-_, _*_, _/_, _%_, _^_, _≤_, _<_, min}
 use native.Mathlib.Nat.{pow-suc, zero-add, add-zero, add-assoc}
@@ -9,13 +9,13 @@ use lib.ListN.{length, length-map}
 use lib.Bits.{bitAnd, and-step, and-self}
 use lib.Count.{ones, ones-step, trailingZeros}
 use lib.Pow.{pow-mono}
-use lib.Dec.{T, leb, ltb}
-use borrow.Author.Tests.{leb-true, ltb-true}
-use Rattle.laws.proofs.Entries.{and-left, and-right}
+use lib.Dec.{T}
 use Rattle.laws.specs.Tests.{mark}
-use Rattle.ledger.specs.Faults.{Fault, fault, Test, brokenOf}
-use Rattle.ledger.specs.Marks.{digit, rulesFrom, rulesOf, setOf, ascending, marked}
-use Rattle.ledger.proofs.Rising.{Rising, Under, rising-le}
+use Rattle.rules.specs.Faults.{Fault, fault}
+use Rattle.rules.specs.Tests.{Test, brokenOf}
+use Rattle.rules.proofs.Orderly.{ascending, first-from}
+use Rattle.rules.proofs.Rising.{Rising, Under, rising-le}
+use Rattle.ledger.specs.Marks.{digit, rulesFrom, rulesOf, setOf, marked}
 
 half : (d m : ℕ) → m < 2 ^ suc d → m / 2 < 2 ^ d
 half d m h = omega (arith, pow-suc 2 d)
@@ -142,24 +142,6 @@ add-from (suc d) r (suc k) m h l =
 -- a mark above all others puts its rule at the end
 pub add-mark : (r m : ℕ) → m < 2 ^ r → r < 64 → rulesOf (m + 2 ^ r) ≡ rulesOf m ++ (r ∷ [])
 add-mark r m h l = add-from 64 0 r m h l ∙ ap (λ (k : ℕ). rulesOf m ++ (k ∷ [])) (zero-add r)
-
--- the first of ascending tests, and the others
-first-from : (k : ℕ) (t : Test) (ts : List Test) → T (ascending k (t ∷ ts)) → (k ≤ t .rule) × (t .rule < 64) × T (ascending (suc (t .rule)) ts)
-first-from k t ts a =
-    let u : T (ltb (t .rule) 64 && ascending (suc (t .rule)) ts) = and-right (leb k (t .rule)) (ltb (t .rule) 64 && ascending (suc (t .rule)) ts) a in (
-      leb-true k (t .rule) (holds (leb k (t .rule)) (and-left (leb k (t .rule)) (ltb (t .rule) 64 && ascending (suc (t .rule)) ts) a)),
-      ltb-true (t .rule) 64 (holds (ltb (t .rule) 64) (and-left (ltb (t .rule) 64) (ascending (suc (t .rule)) ts) u)),
-      and-right (ltb (t .rule) 64) (ascending (suc (t .rule)) ts) u,
-    )
-  where
-    holds : (b : Bool) → T b → b ≡ true
-    holds true x = refl
-    holds false x = absurd x
-
--- the rules of ascending tests rise
-pub tests-rise : (k : ℕ) (ts : List Test) → T (ascending k ts) → Rising k (map (λ (t : Test). t .rule) ts)
-tests-rise k [] a = tt
-tests-rise k (t ∷ ts) a = let f = first-from k t ts a in (f .0, tests-rise (suc (t .rule)) ts (f .2))
 
 sum-onto : (k m : ℕ) (ts : List Test) → m < 2 ^ k → T (ascending k ts) → rulesOf (m + setOf ts) ≡ rulesOf m ++ brokenOf ts
 sum-onto k m [] h a = ap rulesOf (add-zero m) ∙ sym (append-nil (rulesOf m))

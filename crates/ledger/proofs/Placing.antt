@@ -8,7 +8,7 @@ use lib.Dec.{ltb}
 use lib.ListN.{length, take, drop, getD}
 use lib.Seq.{take-length, drop-length, take-suc, drop-cons}
 use borrow.Author.Tests.{le-ltb}
-use Rattle.ledger.specs.Faults.{Fault, fault}
+use Rattle.rules.specs.Faults.{Fault, fault}
 use Rattle.ledger.specs.Marks.{key, insert}
 use Rattle.ledger.specs.Slices.{held, Ordered, Ready}
 use Rattle.ledger.proofs.Insertion.{insert-gt}

@@ -6,7 +6,7 @@ use native.Mathlib.Nat.{zero-min, min-zero, suc-min-suc}
 use native.Mathlib.Omega.{arith}
 use lib.ListN.{length, take, drop, length-take, length-append}
 use lib.Seq.{take-all, take-at, take-append-add, take-take, take-nil, drop-drop, length-take-le}
-use Rattle.ledger.specs.Faults.{Fault}
+use Rattle.rules.specs.Faults.{Fault}
 use Rattle.ledger.specs.Marks.{insert, insertAll}
 use Rattle.ledger.specs.Slices.{pairs, held, opened, Ready, Put}
 use Rattle.ledger.proofs.Insertion.{take-insertAll, insertAll-append, ordered-insert, ordered-take}

@@ -1,12 +1,13 @@
--- How the code keeps the list: 'the rules broken at one line form one set of marks' (document 01), one number, bit r for rule r; and
--- faults put in at their places.
+-- Model of the code, not part of the statement: how the list is kept. 'The rules broken at one line form one set of marks' (document 01), one
+-- number, bit r for rule r; and faults put in at their places.
 use Prim.Native.Nat.{ℕ, zero, suc, _+_, _*_, _/_, _%_}
 use mathlib.Core.Bool.{Bool, true, cond, _&&_}
 use mathlib.Core.List.{List, [], _∷_, _++_, map}
 use lib.Count.{ones}
 use lib.Dec.{leb, ltb}
 use Rattle.laws.specs.Tests.{mark}
-use Rattle.ledger.specs.Faults.{Fault, fault, Test, Spot}
+use Rattle.rules.specs.Faults.{Fault, fault}
+use Rattle.rules.specs.Tests.{Test, Spot}
 
 -- ---- a set of marks
 -- a rule is in the set where its binary digit is set

@@ -1,11 +1,12 @@
 // The list of faults, in two lent slices of equal length: line numbers and rule numbers, in the order of lines and, at one
 // line, of rules. It promises that the slices hold the first pairs that fit, wherever they come from, that places after the
-// last pair keep what they held, and that the total counts every pair. It names no rule; its laws stand on crate `laws`.
+// last pair keep what they held, and that the total counts every pair. It names no rule: what a fault is stands in `rules`, and its
+// laws on `laws`.
 ghost use mathlib.Core.Path.{_≡_};
 ghost use mathlib.Core.List.{[], _∷_, _++_};
 ghost use Prim.Native.Nat.{_+_, _-_, _*_, _^_, _<_, _≤_, min};
 ghost use lib.ListN.{length, take, drop};
-ghost use Rattle.ledger.specs.Faults.{fault};
+ghost use Rattle.rules.specs.Faults.{fault};
 ghost use Rattle.ledger.specs.Marks.{insert, marked};
 ghost use Rattle.ledger.specs.Slices.{opened, held, Ready, Put, Entered};
 

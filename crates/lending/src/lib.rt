@@ -1,32 +1,32 @@
 // The running account of a block, lent by `&mut`: `step` takes it out, has `account` close an item by value, and stores it back;
-// `advance` lends a local account to `step`, for callers that hold theirs by value. Promised, for every account, item and job:
-// the account and the marks that `closeModel` of `blocks` says. It judges no rule; the rules, the records and that model stand
-// in `blocks`, the account by value in `account`.
+// `advance` lends a local account to `step`, for callers that hold theirs by value. Promised, for every account, item and basis:
+// the account and the marks that `closeModel` of `account` says. It judges no rule; the rules as functions and the record of the account
+// stand in `blocks`, the account by value and its model in `account`.
+use account::Accounted;
 use account::close_item;
+use blocks::Basis;
 use blocks::Block;
-use blocks::Closed;
-use blocks::Item;
-use blocks::Job;
+use rules::Digest;
 ghost use mathlib.Core.Path.{_≡_};
 ghost use Prim.Native.Nat.{_<_, _^_};
-ghost use Rattle.blocks.specs.Model.{closeModel};
+ghost use Rattle.account.specs.Model.{closeModel};
 
 // The account is lent: it is taken out, brought up to date by value, and stored back.
-pub fn step(b: &mut Block, it: Item, job: Job) -> u64
-    ensures { λ r. ⌜ (now (b .exit) ≡ closeModel job (now (b .entry)) it .block) × (r ≡ closeModel job (now (b .entry)) it .marks) × (r < 2 ^ 39) ⌝ }
+pub fn step(b: &mut Block, it: Digest, basis: Basis) -> u64
+    ensures { λ r. ⌜ (now (b .exit) ≡ closeModel basis (now (b .entry)) it .block) × (r ≡ closeModel basis (now (b .entry)) it .marks) × (r < 2 ^ 39) ⌝ }
 {
-    let c = close_item(*b, it, job);
+    let c = close_item(*b, it, basis);
     *b = c.block;
     c.marks
 }
 
 // The lending of a local account. Its parameters and its result are plain, so its callers need no walk.
-pub fn advance(b: Block, it: Item, job: Job) -> Closed
-    ensures { λ r. ⌜ (r ≡ closeModel job b it) × (r .marks < 2 ^ 39) ⌝ }
+pub fn advance(b: Block, it: Digest, basis: Basis) -> Accounted
+    ensures { λ r. ⌜ (r ≡ closeModel basis b it) × (r .marks < 2 ^ 39) ⌝ }
 {
     let mut own = b;
-    let marks = step(&mut own, it, job);
-    Closed {
+    let marks = step(&mut own, it, basis);
+    Accounted {
         block: own,
         marks: marks,
     }

@@ -1,4 +1,4 @@
--- A block of bytes that a search may pass over at once.
+-- Model of the code, not part of the statement: a block of bytes that a search may pass over at once.
 use Prim.Native.Nat.{ℕ, _+_}
 use mathlib.Core.Bool.{Bool, not, _&&_}
 use mathlib.Core.List.{List}

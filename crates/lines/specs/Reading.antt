@@ -1,4 +1,4 @@
--- What the reader finds at a place.
+-- Model of the code, not part of the statement: what the reader finds at a place.
 use Prim.Native.Nat.{ℕ, _+_, _-_, _<_, _≤_}
 use mathlib.Core.Path.{_≡_}
 use mathlib.Core.Bool.{Bool, false, cond, _||_}

@@ -1,4 +1,4 @@
--- Words of bytes, the first one lowest, and what is done to each byte of one.
+-- Model of the code, not part of the statement: words of bytes, the first one lowest, and what is done to each byte of one.
 use Prim.Native.Nat.{ℕ, zero, suc, _+_, _-_, _*_, _/_, _%_}
 use mathlib.Core.Bool.{Bool, not, cond}
 use mathlib.Core.List.{List, [], _∷_}

@@ -4,6 +4,7 @@ use mathlib.Core.Path.{_≡_, refl, sym, ap, _∙_}
 use mathlib.Core.Bool.{Bool, false, cond}
 use mathlib.Core.List.{List}
 use lib.Dec.{eqb}
+use Rattle.rules.specs.Terms.{Terms}
 use Rattle.listing.specs.declared.checking.Checked.{Checked}
 use Rattle.listing.specs.declared.checking.Checked.the-variants.{Total, Refused}
 use Rattle.listing.specs.declared.checking.Unchecked.{Unchecked}
@@ -40,7 +41,7 @@ told (Refused u) = ap (λ (b : Bool). cond b (Total 0) (Refused (refusalOf (unch
     some Leftovers = refl
     some StartsWithMark = refl
 
-pub check-unique : {file : List ℕ} {code day : ℕ} {ls₀ rs₀ : List ℕ} {r r′ : Checked} {ls ls′ rs rs′ : List ℕ} → Checks file code day ls₀ rs₀ r ls rs → Checks file code day ls₀ rs₀ r′ ls′ rs′
+pub check-unique : {file : List ℕ} {terms : Terms} {ls₀ rs₀ : List ℕ} {r r′ : Checked} {ls ls′ rs rs′ : List ℕ} → Checks file terms ls₀ rs₀ r ls rs → Checks file terms ls₀ rs₀ r′ ls′ rs′
     → (r ≡ r′) × (ls ≡ ls′) × (rs ≡ rs′)
 check-unique {r} {r′} C D = (
   sym (told r) ∙ (λ i. answerOf ((C .number ∙ sym (D .number)) i) ((C .total 0 ∙ sym (D .total 0)) i)) ∙ told r′,

@@ -8,8 +8,8 @@ use lib.ListN.{length}
 use Rattle.laws.specs.Refusals.{Refusal, _if_, first}
 use Rattle.days.specs.Days.{isReal}
 use Rattle.lines.specs.Lines.{hasMark, hasLeftovers, startsWithMark}
-use Rattle.ledger.specs.Faults.{Fault, written}
-use Rattle.items.specs.Faults.{faults}
+use Rattle.rules.specs.Terms.{Terms}
+use Rattle.rules.specs.Faults.{Fault, written, faults}
 use Rattle.listing.specs.declared.checking.Unchecked.{Unchecked}
 use Rattle.listing.specs.declared.checking.Unchecked.the-variants.{BadCode, BadDay, TooLong, UnequalRooms, NoMark, Leftovers, StartsWithMark}
 use Rattle.listing.specs.declared.checking.Checked.{Checked}
@@ -22,11 +22,11 @@ isCode code = leb 1 code && leb code 9999
 abbrev pub isAccountingDay : ℕ → Bool
 isAccountingDay day = isReal day && (leb 20000101 day && leb day 20991231)
 
--- of a file, the code, the day, and the lengths of the two slices
-abbrev pub checkRefusals : List ℕ → ℕ → ℕ → ℕ → ℕ → List Refusal
-checkRefusals file code day m n =
-    (1 if not (isCode code)) ∷
-    (2 if not (isAccountingDay day)) ∷
+-- of a file, its terms, and the lengths of the two slices
+abbrev pub checkRefusals : List ℕ → Terms → ℕ → ℕ → List Refusal
+checkRefusals file terms m n =
+    (1 if not (isCode (terms .code .0))) ∷
+    (2 if not (isAccountingDay (terms .today))) ∷
     (3 if ltb 10000000 (length file)) ∷
     (4 if not (eqb m n)) ∷
     (5 if not (hasMark file)) ∷
@@ -57,13 +57,13 @@ abbrev pub slicesAfter : ℕ → (Fault → ℕ) → List Fault → List ℕ →
 slicesAfter refusal part all before = cond (eqb refusal 0) (written part all before) before
 
 -- what checking answers, and the two slices after
-pub record Checks (file : List ℕ) (code day : ℕ) (ls₀ rs₀ : List ℕ) (r : Checked) (ls rs : List ℕ) : Type 0 where
-  pub number : checkedNumber r ≡ first (checkRefusals file code day (length ls₀) (length rs₀))
-  pub total : (old : ℕ) → checkedOr r old ≡ cond (eqb (first (checkRefusals file code day (length ls₀) (length rs₀))) 0) (length (faults code day file)) old
-  pub lines : ls ≡ slicesAfter (first (checkRefusals file code day (length ls₀) (length rs₀))) (λ (f : Fault). f .line) (faults code day file) ls₀
-  pub rules : rs ≡ slicesAfter (first (checkRefusals file code day (length ls₀) (length rs₀))) (λ (f : Fault). f .rule) (faults code day file) rs₀
+pub record Checks (file : List ℕ) (terms : Terms) (ls₀ rs₀ : List ℕ) (r : Checked) (ls rs : List ℕ) : Type 0 where
+  pub number : checkedNumber r ≡ first (checkRefusals file terms (length ls₀) (length rs₀))
+  pub total : (old : ℕ) → checkedOr r old ≡ cond (eqb (first (checkRefusals file terms (length ls₀) (length rs₀))) 0) (length (faults terms file)) old
+  pub lines : ls ≡ slicesAfter (first (checkRefusals file terms (length ls₀) (length rs₀))) (λ (f : Fault). f .line) (faults terms file) ls₀
+  pub rules : rs ≡ slicesAfter (first (checkRefusals file terms (length ls₀) (length rs₀))) (λ (f : Fault). f .rule) (faults terms file) rs₀
 
 -- .. with no slices lent
-pub record Totals (file : List ℕ) (code day : ℕ) (r : Checked) : Type 0 where
-  pub number : checkedNumber r ≡ first (checkRefusals file code day 0 0)
-  pub total : (old : ℕ) → checkedOr r old ≡ cond (eqb (first (checkRefusals file code day 0 0)) 0) (length (faults code day file)) old
+pub record Totals (file : List ℕ) (terms : Terms) (r : Checked) : Type 0 where
+  pub number : checkedNumber r ≡ first (checkRefusals file terms 0 0)
+  pub total : (old : ℕ) → checkedOr r old ≡ cond (eqb (first (checkRefusals file terms 0 0)) 0) (length (faults terms file)) old

@@ -1,6 +1,7 @@
 // The job at the counter: a file, the submitter's code and the accounting day are checked, and the first pairs of a line and a rule
 // broken there are written into two lent slices.
 ghost use mathlib.Core.Path.{_≡_};
+ghost use Rattle.rules.specs.Terms.{input};
 ghost use Rattle.listing.specs.Checking.{isCode, isAccountingDay, Checks, Totals, uncheckedNumber, checkedNumber, checkedOr};
 
 // Checking's own refusals, which other jobs answer too.
@@ -34,7 +35,7 @@ fn is_accounting_day(day: u32) -> bool
 }
 
 pub fn check(file: &[u8], code: u32, day: u32, lines: &mut [u32], rules: &mut [u32]) -> Checked
-    ensures { λ r. ⌜ Checks (now (file .entry)) code day (now (lines .entry)) (now (rules .entry)) r (now (lines .exit)) (now (rules .exit)) ⌝ }
+    ensures { λ r. ⌜ Checks (now (file .entry)) (input code day) (now (lines .entry)) (now (rules .entry)) r (now (lines .exit)) (now (rules .exit)) ⌝ }
 {
     if !is_code(code) {
         return Checked::Refused(Unchecked::BadCode);
@@ -64,7 +65,7 @@ pub fn check(file: &[u8], code: u32, day: u32, lines: &mut [u32], rules: &mut [u
 
 // The total alone: no fault is written down.
 pub fn total(file: &[u8], code: u32, day: u32) -> Checked
-    ensures { λ r. ⌜ Totals (now (file .entry)) code day r ⌝ }
+    ensures { λ r. ⌜ Totals (now (file .entry)) (input code day) r ⌝ }
 {
     let mut lines = [0u32; 0];
     let mut rules = [0u32; 0];

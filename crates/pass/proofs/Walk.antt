@@ -13,50 +13,53 @@ use Rattle.laws.specs.Tests.{mark}
 use Rattle.laws.specs.Lists.{anyOf}
 use Rattle.text.specs.Characters.{isInadmissible}
 use Rattle.text.proofs.Admissible.{odd-asked}
-use Rattle.lines.specs.Lines.{lines}
-use Rattle.lines.specs.Reading.{span, IsNext}
-use Rattle.lines.specs.declared.Found.{Found}
-use Rattle.lines.proofs.Lines.{lines-past}
-use Rattle.ledger.specs.Faults.{Fault}
-use Rattle.ledger.specs.Marks.{insertAll, marked}
-use Rattle.ledger.specs.Slices.{Ready, Entered, Listed}
-use Rattle.ledger.specs.declared.Ledger.{Ledger}
-use Rattle.ledger.proofs.Marks.{marked-few}
-use Rattle.ledger.proofs.Insertion.{insertAll-append}
-use Rattle.ledger.proofs.Entries.{putAll, put, put-comm, in-line-order}
-use Rattle.ledger.proofs.Book.{Book, book-start, book-ready, book-more, book-listed}
 use Rattle.headings.specs.declared.Heading.{Heading}
 use Rattle.headings.specs.declared.Read.{Read}
 use Rattle.headings.specs.declared.Read.the-variants.{Reads, Unreadable}
 use Rattle.headings.specs.Reading.{headingOf}
 use Rattle.fields.specs.declared.kinds.Kind.{Kind}
-use Rattle.fields.specs.declared.kinds.Kind.the-variants.{Heading as HeadingLine, Continuation, Field, Other}
+use Rattle.fields.specs.declared.kinds.Kind.the-variants.{Continuation, Field, Other}
+use Rattle.fields.specs.declared.kinds.Kind.the-variants.{Heading as HeadingLine}
 use Rattle.fields.specs.declared.readings.Reading.{Reading}
 use Rattle.fields.specs.Kinds.{place, kindOf}
 use Rattle.fields.specs.Classes.{classOf}
 use Rattle.fields.specs.Readings.{textOf, readingOf, ifFits}
 use Rattle.fields.proofs.LineKinds.{field-is}
-use Rattle.blocks.specs.declared.Job.{Job}
+use Rattle.lines.specs.declared.Found.{Found}
+use Rattle.lines.specs.Lines.{lines}
+use Rattle.lines.specs.Reading.{span, IsNext}
+use Rattle.lines.proofs.Lines.{lines-past}
+use Rattle.rules.specs.Terms.{Terms}
+use Rattle.rules.specs.Faults.{Fault, faultsIn}
+use Rattle.rules.specs.Rows.{Row, FieldRow, LowRow, Sorted, heading, field, low, sortedAs, sorted, rowsFrom}
+use Rattle.rules.specs.Tree.{tree}
+use Rattle.rules.specs.Spots.{spotsIn}
+use Rattle.rules.specs.LineRules.{rule1}
+use Rattle.rules.specs.Said.{isUnreadable}
+use Rattle.rules.proofs.Orderly.{spots-orderly}
+use Rattle.rules.proofs.Numbers.{lines-rise}
+use Rattle.ledger.specs.declared.Ledger.{Ledger}
+use Rattle.ledger.specs.Marks.{insertAll, marked}
+use Rattle.ledger.specs.Slices.{Ready, Entered, Listed}
+use Rattle.ledger.proofs.Marks.{marked-few}
+use Rattle.ledger.proofs.Insertion.{insertAll-append}
+use Rattle.ledger.proofs.Entries.{putAll, put, put-comm, in-line-order}
+use Rattle.ledger.proofs.Book.{Book, book-start, book-ready, book-more, book-listed}
+use Rattle.blocks.specs.declared.Basis.{Basis}
 use Rattle.blocks.specs.declared.Block.{Block}
-use Rattle.blocks.specs.Summary.{summary}
+use Rattle.blocks.specs.Model.{basisOf}
+use Rattle.account.specs.Summary.{summary}
 use Rattle.items.specs.declared.Claims.{Claims}
-use Rattle.items.specs.declared.Wait.{Wait}
-use Rattle.items.specs.declared.Shut.{Shut}
-use Rattle.items.specs.Rows.{Row, FieldRow, LowRow, Sorted, heading, field, low, sortedAs, sorted, rowsFrom}
-use Rattle.items.specs.Tree.{tree}
-use Rattle.items.specs.Faults.{spotsIn, faultsIn}
-use Rattle.items.specs.Fields.{rule1}
-use Rattle.items.specs.Headings.{isUnreadable}
-use Rattle.items.specs.State.{noClaims, claimsWith, lineMarksOf, noWait, lastMarks}
-use Rattle.items.proofs.Ideal.{Open, start, push, out, final}
+use Rattle.items.specs.Claims.{noClaims, claimsWith}
+use Rattle.items.proofs.Ideal.{start, push, out, final, Pieces}
 use Rattle.items.proofs.Order.{run, emitted}
-use Rattle.items.proofs.Sets.{lineMarks, spots-orderly}
-use Rattle.items.proofs.Numbers.{lines-rise}
-use Rattle.items.proofs.Opened.{no-claims-is}
-use Rattle.items.proofs.Meant.{job}
-use Rattle.judging.specs.declared.opening.Open.{Open as Held}
+use Rattle.items.proofs.Firsts.{no-claims-is}
+use Rattle.judging.specs.declared.Wait.{Wait}
+use Rattle.judging.specs.declared.opening.Open.{Open}
 use Rattle.judging.specs.declared.opening.Pend.{Pend}
-use Rattle.judging.specs.Opening.{codeOf, fitsBy, noOpen, moreOpen, lowOpen, readAs, headingIn, ownClaims, closeClaims, pendOf, openOwn, openLoose, lowMarksAt, closeAs, closeFaults}
+use Rattle.judging.specs.Opening.{lineMarksOf, codeOf, fitsBy, noOpen, moreOpen, lowOpen, readAs, headingIn, ownClaims, closeClaims, pendOf, openOwn, openLoose, lowMarksAt}
+use Rattle.judging.specs.Closing.{noWait, lastMarks, closeAs, closeFaults}
+use Rattle.judging.proofs.Sets.{lineMarks}
 use Rattle.judging.proofs.Meaning.{Means, low-out, field-out, head-out, final-out, means-low, means-field, means-head}
 
 -- what was entered, said in another way
@@ -64,7 +67,7 @@ pub entered-list : {xs ys : List Fault} {g : Ledger} {ls rs : List ℕ} {g′ : 
 entered-list {g} {ls} {rs} {g′} {ls′} {rs′} e E = subst (λ (zs : List Fault). Entered zs g ls rs g′ ls′ rs′) e E
 
 -- no more is entered at once than leaves room to count on
-pub close-few : (o : Held) (j : Job) (b : Block) (w : Wait) (n m : ℕ) (r : Read) (c : Claims) → length (marked (o .no) (o .marks) ++ closeFaults j b w n m r c) ≤ 192
+pub close-few : (o : Open) (j : Basis) (b : Block) (w : Wait) (n m : ℕ) (r : Read) (c : Claims) → length (marked (o .no) (o .marks) ++ closeFaults j b w n m r c) ≤ 192
 close-few o j b w n m r c =
     omega (
       arith,
@@ -84,10 +87,10 @@ own-at {s} {at} {f} N {bad} {own} n eb eo =
     eo ∙ (λ i. lineMarksOf (eb i) (f .ended)) ∙ (λ i. lineMarksOf (N .tells i && anyOf isInadmissible bytes) (f .ended)) ∙ (λ i. lineMarksOf (odd-asked bytes i) (f .ended))
 
 -- the field that closes claims, or claims nothing
-pub claims-closed : (o : Held) (p : Pend) (c : Claims) → 5 ≤ o .class → claimsWith c (p .ident) (ifFits (fitsBy (o .marks)) (p .said)) ≡ closeClaims c o p
+pub claims-closed : (o : Open) (p : Pend) (c : Claims) → 5 ≤ o .class → claimsWith c (p .ident) (ifFits (fitsBy (o .marks)) (p .said)) ≡ closeClaims c o p
 claims-closed o p c e = rw (le-leb 5 (o .class) e)
 
-pub claims-kept : (o : Held) (p : Pend) (c : Claims) → o .class < 5 → c ≡ closeClaims c o p
+pub claims-kept : (o : Open) (p : Pend) (c : Claims) → o .class < 5 → c ≡ closeClaims c o p
 claims-kept o p c e = rw (lt-leb 5 (o .class) e)
 
 -- the field that opens claims or is kept, or neither, or stands above every heading: by the test that the code asks
@@ -145,44 +148,44 @@ own-few r = go (rule1 r) (not (r .ended))
     go false true = omega arith
     go false false = omega arith
 
-module _ (code today : ℕ) (s ls₀ rs₀ : List ℕ) where
+module _ (terms : Terms) (s ls₀ rs₀ : List ℕ) where
   -- at a place of the body, after n lines
-  pub record Walking (j : Job) (ls rs stood : List ℕ) (g : Ledger) (o : Held) (p : Pend) (since top : ℕ) (reads : Bool) (h : Heading) (cl : Claims) (b : Block) (w : Wait) (at n : ℕ) : Type 0 where
-    pub pieces : Open
+  pub record Walking (j : Basis) (ls rs stood : List ℕ) (g : Ledger) (o : Open) (p : Pend) (since top : ℕ) (reads : Bool) (h : Heading) (cl : Claims) (b : Block) (w : Wait) (at n : ℕ) : Type 0 where
+    pub pieces : Pieces
     pub all : List Fault
-    pub job-is : j ≡ job code today
+    pub basis-is : j ≡ basisOf terms
     pub to : at ≤ length s
     pub few : n ≤ at
-    pub means : Means code today pieces n o since top (readAs reads h) cl p b w stood
+    pub means : Means terms pieces n o since top (readAs reads h) cl p b w stood
     pub book : Book all ls₀ rs₀ g ls rs
     pub small : g .total ≤ 256 * n
     pub calm : w .marks < 2 ^ 40
     pub tail-few : o .tail ≤ n
     pub top-few : top ≤ 18
-    pub rest : run code today put pieces all (rowsFrom (suc n) (lines (drop at s))) ≡ faultsIn code today s
+    pub rest : run terms put pieces all (rowsFrom (suc n) (lines (drop at s))) ≡ faultsIn terms s
 
 zeros : (n k : ℕ) → _≡_ {A = ℕ} (getD (replicate n 0) k 0) 0
 zeros zero k = refl
 zeros (suc n) zero = refl
 zeros (suc n) (suc k) = zeros n k
 
-means-as : {code today : ℕ} {c : Open} {n : ℕ} {o o′ : Held} {since top : ℕ} {r : Read} {cl cl′ : Claims} {p p′ : Pend} {b : Block} {w : Wait} {stood stood′ : List ℕ} → o′ ≡ o → cl′ ≡ cl → p′ ≡ p → stood′ ≡ stood
-    → Means code today c n o since top r cl p b w stood → Means code today c n o′ since top r cl′ p′ b w stood′
+means-as : {terms : Terms} {c : Pieces} {n : ℕ} {o o′ : Open} {since top : ℕ} {r : Read} {cl cl′ : Claims} {p p′ : Pend} {b : Block} {w : Wait} {stood stood′ : List ℕ} → o′ ≡ o → cl′ ≡ cl → p′ ≡ p → stood′ ≡ stood
+    → Means terms c n o since top r cl p b w stood → Means terms c n o′ since top r cl′ p′ b w stood′
 means-as eo ec ep es M = rw (eo, ec, ep, es) M
 
-head-as : {code today : ℕ} {c : Open} {n : ℕ} {o o′ : Held} {since since′ top top′ : ℕ} {r r′ : Read} {cl cl′ : Claims} {p : Pend} {b b′ : Block} {w w′ : Wait} {stood : List ℕ} → o′ ≡ o → since′ ≡ since → top′ ≡ top → r′ ≡ r → cl′ ≡ cl → b′ ≡ b → w′ ≡ w
-    → Means code today c n o since top r cl p b w stood → Means code today c n o′ since′ top′ r′ cl′ p b′ w′ stood
+head-as : {terms : Terms} {c : Pieces} {n : ℕ} {o o′ : Open} {since since′ top top′ : ℕ} {r r′ : Read} {cl cl′ : Claims} {p : Pend} {b b′ : Block} {w w′ : Wait} {stood : List ℕ} → o′ ≡ o → since′ ≡ since → top′ ≡ top → r′ ≡ r → cl′ ≡ cl → b′ ≡ b → w′ ≡ w
+    → Means terms c n o since top r cl p b w stood → Means terms c n o′ since′ top′ r′ cl′ p b′ w′ stood
 head-as eo es et er ec eb ew M = rw (eo, es, et, er, ec, eb, ew) M
 
-module _ (code today : ℕ) (s : List ℕ) where
-  pub walk-start : {ls rs stood : List ℕ} {j : Job} {g : Ledger} {o : Held} {p : Pend} {h : Heading} {cl : Claims} {b : Block} {w : Wait} → length ls ≡ length rs → j ≡ job code today
+module _ (terms : Terms) (s : List ℕ) where
+  pub walk-start : {ls rs stood : List ℕ} {j : Basis} {g : Ledger} {o : Open} {p : Pend} {h : Heading} {cl : Claims} {b : Block} {w : Wait} → length ls ≡ length rs → j ≡ basisOf terms
       → o ≡ noOpen → cl ≡ noClaims → b ≡ summary [] → w ≡ noWait → stood ≡ replicate 1296 0 → g ≡ record { kept = 0; total = 0 }
-      → Walking code today s ls rs j ls rs stood g o p 0 0 false h cl b w 0 0
+      → Walking terms s ls rs j ls rs stood g o p 0 0 false h cl b w 0 0
   unfolding faultsIn
   walk-start {ls} {rs} {stood} {j} {g} {o} {p} {h} {cl} {b} {w} e ej eo ec eb ew es eg = record {
     pieces = start;
     all = [];
-    job-is = ej;
+    basis-is = ej;
     to = omega arith;
     few = omega arith;
     means = record {
@@ -205,10 +208,10 @@ module _ (code today : ℕ) (s : List ℕ) where
     calm = rw ew (omega arith);
     tail-few = rw eo (omega arith);
     top-few = omega arith;
-    rest = emitted code today put put-comm [] (rowsFrom 1 (lines s)) ∙ in-line-order 1 (spotsIn code today s) (spots-orderly code today (tree (rowsFrom 1 (lines s)))) (lines-rise code today 1 (lines s));
+    rest = emitted terms put put-comm [] (rowsFrom 1 (lines s)) ∙ in-line-order 1 (spotsIn terms s) (spots-orderly terms (tree (rowsFrom 1 (lines s)))) (lines-rise terms 1 (lines s));
   }
 
-module _ {code today : ℕ} {s ls₀ rs₀ : List ℕ} {j : Job} {ls rs stood : List ℕ} {g : Ledger} {o : Held} {p : Pend} {since top : ℕ} {reads : Bool} {h : Heading} {cl : Claims} {b : Block} {w : Wait} {at n : ℕ} (W : Walking code today s ls₀ rs₀ j ls rs stood g o p since top reads h cl b w at n) where
+module _ {terms : Terms} {s ls₀ rs₀ : List ℕ} {j : Basis} {ls rs stood : List ℕ} {g : Ledger} {o : Open} {p : Pend} {since top : ℕ} {reads : Bool} {h : Heading} {cl : Claims} {b : Block} {w : Wait} {at n : ℕ} (W : Walking terms s ls₀ rs₀ j ls rs stood g o p since top reads h cl b w at n) where
   pub walk-ready : Ready (g .kept) ls rs
   walk-ready = book-ready (W .book)
 
@@ -224,19 +227,19 @@ module _ {code today : ℕ} {s ls₀ rs₀ : List ℕ} {j : Job} {ls rs stood : 
     abbrev row : Row
     row = record { no = suc n; bytes = span at (f .end) s; ended = f .ended }
 
-    walk-on : (z : Sorted) → sorted row ≡ z → (xs : List Fault) → putAll put (out code today (W .pieces) z) (W .all) ≡ insertAll xs (W .all)
-        → {o′ : Held} {p′ : Pend} {since′ top′ : ℕ} {reads′ : Bool} {h′ : Heading} {cl′ : Claims} {b′ : Block} {w′ : Wait} {stood′ : List ℕ}
-        → Means code today (push (W .pieces) z) (suc n) o′ since′ top′ (readAs reads′ h′) cl′ p′ b′ w′ stood′
+    walk-on : (z : Sorted) → sorted row ≡ z → (xs : List Fault) → putAll put (out terms (W .pieces) z) (W .all) ≡ insertAll xs (W .all)
+        → {o′ : Open} {p′ : Pend} {since′ top′ : ℕ} {reads′ : Bool} {h′ : Heading} {cl′ : Claims} {b′ : Block} {w′ : Wait} {stood′ : List ℕ}
+        → Means terms (push (W .pieces) z) (suc n) o′ since′ top′ (readAs reads′ h′) cl′ p′ b′ w′ stood′
         → {g′ : Ledger} {ls′ rs′ : List ℕ} → Entered xs g ls rs g′ ls′ rs′ → length xs ≤ 192 → w′ .marks < 2 ^ 40 → o′ .tail ≤ suc n → top′ ≤ 18
-        → Walking code today s ls₀ rs₀ j ls′ rs′ stood′ g′ o′ p′ since′ top′ reads′ h′ cl′ b′ w′ (f .next) (n + 1)
+        → Walking terms s ls₀ rs₀ j ls′ rs′ stood′ g′ o′ p′ since′ top′ reads′ h′ cl′ b′ w′ (f .next) (n + 1)
     unfolding rowsFrom
     walk-on z ez xs eo {o′} {p′} {since′} {top′} {reads′} {h′} {cl′} {b′} {w′} {stood′} M {g′} {ls′} {rs′} E few calm tail top =
         let er : rowsFrom (suc n) (lines (drop at s)) ≡ z ∷ rowsFrom (suc (suc n)) (lines (drop (f .next) s)) =
         ap (rowsFrom (suc n)) (N .cut) ∙ ap (λ (y : Sorted). y ∷ rowsFrom (suc (suc n)) (lines (drop (f .next) s))) ez in
-        subst (λ (m : ℕ). Walking code today s ls₀ rs₀ j ls′ rs′ stood′ g′ o′ p′ since′ top′ reads′ h′ cl′ b′ w′ (f .next) m) (sym (add-one n)) (record {
+        subst (λ (m : ℕ). Walking terms s ls₀ rs₀ j ls′ rs′ stood′ g′ o′ p′ since′ top′ reads′ h′ cl′ b′ w′ (f .next) m) (sym (add-one n)) (record {
           pieces = push (W .pieces) z;
           all = insertAll xs (W .all);
-          job-is = W .job-is;
+          basis-is = W .basis-is;
           to = N .within;
           few = omega (arith, W .few, N .moves);
           means = M;
@@ -245,8 +248,8 @@ module _ {code today : ℕ} {s ls₀ rs₀ : List ℕ} {j : Job} {ls rs stood : 
           calm = calm;
           tail-few = tail;
           top-few = top;
-          rest = ap (λ (l : List Fault). run code today put (push (W .pieces) z) l (rowsFrom (suc (suc n)) (lines (drop (f .next) s)))) (sym eo)
-              ∙ ap (run code today put (W .pieces) (W .all)) (sym er) ∙ W .rest;
+          rest = ap (λ (l : List Fault). run terms put (push (W .pieces) z) l (rowsFrom (suc (suc n)) (lines (drop (f .next) s)))) (sym eo)
+              ∙ ap (run terms put (W .pieces) (W .all)) (sym er) ∙ W .rest;
         })
 
     -- the kind of the line, as the code asks it
@@ -257,22 +260,22 @@ module _ {code today : ℕ} {s ls₀ rs₀ : List ℕ} {j : Job} {ls rs stood : 
     module _ {x : Kind} (ex : x ≡ kindOf (span at (f .end) s)) {own : ℕ} (eo : own ≡ lineMarks row) where
       -- a line of no kind
       pub walk-other : x ≡ Other → {m : ℕ} → m ≡ lowMarksAt own since (o .no) false → {g′ : Ledger} {ls′ rs′ : List ℕ} → Entered (marked (n + 1) m) g ls rs g′ ls′ rs′
-          → Walking code today s ls₀ rs₀ j ls′ rs′ stood g′ o p since top reads h cl b w (f .next) (n + 1)
+          → Walking terms s ls₀ rs₀ j ls′ rs′ stood g′ o p since top reads h cl b w (f .next) (n + 1)
       walk-other e {m} em E =
           let l : LowRow = record { row = row; continues = false } in
           walk-on (low l) (kind-at ex Other e) (marked (n + 1) m)
-          (low-out code today (W .pieces) n o since top (readAs reads h) cl p b w stood (W .means) l (W .all) ∙ (λ i. insertAll (marked (sym (add-one n) i) (lowMarksAt (sym eo i) since (o .no) false)) (W .all)) ∙ ap (λ (t : ℕ). insertAll (marked (n + 1) t) (W .all)) (sym em))
-          (means-low code today (W .pieces) n o since top (readAs reads h) cl p b w stood (W .means) l) E (omega (arith, marked-few (n + 1) m)) (W .calm) (omega (arith, W .tail-few)) (W .top-few)
+          (low-out terms (W .pieces) n o since top (readAs reads h) cl p b w stood (W .means) l (W .all) ∙ (λ i. insertAll (marked (sym (add-one n) i) (lowMarksAt (sym eo i) since (o .no) false)) (W .all)) ∙ ap (λ (t : ℕ). insertAll (marked (n + 1) t) (W .all)) (sym em))
+          (means-low terms (W .pieces) n o since top (readAs reads h) cl p b w stood (W .means) l) E (omega (arith, marked-few (n + 1) m)) (W .calm) (omega (arith, W .tail-few)) (W .top-few)
 
       -- a continuation
-      pub walk-more : x ≡ Continuation → {m : ℕ} → m ≡ lowMarksAt own since (o .no) true → {o′ : Held} → o′ ≡ lowOpen true o (length (span at (f .end) s))
+      pub walk-more : x ≡ Continuation → {m : ℕ} → m ≡ lowMarksAt own since (o .no) true → {o′ : Open} → o′ ≡ lowOpen true o (length (span at (f .end) s))
           → {g′ : Ledger} {ls′ rs′ : List ℕ} → Entered (marked (n + 1) m) g ls rs g′ ls′ rs′
-          → Walking code today s ls₀ rs₀ j ls′ rs′ stood g′ o′ p since top (reads && not (eqb (o .no) 0)) h cl b w (f .next) (n + 1)
+          → Walking terms s ls₀ rs₀ j ls′ rs′ stood g′ o′ p since top (reads && not (eqb (o .no) 0)) h cl b w (f .next) (n + 1)
       walk-more e {m} em {o′} eo′ E =
           let l : LowRow = record { row = row; continues = true } in
           walk-on (low l) (kind-at ex Continuation e) (marked (n + 1) m)
-          (low-out code today (W .pieces) n o since top (readAs reads h) cl p b w stood (W .means) l (W .all) ∙ (λ i. insertAll (marked (sym (add-one n) i) (lowMarksAt (sym eo i) since (o .no) true)) (W .all)) ∙ ap (λ (t : ℕ). insertAll (marked (n + 1) t) (W .all)) (sym em))
-          (rw (eo′, reads-on reads (eqb (o .no) 0) h) (means-low code today (W .pieces) n o since top (readAs reads h) cl p b w stood (W .means) l)) E (omega (arith, marked-few (n + 1) m)) (W .calm)
+          (low-out terms (W .pieces) n o since top (readAs reads h) cl p b w stood (W .means) l (W .all) ∙ (λ i. insertAll (marked (sym (add-one n) i) (lowMarksAt (sym eo i) since (o .no) true)) (W .all)) ∙ ap (λ (t : ℕ). insertAll (marked (n + 1) t) (W .all)) (sym em))
+          (rw (eo′, reads-on reads (eqb (o .no) 0) h) (means-low terms (W .pieces) n o since top (readAs reads h) cl p b w stood (W .means) l)) E (omega (arith, marked-few (n + 1) m)) (W .calm)
           (rw eo′ (tail-on (not (eqb (o .no) 0)))) (W .top-few)
         where
           tail-on : (t : Bool) → cond (true && t) (moreOpen o (length (span at (f .end) s))) o .tail ≤ suc n
@@ -282,22 +285,22 @@ module _ {code today : ℕ} {s ls₀ rs₀ : List ℕ} {j : Job} {ls rs stood : 
       -- a field
       pub walk-field : (i : ℕ) → x ≡ Field i → {cl₁ : Claims} → cl₁ ≡ closeClaims cl o p → {a : Bool} → a ≡ ltb since (getD stood i 0)
           → {said : Reading} → said ≡ readingOf (classOf i) (textOf (span at (f .end) s))
-          → {o′ : Held} → o′ ≡ cond (eqb since 0) (openLoose (n + 1) own) (openOwn j (cl₁ .kc) (readAs reads h) (n + 1) own a i said)
+          → {o′ : Open} → o′ ≡ cond (eqb since 0) (openLoose (n + 1) own) (openOwn j (cl₁ .kc) (readAs reads h) (n + 1) own a i said)
           → {cl′ : Claims} → cl′ ≡ cond (eqb since 0) cl₁ (ownClaims cl₁ i said)
           → {p′ : Pend} → p′ ≡ cond (eqb since 0) p (pendOf p i said)
           → {stood′ : List ℕ} → stood′ ≡ set stood i (n + 1)
           → {g′ : Ledger} {ls′ rs′ : List ℕ} → Entered (marked (o .no) (o .marks)) g ls rs g′ ls′ rs′
-          → Walking code today s ls₀ rs₀ j ls′ rs′ stood′ g′ o′ p′ since top reads h cl′ b w (f .next) (n + 1)
+          → Walking terms s ls₀ rs₀ j ls′ rs′ stood′ g′ o′ p′ since top reads h cl′ b w (f .next) (n + 1)
       walk-field i e {cl₁} e₁ {a} ea {said} es {o′} eo′ {cl′} ec {p′} ep {stood′} et E =
           let y : FieldRow = record { row = row; ident = i } in
           walk-on (field y) (kind-at ex (Field i) e) (marked (o .no) (o .marks))
-          (field-out code today (W .pieces) n o since top (readAs reads h) cl p b w stood (W .means) y (W .all))
+          (field-out terms (W .pieces) n o since top (readAs reads h) cl p b w stood (W .means) y (W .all))
           (means-as
-          (eo′ ∙ (λ q. cond (eqb since 0) (openLoose (add-one n q) (eo q)) (openOwn (W .job-is q) (e₁ q .kc) (readAs reads h) (add-one n q) (eo q) (ea q) i (es q))))
+          (eo′ ∙ (λ q. cond (eqb since 0) (openLoose (add-one n q) (eo q)) (openOwn (W .basis-is q) (e₁ q .kc) (readAs reads h) (add-one n q) (eo q) (ea q) i (es q))))
           (ec ∙ (λ q. cond (eqb since 0) (e₁ q) (ownClaims (e₁ q) i (es q))))
           (ep ∙ (λ q. cond (eqb since 0) p (pendOf p i (es q))))
           (et ∙ ap (set stood i) (add-one n))
-          (means-field code today (W .pieces) n o since top (readAs reads h) cl p b w stood (W .means) y refl (field-is (span at (f .end) s) i (sym ex ∙ e) .2)))
+          (means-field terms (W .pieces) n o since top (readAs reads h) cl p b w stood (W .means) y refl (field-is (span at (f .end) s) i (sym ex ∙ e) .2)))
           E (omega (arith, marked-few (o .no) (o .marks))) (W .calm) (rw eo′ (tail-none (eqb since 0))) (W .top-few)
         where
           tail-none : (t : Bool) → cond t (openLoose (n + 1) own) (openOwn j (cl₁ .kc) (readAs reads h) (n + 1) own a i said) .tail ≤ suc n
@@ -306,35 +309,35 @@ module _ {code today : ℕ} {s ls₀ rs₀ : List ℕ} {j : Job} {ls rs stood : 
 
       -- a heading
       pub walk-head : x ≡ HeadingLine → {r : Read} → r ≡ headingOf (span at (f .end) s)
-          → {o′ : Held} → o′ ≡ noOpen → {h′ : Heading} → h′ ≡ headingIn r h → {reads′ : Bool} → reads′ ≡ not (isUnreadable r) → {cl′ : Claims} → cl′ ≡ noClaims
+          → {o′ : Open} → o′ ≡ noOpen → {h′ : Heading} → h′ ≡ headingIn r h → {reads′ : Bool} → reads′ ≡ not (isUnreadable r) → {cl′ : Claims} → cl′ ≡ noClaims
           → {b′ : Block} → b′ ≡ closeAs j b w since top (readAs reads h) (closeClaims cl o p) .block
           → {w′ : Wait} → w′ ≡ closeAs j b w since top (readAs reads h) (closeClaims cl o p) .wait → w′ .marks < 2 ^ 40
           → {g′ : Ledger} {ls′ rs′ : List ℕ} → Entered (marked (o .no) (o .marks) ++ closeFaults j b w since top (readAs reads h) (closeClaims cl o p)) g ls rs g′ ls′ rs′
-          → Walking code today s ls₀ rs₀ j ls′ rs′ stood g′ o′ p (n + 1) own reads′ h′ cl′ b′ w′ (f .next) (n + 1)
+          → Walking terms s ls₀ rs₀ j ls′ rs′ stood g′ o′ p (n + 1) own reads′ h′ cl′ b′ w′ (f .next) (n + 1)
       walk-head e {r} er {o′} eo′ {h′} eh {reads′} ed {cl′} ec {b′} eb {w′} ew calm E =
           let c : Claims = closeClaims cl o p in
           walk-on (heading row) (kind-at ex HeadingLine e) (marked (o .no) (o .marks) ++ closeFaults j b w since top (readAs reads h) c)
-          (head-out code today (W .pieces) n o since top (readAs reads h) cl p b w stood (W .means) row (W .all) ∙ sym (λ i. insertAll (marked (o .no) (o .marks) ++ closeFaults (W .job-is i) b w since top (readAs reads h) c) (W .all)))
+          (head-out terms (W .pieces) n o since top (readAs reads h) cl p b w stood (W .means) row (W .all) ∙ sym (λ i. insertAll (marked (o .no) (o .marks) ++ closeFaults (W .basis-is i) b w since top (readAs reads h) c) (W .all)))
           (head-as eo′ (add-one n) eo ((λ i. readAs (ed i) (eh i)) ∙ reads-again r h ∙ er) ec
-          (eb ∙ (λ i. closeAs (W .job-is i) b w since top (readAs reads h) c .block))
-          (ew ∙ (λ i. closeAs (W .job-is i) b w since top (readAs reads h) c .wait))
-          (means-head code today (W .pieces) n o since top (readAs reads h) cl p b w stood (W .means) row refl)) E (close-few o j b w since top (readAs reads h) c) calm
+          (eb ∙ (λ i. closeAs (W .basis-is i) b w since top (readAs reads h) c .block))
+          (ew ∙ (λ i. closeAs (W .basis-is i) b w since top (readAs reads h) c .wait))
+          (means-head terms (W .pieces) n o since top (readAs reads h) cl p b w stood (W .means) row refl)) E (close-few o j b w since top (readAs reads h) c) calm
           (rw eo′ (omega arith)) (rw eo (own-few row))
 
   -- the end
   pub walk-end : length s ≤ at → {g′ : Ledger} {ls′ rs′ : List ℕ}
       → let q = closeAs j b w since top (readAs reads h) (closeClaims cl o p) in
       Entered ((marked (o .no) (o .marks) ++ closeFaults j b w since top (readAs reads h) (closeClaims cl o p)) ++ marked (q .wait .line) (lastMarks (q .block) (q .wait))) g ls rs g′ ls′ rs′
-      → Listed (faultsIn code today s) ls₀ rs₀ g′ ls′ rs′
+      → Listed (faultsIn terms s) ls₀ rs₀ g′ ls′ rs′
   unfolding rowsFrom
   walk-end q {g′} {ls′} {rs′} E =
       let c : Claims = closeClaims cl o p in
-      let xs : Job → List Fault = λ k. marked (o .no) (o .marks) ++ closeFaults k b w since top (readAs reads h) c in
-      let ys : Job → List Fault = λ k. marked (closeAs k b w since top (readAs reads h) c .wait .line) (lastMarks (closeAs k b w since top (readAs reads h) c .block) (closeAs k b w since top (readAs reads h) c .wait)) in
-      let done : putAll put (final code today (W .pieces)) (W .all) ≡ faultsIn code today s =
-      ap (λ (z : List Sorted). run code today put (W .pieces) (W .all) z) (sym (ap (rowsFrom (suc n)) (lines-past s at q))) ∙ W .rest in
-      let ends : putAll put (final code today (W .pieces)) (W .all) ≡ insertAll (xs j ++ ys j) (W .all) =
-      final-out code today (W .pieces) n o since top (readAs reads h) cl p b w stood (W .means) (W .all)
-      ∙ sym (λ i. insertAll (ys (W .job-is i)) (insertAll (xs (W .job-is i)) (W .all)))
+      let xs : Basis → List Fault = λ k. marked (o .no) (o .marks) ++ closeFaults k b w since top (readAs reads h) c in
+      let ys : Basis → List Fault = λ k. marked (closeAs k b w since top (readAs reads h) c .wait .line) (lastMarks (closeAs k b w since top (readAs reads h) c .block) (closeAs k b w since top (readAs reads h) c .wait)) in
+      let done : putAll put (final terms (W .pieces)) (W .all) ≡ faultsIn terms s =
+      ap (λ (z : List Sorted). run terms put (W .pieces) (W .all) z) (sym (ap (rowsFrom (suc n)) (lines-past s at q))) ∙ W .rest in
+      let ends : putAll put (final terms (W .pieces)) (W .all) ≡ insertAll (xs j ++ ys j) (W .all) =
+      final-out terms (W .pieces) n o since top (readAs reads h) cl p b w stood (W .means) (W .all)
+      ∙ sym (λ i. insertAll (ys (W .basis-is i)) (insertAll (xs (W .basis-is i)) (W .all)))
       ∙ sym (insertAll-append (xs j) (ys j) (W .all)) in
       book-listed (subst (λ (l : List Fault). Book l ls₀ rs₀ g′ ls′ rs′) (sym ends ∙ done) (book-more (W .book) E))

@@ -1,10 +1,10 @@
 // One forward pass over the lines of a body: no line is looked at again, and none ahead. A field is judged at its own line and entered
 // when the next heading or field comes, a heading when the next heading comes, and the first heading of a block when the block ends or the file does.
 // Promised by `enter_faults`, for every body of at most 10,000,000 bytes and two lent slices of equal length: the slices and the
-// total are those of `faultsIn` of `items`. It judges no rule; the rules and the state stand in `items` and `blocks`, the list in
-// `ledger`, the cut in `lines`, the table of characters in `text`.
+// total are those of `faultsIn` of `rules`. It judges no rule: lines, fields and items are judged by `judging`. The list stands in `ledger`,
+// the cut in `lines`, the table of characters in `text`.
+use blocks::Basis;
 use blocks::Block;
-use blocks::Job;
 use fields::classes;
 use fields::kinds;
 use fields::kinds::Kind;
@@ -14,8 +14,8 @@ use headings::Heading;
 use headings::ItemNo;
 use headings::Read;
 use items::Claims;
-use items::Wait;
-use judging::claiming;
+use items::claiming;
+use judging::Wait;
 use judging::closing;
 use judging::marking;
 use judging::opening;
@@ -27,11 +27,12 @@ ghost use mathlib.Core.List.{_++_};
 ghost use Prim.Native.Nat.{_≤_, _<_, _^_};
 ghost use lib.Dec.{ltb};
 ghost use lib.ListN.{length, getD, set, replicate};
+ghost use Rattle.rules.specs.Terms.{input};
+ghost use Rattle.rules.specs.Faults.{faultsIn};
 ghost use Rattle.ledger.specs.Slices.{Ready, Entered, Listed};
 ghost use Rattle.ledger.specs.Marks.{marked};
-ghost use Rattle.items.specs.State.{lastMarks};
-ghost use Rattle.judging.specs.Opening.{readAs, closeClaims, closeAs, closeFaults};
-ghost use Rattle.items.specs.Faults.{faultsIn};
+ghost use Rattle.judging.specs.Closing.{lastMarks, closeAs, closeFaults};
+ghost use Rattle.judging.specs.Opening.{readAs, closeClaims};
 
 // No identifier stood.
 fn unseen() -> [u32; 1296]
@@ -62,7 +63,7 @@ fn shut_item(
     lines: &mut [u32],
     rules: &mut [u32],
     g: Ledger,
-    job: Job,
+    basis: Basis,
     no: u32,
     own: u64,
     read: Read,
@@ -72,10 +73,10 @@ fn shut_item(
 ) -> Closed
     requires { ⌜ Ready (g .kept) (now lines) (now rules) ⌝ }
     requires { ⌜ (g .total < 2 ^ 62) × (w .marks < 2 ^ 40) × (own ≤ 18) ⌝ }
-    ensures { λ r. ⌜ Entered (closeFaults job b w no own read claims) g (now (lines .entry)) (now (rules .entry)) (r .ledger) (now (lines .exit)) (now (rules .exit)) ⌝ }
-    ensures { λ r. ⌜ (r .block ≡ closeAs job b w no own read claims .block) × (r .wait ≡ closeAs job b w no own read claims .wait) × (r .wait .marks < 2 ^ 40) ⌝ }
+    ensures { λ r. ⌜ Entered (closeFaults basis b w no own read claims) g (now (lines .entry)) (now (rules .entry)) (r .ledger) (now (lines .exit)) (now (rules .exit)) ⌝ }
+    ensures { λ r. ⌜ (r .block ≡ closeAs basis b w no own read claims .block) × (r .wait ≡ closeAs basis b w no own read claims .wait) × (r .wait .marks < 2 ^ 40) ⌝ }
 {
-    let c = closing::close_item(job, b, w, no, own, read, claims);
+    let c = closing::close_item(basis, b, w, no, own, read, claims);
     let block = c.block;
     let wait = c.wait;
     let first = ledger::enter(lines, rules, g, w.line, c.told);
@@ -92,7 +93,7 @@ fn shut_all(
     lines: &mut [u32],
     rules: &mut [u32],
     g: Ledger,
-    job: Job,
+    basis: Basis,
     o: Open,
     p: Pend,
     no: u32,
@@ -105,13 +106,13 @@ fn shut_all(
 ) -> Closed
     requires { ⌜ Ready (g .kept) (now lines) (now rules) ⌝ }
     requires { ⌜ (g .total < 2 ^ 61) × (w .marks < 2 ^ 40) × (own ≤ 18) ⌝ }
-    ensures { λ r. ⌜ Entered (marked (o .no) (o .marks) ++ closeFaults job b w no own (readAs reads h) (closeClaims claims o p)) g (now (lines .entry)) (now (rules .entry)) (r .ledger) (now (lines .exit)) (now (rules .exit)) ⌝ }
-    ensures { λ r. ⌜ (r .block ≡ closeAs job b w no own (readAs reads h) (closeClaims claims o p) .block) × (r .wait ≡ closeAs job b w no own (readAs reads h) (closeClaims claims o p) .wait) × (r .wait .marks < 2 ^ 40) ⌝ }
+    ensures { λ r. ⌜ Entered (marked (o .no) (o .marks) ++ closeFaults basis b w no own (readAs reads h) (closeClaims claims o p)) g (now (lines .entry)) (now (rules .entry)) (r .ledger) (now (lines .exit)) (now (rules .exit)) ⌝ }
+    ensures { λ r. ⌜ (r .block ≡ closeAs basis b w no own (readAs reads h) (closeClaims claims o p) .block) × (r .wait ≡ closeAs basis b w no own (readAs reads h) (closeClaims claims o p) .wait) × (r .wait .marks < 2 ^ 40) ⌝ }
 {
     let g1 = ledger::enter(lines, rules, g, o.no, o.marks);
     let all = opening::claims_after(claims, o, p);
     let read = opening::read_as(reads, h);
-    shut_item(lines, rules, g1, job, no, own, read, all, b, w)
+    shut_item(lines, rules, g1, basis, no, own, read, all, b, w)
 }
 
 // The file ends: all that is open closes, and the heading that waits for rule 16 has it.
@@ -119,7 +120,7 @@ fn shut_file(
     lines: &mut [u32],
     rules: &mut [u32],
     g: Ledger,
-    job: Job,
+    basis: Basis,
     o: Open,
     p: Pend,
     no: u32,
@@ -132,9 +133,23 @@ fn shut_file(
 ) -> Ledger
     requires { ⌜ Ready (g .kept) (now lines) (now rules) ⌝ }
     requires { ⌜ (g .total < 2 ^ 61) × (w .marks < 2 ^ 40) × (own ≤ 18) ⌝ }
-    ensures { λ r. ⌜ Entered ((marked (o .no) (o .marks) ++ closeFaults job b w no own (readAs reads h) (closeClaims claims o p)) ++ marked (closeAs job b w no own (readAs reads h) (closeClaims claims o p) .wait .line) (lastMarks (closeAs job b w no own (readAs reads h) (closeClaims claims o p) .block) (closeAs job b w no own (readAs reads h) (closeClaims claims o p) .wait))) g (now (lines .entry)) (now (rules .entry)) r (now (lines .exit)) (now (rules .exit)) ⌝ }
+    ensures { λ r. ⌜ Entered ((marked (o .no) (o .marks) ++ closeFaults basis b w no own (readAs reads h) (closeClaims claims o p)) ++ marked (closeAs basis b w no own (readAs reads h) (closeClaims claims o p) .wait .line) (lastMarks (closeAs basis b w no own (readAs reads h) (closeClaims claims o p) .block) (closeAs basis b w no own (readAs reads h) (closeClaims claims o p) .wait))) g (now (lines .entry)) (now (rules .entry)) r (now (lines .exit)) (now (rules .exit)) ⌝ }
 {
-    let t = shut_all(lines, rules, g, job, o, p, no, own, reads, h, claims, b, w);
+    let t = shut_all(
+        lines,
+        rules,
+        g,
+        basis,
+        o,
+        p,
+        no,
+        own,
+        reads,
+        h,
+        claims,
+        b,
+        w,
+    );
     let last = closing::last_marks(t.block, t.wait);
     ledger::enter(lines, rules, t.ledger, t.wait.line, last)
 }
@@ -156,9 +171,9 @@ fn no_heading() -> Heading {
 pub fn enter_faults(s: &[u8], code: u32, day: u32, lines: &mut [u32], rules: &mut [u32]) -> Ledger
     requires { ⌜ length (now s) ≤ 10000000 ⌝ }
     requires { ⌜ length (now lines) ≡ length (now rules) ⌝ }
-    ensures { λ r. ⌜ Listed (faultsIn code day (now (s .entry))) (now (lines .entry)) (now (rules .entry)) r (now (lines .exit)) (now (rules .exit)) ⌝ }
+    ensures { λ r. ⌜ Listed (faultsIn (input code day) (now (s .entry))) (now (lines .entry)) (now (rules .entry)) r (now (lines .exit)) (now (rules .exit)) ⌝ }
 {
-    let job = blocks::own_rules::job_of(Code(code), day);
+    let basis = blocks::own_rules::basis_of(Code(code), day);
     let table = text::characters::table();
     let mut stood = unseen();
     let mut g = ledger::empty();
@@ -188,7 +203,7 @@ pub fn enter_faults(s: &[u8], code: u32, day: u32, lines: &mut [u32], rules: &mu
                     lines,
                     rules,
                     g,
-                    job,
+                    basis,
                     open,
                     pend,
                     since,
@@ -232,7 +247,7 @@ pub fn enter_faults(s: &[u8], code: u32, day: u32, lines: &mut [u32], rules: &mu
                 let said = readings::read_field(class, &s[from..end]);
                 let kc = claims.kc;
                 open = opening::field_open(
-                    job,
+                    basis,
                     kc,
                     since,
                     reads,
@@ -264,7 +279,7 @@ pub fn enter_faults(s: &[u8], code: u32, day: u32, lines: &mut [u32], rules: &mu
         lines,
         rules,
         g,
-        job,
+        basis,
         open,
         pend,
         since,

@@ -7,9 +7,9 @@ use lib.Dec.{eqb}
 use lib.ListN.{length, take, drop, length-take, length-drop}
 use lib.Seq.{take-length}
 use borrow.Author.Tests.{eq-eqb, ne-eqb, eqb-true, lt-ltb, le-ltb}
-use Rattle.ledger.specs.Faults.{Fault, written}
+use Rattle.rules.specs.Faults.{Fault, written}
 use Rattle.ledger.specs.Slices.{held}
-use Rattle.report.specs.declared.job.Job.the-variants.{Of, Broken}
+use Rattle.report.specs.declared.job.Job.the-variants.{Of, NoJob}
 use Rattle.report.specs.Job.{jobOf}
 use Rattle.report.specs.Printing.{listingText, refusedText}
 use Rattle.report.specs.Program.{answerText, jobText, printed}
@@ -64,7 +64,7 @@ module _ (refusal : List ℕ → ℕ → ℕ → ℕ) (faults : List ℕ → ℕ
   too-long h = rw (lt-ltb 65536 (length input) h)
 
   module _ (h : length input ≤ 65536) where
-    pub no-job : jobOf input ≡ Broken → refusedText 8 ≡ printed refusal faults input
+    pub no-job : jobOf input ≡ NoJob → refusedText 8 ≡ printed refusal faults input
     unfolding printed
     no-job e = rw (le-ltb 65536 (length input) h, e)
 

@@ -9,7 +9,7 @@ use lib.ListN.{length, take, length-take}
 use borrow.Author.Tests.{leb-true, leb-false}
 use Rattle.text.specs.Forms.{template, numbers, partAt}
 use Rattle.text.proofs.Layouts.{form-length, placed, placed-is}
-use Rattle.report.specs.declared.job.Job.the-variants.{Of, Broken}
+use Rattle.report.specs.declared.job.Job.the-variants.{Of, NoJob}
 use Rattle.report.specs.Job.{jobLayout, isJobLine, jobLineOf, jobOf}
 
 module _ (line : List ℕ) where
@@ -20,16 +20,16 @@ module _ (line : List ℕ) where
   unfolding jobLineOf
   found m = rw (m, places)
 
-  pub lost : isJobLine line ≡ false → Broken ≡ jobLineOf line
+  pub lost : isJobLine line ≡ false → NoJob ≡ jobLineOf line
   unfolding jobLineOf
   lost m = rw m
 
 -- an input that is too short for a job line
-pub short : (input : List ℕ) → length input < 14 → Broken ≡ jobOf input
+pub short : (input : List ℕ) → length input < 14 → NoJob ≡ jobOf input
 unfolding jobOf template
 short input h = go (isJobLine (take 14 input)) refl
   where
-    go : (b : Bool) → isJobLine (take 14 input) ≡ b → Broken ≡ jobLineOf (take 14 input)
+    go : (b : Bool) → isJobLine (take 14 input) ≡ b → NoJob ≡ jobLineOf (take 14 input)
     go true m = absurd (omega (arith, form-length (template jobLayout) (take 14 input) m, length-take 14 input))
     go false m = lost (take 14 input) m
 

@@ -12,7 +12,7 @@ use Rattle.text.specs.Decimals.{decimal}
 use Rattle.text.specs.Strings.{Wrote}
 use Rattle.text.proofs.Bare.{decimal-length}
 use Rattle.text.proofs.Wrote.{then, same-length}
-use Rattle.ledger.specs.Faults.{fault}
+use Rattle.rules.specs.Faults.{fault}
 use Rattle.ledger.specs.Slices.{held}
 use Rattle.report.specs.Printing.{rowText, rowTexts, Begins}
 

@@ -3,9 +3,10 @@ use mathlib.Core.Path.{_≡_, sym, _∙_}
 use mathlib.Core.List.{List}
 use Prim.Native.Nat.{ℕ, min}
 use lib.ListN.{length}
-use Rattle.ledger.specs.Slices.{held}
 use Rattle.laws.specs.Refusals.{first}
-use Rattle.items.specs.Faults.{faults}
+use Rattle.rules.specs.Terms.{input}
+use Rattle.rules.specs.Faults.{faults}
+use Rattle.ledger.specs.Slices.{held}
 use Rattle.listing.specs.declared.checking.Checked.{Checked}
 use Rattle.listing.specs.Checking.{Checks, checkRefusals, checkedNumber, checkedOr}
 use Rattle.report.specs.declared.job.Job.the-variants.{Of}
@@ -13,11 +14,11 @@ use Rattle.report.specs.Program.{answerText, fileText}
 use Rattle.report.proofs.Answers.{answered}
 
 pub shown : (file : List ℕ) (code day : ℕ) (ls₀ rs₀ ls rs : List ℕ) (r : Checked) (k t : ℕ)
-    → Checks file code day ls₀ rs₀ r ls rs
+    → Checks file (input code day) ls₀ rs₀ r ls rs
     → k ≡ checkedNumber r → t ≡ checkedOr r 0 → length ls₀ ≡ 256 → length rs₀ ≡ 256
     → answerText k code day (held (min 256 t) ls rs) t ≡ fileText (Of code day) file
 shown file code day ls₀ rs₀ ls rs r k t h ek et el er =
-    let q : k ≡ first (checkRefusals file code day 256 256) = ek ∙ h .number ∙ rw (el, er) in
-    answered (faults code day file) k code day t ls₀ rs₀ ls rs el er (λ z.
+    let q : k ≡ first (checkRefusals file (input code day) 256 256) = ek ∙ h .number ∙ rw (el, er) in
+    answered (faults (input code day) file) k code day t ls₀ rs₀ ls rs el er (λ z.
     let e = sym (ek ∙ h .number) ∙ z in
     (et ∙ h .total 0 ∙ rw e, h .lines ∙ rw e, h .rules ∙ rw e)) ∙ rw q

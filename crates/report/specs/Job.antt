@@ -6,7 +6,7 @@ use lib.ListN.{getD, take}
 use Rattle.laws.specs.Ascii.{ascii}
 use Rattle.text.specs.Forms.{Piece, lit, num, template, hasForm, numbers}
 use Rattle.report.specs.declared.job.Job.{Job}
-use Rattle.report.specs.declared.job.Job.the-variants.{Of, Broken}
+use Rattle.report.specs.declared.job.Job.the-variants.{Of, NoJob}
 
 abbrev pub jobLayout : List Piece
 jobLayout = num 4 ∷ lit (ascii " ") ∷ num 8 ∷ lit (ascii "\n") ∷ []
@@ -19,7 +19,7 @@ abbrev pub jobFrom : List ℕ → Job
 jobFrom vs = Of (getD vs 0 0) (getD vs 1 0)
 
 unfoldable pub jobLineOf : List ℕ → Job
-jobLineOf line = cond (isJobLine line) (jobFrom (numbers jobLayout line)) Broken
+jobLineOf line = cond (isJobLine line) (jobFrom (numbers jobLayout line)) NoJob
 
 -- the job of an input: what its first 14 bytes say
 unfoldable pub jobOf : List ℕ → Job

@@ -6,7 +6,7 @@ use lib.ListN.{length, take, drop}
 use Rattle.laws.specs.Ascii.{ascii}
 use Rattle.text.specs.Digits.{digits}
 use Rattle.text.specs.Decimals.{decimal}
-use Rattle.ledger.specs.Faults.{Fault}
+use Rattle.rules.specs.Faults.{Fault}
 
 -- checked CCCC YYYYMMDD
 unfoldable pub headerText : ℕ → ℕ → List ℕ

@@ -4,12 +4,12 @@ use mathlib.Core.Bool.{cond}
 use mathlib.Core.List.{List}
 use lib.Dec.{eqb, ltb}
 use lib.ListN.{length, take, drop}
-use Rattle.ledger.specs.Faults.{Fault}
 use Rattle.laws.specs.Refusals.{first}
-use Rattle.items.specs.Faults.{faults}
+use Rattle.rules.specs.Terms.{input}
+use Rattle.rules.specs.Faults.{Fault, faults}
 use Rattle.listing.specs.Checking.{checkRefusals}
 use Rattle.report.specs.declared.job.Job.{Job}
-use Rattle.report.specs.declared.job.Job.the-variants.{Of, Broken}
+use Rattle.report.specs.declared.job.Job.the-variants.{Of, NoJob}
 use Rattle.report.specs.Job.{jobOf}
 use Rattle.report.specs.Printing.{listingText, refusedText}
 
@@ -22,7 +22,7 @@ module _ (refusal : List ℕ → ℕ → ℕ → ℕ) (faults : List ℕ → ℕ
   -- '8: input doesn't start with four digits, space, eight digits, LF'; otherwise the file is checked, 'with room for 256 pairs'
   abbrev pub jobText : Job → List ℕ → List ℕ
   jobText (Of code day) file = answerText (refusal file code day) code day (take 256 (faults file code day)) (length (faults file code day))
-  jobText Broken file = refusedText 8
+  jobText NoJob file = refusedText 8
 
   -- '7: input over 65,536 bytes'; 7 and 8 come 'before all else'
   unfoldable pub printed : List ℕ → List ℕ
@@ -30,14 +30,14 @@ module _ (refusal : List ℕ → ℕ → ℕ → ℕ) (faults : List ℕ → ℕ
 
 -- checking's own refusal, for two slices of 256
 abbrev checkRefusal : List ℕ → ℕ → ℕ → ℕ
-checkRefusal file code day = first (checkRefusals file code day 256 256)
+checkRefusal file code day = first (checkRefusals file (input code day) 256 256)
 
-abbrev faultsOf : List ℕ → ℕ → ℕ → List Fault
-faultsOf file code day = faults code day file
+abbrev faultsFor : List ℕ → ℕ → ℕ → List Fault
+faultsFor file code day = faults (input code day) file
 
 abbrev pub fileText : Job → List ℕ → List ℕ
-fileText job file = jobText checkRefusal faultsOf job file
+fileText job file = jobText checkRefusal faultsFor job file
 
 -- what the program prints
 abbrev pub listOf : List ℕ → List ℕ
-listOf input = printed checkRefusal faultsOf input
+listOf input = printed checkRefusal faultsFor input

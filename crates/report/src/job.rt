@@ -7,7 +7,7 @@ ghost use Rattle.report.specs.Job.{jobLineOf, jobOf};
 // The code and the day that it gives.
 pub enum Job {
     Of(u32, u32),
-    Broken,
+    NoJob,
 }
 
 fn read_line(line: &[u8]) -> Job
@@ -16,7 +16,7 @@ fn read_line(line: &[u8]) -> Job
     if has_form(b"0000 00000000\n", line) {
         Job::Of(part(line, 0, 4), part(line, 5, 8))
     } else {
-        Job::Broken
+        Job::NoJob
     }
 }
 
@@ -25,7 +25,7 @@ pub fn read_job(input: &[u8]) -> Job
     ensures { λ r. ⌜ r ≡ jobOf (now (input .entry)) ⌝ }
 {
     if input.len() < 14 {
-        return Job::Broken;
+        return Job::NoJob;
     }
     read_line(&input[..14])
 }

@@ -7,7 +7,7 @@ ghost use mathlib.Core.Path.{_≡_};
 ghost use Prim.Native.Nat.{_+_, _*_, _≤_};
 ghost use lib.ListN.{length};
 ghost use Rattle.text.specs.Strings.{Wrote};
-ghost use Rattle.ledger.specs.Faults.{fault};
+ghost use Rattle.rules.specs.Faults.{fault};
 ghost use Rattle.ledger.specs.Slices.{held};
 ghost use Rattle.report.specs.Printing.{headerText, rowText, totalText, listingText, refusedText, Begins};
 

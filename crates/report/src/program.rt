@@ -61,6 +61,6 @@ pub fn list(input: &[u8], out: &mut [u8; 16384]) -> usize
     }
     match read_job(input) {
         Job::Of(code, day) => list_file(&input[14..], code, day, out),
-        Job::Broken => put_refused(out, 8),
+        Job::NoJob => put_refused(out, 8),
     }
 }

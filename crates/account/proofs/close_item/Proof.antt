@@ -1,7 +1,7 @@
 use native.Mathlib.Omega.{arith}
-use Rattle.blocks.specs.Model.{closeAt}
-use borrow.Author.Needs.{needs}
+use Rattle.account.specs.Model.{closeAt}
 use Rattle.account.proofs.close_item.Statement.{statement}
+use borrow.Author.Needs.{needs}
 use Rattle.account.proofs.close_item.Tie as tie
 
 enum-told : tie.Need-enum-told

@@ -1,5 +1,5 @@
 use mathlib.Core.Path.{refl}
-use Rattle.blocks.specs.Model.{emptyBlock}
+use Rattle.account.specs.Model.{emptyBlock}
 use Rattle.account.proofs.no_block.Statement.{statement}
 use Rattle.account.proofs.no_block.Tie as tie
 

@@ -1,7 +1,7 @@
 use borrow.Author.Tests.{eq-eqb, ne-eqb}
-use Rattle.blocks.specs.Model.{readBlock}
-use borrow.Author.Needs.{needs}
+use Rattle.account.specs.Model.{readBlock}
 use Rattle.account.proofs.read_block.Statement.{statement}
+use borrow.Author.Needs.{needs}
 use Rattle.account.proofs.read_block.Tie as tie
 
 no-block-requires : tie.Need-no-block-requires

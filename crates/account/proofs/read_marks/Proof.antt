@@ -1,8 +1,8 @@
 use native.Mathlib.Omega.{arith}
 use borrow.Author.Tests.{eq-eqb, ne-eqb}
-use Rattle.blocks.specs.Model.{readMarks}
-use borrow.Author.Needs.{needs}
+use Rattle.account.specs.Model.{readMarks}
 use Rattle.account.proofs.read_marks.Statement.{statement}
+use borrow.Author.Needs.{needs}
 use Rattle.account.proofs.read_marks.Tie as tie
 
 own-marks-requires : tie.Need-own-marks-requires

@@ -1,6 +1,6 @@
 use borrow.Author.Needs.{needs}
-use Rattle.blocks.specs.Model.{emptyBlock}
-use Rattle.blocks.specs.Summary.{summary}
+use Rattle.account.specs.Model.{emptyBlock}
+use Rattle.account.specs.Summary.{summary}
 use Rattle.account.proofs.start.Statement.{statement}
 use Rattle.account.proofs.start.Tie as tie
 

@@ -1,9 +1,9 @@
 use native.Mathlib.Omega.{arith}
 use borrow.Author.Tests.{lt-ltb, le-ltb}
 use Prim.Native.Nat.{_/_}
-use Rattle.blocks.specs.Model.{amountBlock, plusAt}
-use borrow.Author.Needs.{needs}
+use Rattle.account.specs.Model.{amountBlock, plusAt}
 use Rattle.account.proofs.with_amount.Statement.{statement}
+use borrow.Author.Needs.{needs}
 use Rattle.account.proofs.with_amount.Tie as tie
 
 cast-d : tie.Need-cast-d

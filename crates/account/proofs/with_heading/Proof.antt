@@ -1,6 +1,6 @@
-use Rattle.blocks.specs.Model.{headingBlock}
-use borrow.Author.Needs.{needs}
+use Rattle.account.specs.Model.{headingBlock}
 use Rattle.account.proofs.with_heading.Statement.{statement}
+use borrow.Author.Needs.{needs}
 use Rattle.account.proofs.with_heading.Tie as tie
 
 is-payment-requires : tie.Need-is-payment-requires

@@ -1,6 +1,6 @@
-use Rattle.blocks.specs.Model.{kcBlock, countsAfter, sumsAfter, amountBlock}
-use borrow.Author.Needs.{needs}
+use Rattle.account.specs.Model.{kcBlock, countsAfter, sumsAfter, amountBlock}
 use Rattle.account.proofs.with_kc.Statement.{statement}
+use borrow.Author.Needs.{needs}
 use Rattle.account.proofs.with_kc.Tie as tie
 
 enum-told : tie.Need-enum-told

@@ -1,6 +1,6 @@
-use Rattle.blocks.specs.Model.{touchedBlock}
-use mathlib.Core.Path.{refl}
+use Rattle.account.specs.Model.{touchedBlock}
 use Rattle.account.proofs.with_unreadable.Statement.{statement}
+use mathlib.Core.Path.{refl}
 use Rattle.account.proofs.with_unreadable.Tie as tie
 
 returns : tie.Need-returns

@@ -1,5 +1,5 @@
 use borrow.Author.Needs.{needs}
-use Rattle.ledger.specs.Faults.{fault}
+use Rattle.rules.specs.Faults.{fault}
 use Rattle.ledger.proofs.Placing.{Placing, place-start, place-more, place-hit, place-end}
 use Rattle.ledger.proofs.place.Statement.{statement}
 use Rattle.ledger.proofs.place.Tie as tie

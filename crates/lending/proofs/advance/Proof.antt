@@ -39,25 +39,25 @@ use denote.Triple.Table.{entered, cited}
 use denote.Triple.Walked.{says, Stays, stay-none, walkOf, AllGo, goes-none, Walks, ends-at, walked, walk-meets}
 use denote.Triple.Clauses.{ensured, lasts}
 use denote.Exit.{yes}
-use Rattle.blocks.specs.Model.{closeModel}
+use Rattle.rules.specs.declared.Digest.{Digest}
 use Rattle.blocks.specs.declared.Block.{Block}
-use Rattle.blocks.specs.declared.Item.{Item}
-use Rattle.blocks.specs.declared.Job.{Job}
-use Rattle.blocks.specs.declared.Closed.{Closed}
+use Rattle.blocks.specs.declared.Basis.{Basis}
+use Rattle.account.specs.declared.Accounted.{Accounted}
+use Rattle.account.specs.Model.{closeModel}
 use Rattle.lending.proofs.Values.{machB, machI, machJ, machC}
+use Rattle.lending.proofs.step.Symbol.{name as #step}
+use Rattle.lending.proofs.advance.Key.{name as #advance}
 use Rattle.blocks.proofs.Block as TB
 use Rattle.blocks.proofs.Block.Laws as TB′
-use Rattle.blocks.proofs.Item as TI
-use Rattle.blocks.proofs.Item.Laws as TI′
-use Rattle.blocks.proofs.Job as TJ
-use Rattle.blocks.proofs.Job.Laws as TJ′
-use Rattle.blocks.proofs.Closed as TC
-use Rattle.blocks.proofs.Closed.Laws as TC′
+use Rattle.rules.proofs.Digest as TI
+use Rattle.rules.proofs.Digest.Laws as TI′
+use Rattle.blocks.proofs.Basis as TJ
+use Rattle.blocks.proofs.Basis.Laws as TJ′
+use Rattle.account.proofs.Accounted as TC
+use Rattle.account.proofs.Accounted.Laws as TC′
 use Rattle.lending.proofs.step as stp
 use Rattle.lending.proofs.step.Symbol as step-def
-use Rattle.lending.proofs.step.Symbol.{name as #step}
 use Rattle.lending.proofs.step.Met as step-thm
-use Rattle.lending.proofs.advance.Key.{name as #advance}
 use Rattle.lending.proofs.advance as adv
 use Rattle.lending.proofs.advance.Statement as stated
 use Rattle.lending.proofs.advance.Code as code
@@ -66,15 +66,15 @@ abbrev stayed : Stays (adv.ended .signature .params) (adv.ended .kept)
 stayed = (stay-none (λ _. TB.the-row) yes, (stay-none (λ _. TI.the-row) yes, (stay-none (λ _. TJ.the-row) yes, tt)))
 
 -- what `step` ensures, at the record z that it leaves and the marks r
-abbrev Ensures : Block → Item → Job → Block → ℕ → Type 0
+abbrev Ensures : Block → Digest → Basis → Block → ℕ → Type 0
 Ensures h i j z r = (z ≡ closeModel j h i .block) × (r ≡ closeModel j h i .marks) × (r < 2 ^ 39)
 
 module _ {M : Type 1} (𝓤 : URA M) (H : Heap 𝓤) (A : Atoms 𝓤) (at-mem : Memory → SProp 𝓤) (run : Routine → Fun 𝓤) where
   abbrev Step : Contract 𝓤
   Step = tripleOf 𝓤 H A stp.signature (stp.spec 𝓤 H A at-mem run)
 
-module _ {M : Type 1} (𝓤 : URA M) (H : Heap 𝓤) (A : Atoms 𝓤) (W : Given 𝓤 H A) (at-mem : Memory → SProp 𝓤) (run : Routine → Fun 𝓤) (h : Block) (i : Item) (j : Job) (h-is : Is TB.the-row h (machB h ∷ [])) (i-is : Is TI.the-row i (machI i ∷ [])) (j-is : Is TJ.the-row j (machJ j ∷ [])) where
-  abbrev x : Block × (Item × (Job × Unit {0}))
+module _ {M : Type 1} (𝓤 : URA M) (H : Heap 𝓤) (A : Atoms 𝓤) (W : Given 𝓤 H A) (at-mem : Memory → SProp 𝓤) (run : Routine → Fun 𝓤) (h : Block) (i : Digest) (j : Basis) (h-is : Is TB.the-row h (machB h ∷ [])) (i-is : Is TI.the-row i (machI i ∷ [])) (j-is : Is TJ.the-row j (machJ j ∷ [])) where
+  abbrev x : Block × (Digest × (Basis × Unit {0}))
   x = (h, (i, (j, tt)))
 
   abbrev at : List Val × (List Val × (List Val × Unit {0}))
@@ -83,7 +83,7 @@ module _ {M : Type 1} (𝓤 : URA M) (H : Heap 𝓤) (A : Atoms 𝓤) (W : Given
   abbrev Post : Val → SProp 𝓤
   Post = walkOf 𝓤 H A adv.ended stayed (adv.clauses 𝓤 H A at-mem run) .post ((tt, tt, tt, x, at), tt)
 
-  abbrev made : Block → ℕ → Closed
+  abbrev made : Block → ℕ → Accounted
   made z r = record { block = z; marks = r }
 
   made-is : (z : Block) (r : ℕ) → Is TB.the-row z (machB z ∷ []) → r < 2 ^ 64 → Is TC.the-row (made z r) (machC (made z r) ∷ [])

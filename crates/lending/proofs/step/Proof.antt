@@ -39,25 +39,25 @@ use denote.Triple.Table.{entered, cited}
 use denote.Triple.Walked.{says, Stays, stay-ref, stay-none, walkOf, AllGo, goes-none, goes-ref, Walks, ends-at, walked, walk-meets}
 use denote.Triple.Clauses.{ensured, lasts}
 use denote.Exit.{yes}
-use Rattle.blocks.specs.Model.{closeModel}
+use Rattle.rules.specs.declared.Digest.{Digest}
 use Rattle.blocks.specs.declared.Block.{Block}
-use Rattle.blocks.specs.declared.Item.{Item}
-use Rattle.blocks.specs.declared.Job.{Job}
-use Rattle.blocks.specs.declared.Closed.{Closed}
+use Rattle.blocks.specs.declared.Basis.{Basis}
+use Rattle.account.specs.declared.Accounted.{Accounted}
+use Rattle.account.specs.Model.{closeModel}
+use Rattle.account.proofs.close_item.Symbol.{name as #close-item}
 use Rattle.lending.proofs.Values.{machB, machI, machJ}
+use Rattle.lending.proofs.step.Key.{name as #step}
 use Rattle.blocks.proofs.Block as TB
 use Rattle.blocks.proofs.Block.Laws as TB′
-use Rattle.blocks.proofs.Item as TI
-use Rattle.blocks.proofs.Item.Laws as TI′
-use Rattle.blocks.proofs.Job as TJ
-use Rattle.blocks.proofs.Job.Laws as TJ′
-use Rattle.blocks.proofs.Closed as TC
-use Rattle.blocks.proofs.Closed.Laws as TC′
+use Rattle.rules.proofs.Digest as TI
+use Rattle.rules.proofs.Digest.Laws as TI′
+use Rattle.blocks.proofs.Basis as TJ
+use Rattle.blocks.proofs.Basis.Laws as TJ′
+use Rattle.account.proofs.Accounted as TC
+use Rattle.account.proofs.Accounted.Laws as TC′
 use Rattle.account.proofs.close_item as close
 use Rattle.account.proofs.close_item.Symbol as close-def
-use Rattle.account.proofs.close_item.Symbol.{name as #close-item}
 use Rattle.account.proofs.close_item.Met as close-thm
-use Rattle.lending.proofs.step.Key.{name as #step}
 use Rattle.lending.proofs.step as stp
 use Rattle.lending.proofs.step.Statement as stated
 use Rattle.lending.proofs.step.Code as code
@@ -65,15 +65,15 @@ use Rattle.lending.proofs.step.Code as code
 abbrev stayed : Stays (stp.ended .signature .params) (stp.ended .kept)
 stayed = (stay-ref (0 ∷ []) tt (plain (λ _. TB.the-row)), (stay-none (λ _. TI.the-row) yes, (stay-none (λ _. TJ.the-row) yes, tt)))
 
--- what a `Closed` tells of its parts
-block-is : (r : Closed) {vs : List Val} → Is TC.the-row r vs → Is TB.the-row (r .block) (machB (r .block) ∷ [])
+-- what a `Accounted` tells of its parts
+block-is : (r : Accounted) {vs : List Val} → Is TC.the-row r vs → Is TB.the-row (r .block) (machB (r .block) ∷ [])
 block-is r is = LL.owed TC.the-type TC′.the-laws r _ is .0
 
-marks-fit : (r : Closed) {vs : List Val} → Is TC.the-row r vs → r .marks < 2 ^ 64
+marks-fit : (r : Accounted) {vs : List Val} → Is TC.the-row r vs → r .marks < 2 ^ 64
 marks-fit r is = LL.owed TC.the-type TC′.the-laws r _ is .1 .0 .1
 
 -- what `close_item` ensures
-abbrev Closes : Block → Item → Job → Closed → Type 0
+abbrev Closes : Block → Digest → Basis → Accounted → Type 0
 Closes h i j r = (r ≡ closeModel j h i) × (r .marks < 2 ^ 39)
 
 module _ {M : Type 1} (𝓤 : URA M) (H : Heap 𝓤) (A : Atoms 𝓤) (at-mem : Memory → SProp 𝓤) (run : Routine → Fun 𝓤) where
@@ -81,11 +81,11 @@ module _ {M : Type 1} (𝓤 : URA M) (H : Heap 𝓤) (A : Atoms 𝓤) (at-mem : 
   abbrev Close : Contract 𝓤
   Close = tripleOf 𝓤 H A close.signature (close.spec 𝓤 H A at-mem run)
 
-  closed-of : (h : Block) (i : Item) (j : Job) (r : Closed) → ent 𝓤 (ensured 𝓤 H A close.ended (close.clauses 𝓤 H A at-mem run) tt (h, (i, (j, tt))) tt r) (fact 𝓤 (Closes h i j r))
+  closed-of : (h : Block) (i : Digest) (j : Basis) (r : Accounted) → ent 𝓤 (ensured 𝓤 H A close.ended (close.clauses 𝓤 H A at-mem run) tt (h, (i, (j, tt))) tt r) (fact 𝓤 (Closes h i j r))
   closed-of h i j r = exE 𝓤 _ (λ ws. snd∗ 𝓤 (sem 𝓤 H A (lasts close.ended tt (h, (i, (j, tt))) ws)) (fact 𝓤 (Closes h i j r)))
 
-module _ {M : Type 1} (𝓤 : URA M) (H : Heap 𝓤) (A : Atoms 𝓤) (W : Given 𝓤 H A) (at-mem : Memory → SProp 𝓤) (run : Routine → Fun 𝓤) (κ : Lft) (q : Share) (b o : ℕ) (γ : GName) (h : Block) (i : Item) (j : Job) (i-is : Is TI.the-row i (machI i ∷ [])) (j-is : Is TJ.the-row j (machJ j ∷ [])) where
-  abbrev x : RefT Block × (Item × (Job × Unit {0}))
+module _ {M : Type 1} (𝓤 : URA M) (H : Heap 𝓤) (A : Atoms 𝓤) (W : Given 𝓤 H A) (at-mem : Memory → SProp 𝓤) (run : Routine → Fun 𝓤) (κ : Lft) (q : Share) (b o : ℕ) (γ : GName) (h : Block) (i : Digest) (j : Basis) (i-is : Is TI.the-row i (machI i ∷ [])) (j-is : Is TJ.the-row j (machJ j ∷ [])) where
+  abbrev x : RefT Block × (Digest × (Basis × Unit {0}))
   x = (record { ptr = (b, o); name = γ; now = h }, (i, (j, tt)))
 
   abbrev at : List Val × (List Val × (List Val × Unit {0}))
@@ -94,12 +94,12 @@ module _ {M : Type 1} (𝓤 : URA M) (H : Heap 𝓤) (A : Atoms 𝓤) (W : Given
   abbrev Post : Val → SProp 𝓤
   Post = walkOf 𝓤 H A stp.ended stayed (stp.clauses 𝓤 H A at-mem run) .post (((κ, tt), (q, tt), tt, x, at), tt)
 
-  exits : (r : Closed) → Closes h i j r → r .marks < 2 ^ 64
+  exits : (r : Accounted) → Closes h i j r → r .marks < 2 ^ 64
       → ent 𝓤 (sep 𝓤 (A .obs γ (TB.the-row .coded .code (r .block))) (sep 𝓤 (A .bor κ (Body (mem TB.the-row) b o γ)) (A .lft κ q))) (Post (vint w64 (r .marks)))
   exits r e fits =
       qed W (‵ (fobs γ (TB.the-row .coded .code (r .block))) ∷ ‵ (fbor κ (Body (mem TB.the-row) b o γ)) ∷ ‵ (flft κ q) ∷ []) ∵
       suffices ! _ (ends-at 𝓤 H A stp.ended stayed (stp.clauses 𝓤 H A at-mem run) W (((κ, tt), (q, tt), tt, x, at), tt) (vint w64 (r .marks)) (r .marks) (r .block, (tt, (tt, tt))) (tt, (tt, (tt, tt)))) $
-      says ! (ap (λ (c : Closed). c .block) (e .0), ap (λ (c : Closed). c .marks) (e .0), e .1) $ nothing ! $ move ! (3 ∷ 0 ∷ []) $ join ! $
+      says ! (ap (λ (c : Accounted). c .block) (e .0), ap (λ (c : Accounted). c .marks) (e .0), e .1) $ nothing ! $ move ! (3 ∷ 0 ∷ []) $ join ! $
       frame ! $ feqI ! (List Val) (vptr b o ∷ []) (vptr b o ∷ []) refl $ fjoin3 ! $ nothing ! $ owned ! TJ.the-row (Is TJ.the-row) (LL.makes TJ.the-type TJ′.the-plain 𝓤 H A) j _ j-is $ fjoin ! $
       owned ! TI.the-row (Is TI.the-row) (LL.makes TI.the-type TI′.the-plain 𝓤 H A) i _ i-is $ fjoin ! $ move ! (1 ∷ 0 ∷ []) $ fjoin ! $
       owned ! u64 (Is u64) (uint-makes 𝓤 H A W w64) (r .marks) _ (refl, fits) $ move ! (1 ∷ 0 ∷ []) $ done !
@@ -117,17 +117,17 @@ module _ {M : Type 1} (𝓤 : URA M) (H : Heap 𝓤) (A : Atoms 𝓤) (W : Given
     walk =
         qed W ((‵ (flft κ q) ⊛ ‵ ftrue) ∷ ‵ (owns (MutRef (named 0) κ TB.the-row ∷ TI.the-row ∷ TJ.the-row ∷ []) x at) ∷ []) ∵ split ! $ move ! (2 ∷ []) $ fsplit ! $ move ! (1 ∷ []) $ fsplit ! $
         move ! (1 ∷ []) $ fsplit ! $ move ! (3 ∷ []) $ fsplit3 ! $ drop ! $ move ! (0 ∷ 1 ∷ 5 ∷ 4 ∷ 2 ∷ []) $
-        -- [obs; the borrow; the token; what the item owns; what the job owns; true; true]
+        -- [obs; the borrow; the token; what the item owns; what the basis owns; true; true]
         enter ! C Λ code.function (vptr b o ∷ machI i ∷ machJ j ∷ []) _ $
         alloc1 ! (λ l₀. alloc1 ! (λ l₁. alloc1 ! (λ l₂. alloc1 ! (λ l₃. alloc1 ! (λ l₄. alloc1 ! (λ l₅. alloc0 ! $ params1 ! $ pass1 ! (init ! 8 refl (tt, tt)) $
         pass1 ! (init ! 6 refl (LL.lawful TI.the-type TI′.the-laws 𝓤 H A W .typed i _ i-is .0)) $ pass1 ! (init ! 4 refl (LL.lawful TJ.the-type TJ′.the-laws 𝓤 H A W .typed j _ j-is .0)) $ pass0 ! $
         move ! (12 ∷ 13 ∷ 14 ∷ []) $ opens ! tt TB.the-row {h = h} b o (λ vs. spelt ! TB.the-row (Is TB.the-row) (shows 𝓤 H A TB.the-row) (LL.vals TB.the-type TB′.the-laws) (LL.tells TB.the-type TB′.the-laws) fullShare h vs b o $
         move ! (1 ∷ []) $ peeks ! TB.the-row (Is TB.the-row) (shows 𝓤 H A TB.the-row) h (machB h ∷ []) (λ h-is. move ! (1 ∷ 0 ∷ []) $
-        -- [the record's cell; what it owns; the open borrow; obs; auth; _5 (5); …; _4 (7); …; _3 (9); …; _2 (11); …; _1 (13); …; room for _0 (15); …; what the item owns (17); what the job owns; true; true]
+        -- [the record's cell; what it owns; the open borrow; obs; auth; _5 (5); …; _4 (7); …; _3 (9); …; _2 (11); …; _1 (13); …; room for _0 (15); …; what the item owns (17); what the basis owns; true; true]
         assigns ! (of-opd ! (load ! (from ! (hop ! (look ! 13 refl) (stop !))) (look-raw ! 0 refl))) (from ! (stop !)) (init ! 5 refl (LL.lawful TB.the-type TB′.the-laws 𝓤 H A W .typed h _ h-is .0)) $
         move ! (17 ∷ 18 ∷ []) $ use2 W (raw (Close 𝓤 H A at-mem run .pre to-close)) (goes-close h-is) $
         calls-at ! fm (Close 𝓤 H A at-mem run) known to-close (and-then ! (load ! (from ! (stop !)) (look ! 6 refl)) (and-then ! (load ! (from ! (stop !)) (look ! 12 refl)) (and-then ! (load ! (from ! (stop !)) (look ! 10 refl)) (no-more !)))) (λ v.
-        use1 W (later (some (λ (r : Closed). (‵ ftrue ⊛ ‵ (TC.the-row .own r (v ∷ []))) ⊛ raw (ensured 𝓤 H A close.ended (close.clauses 𝓤 H A at-mem run) tt (h, (i, (j, tt))) tt r)))) (id⊢ 𝓤 _) $ await ! tt $ pick ! (λ r.
+        use1 W (later (some (λ (r : Accounted). (‵ ftrue ⊛ ‵ (TC.the-row .own r (v ∷ []))) ⊛ raw (ensured 𝓤 H A close.ended (close.clauses 𝓤 H A at-mem run) tt (h, (i, (j, tt))) tt r)))) (id⊢ 𝓤 _) $ await ! tt $ pick ! (λ r.
         split ! $ move ! (1 ∷ []) $ use1 W (raw (fact 𝓤 (Closes h i j r))) (closed-of 𝓤 H A at-mem run h i j r) $ heard ! (Closes h i j r) (λ e. split ! $ drop ! $
         peeks ! TC.the-row (Is TC.the-row) (shows 𝓤 H A TC.the-row) r (v ∷ []) (λ is.
         land ! (from ! (stop !)) (init ! 8 refl (LL.lawful TC.the-type TC′.the-laws 𝓤 H A W .typed r _ is .0)) $

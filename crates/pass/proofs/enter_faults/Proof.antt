@@ -4,23 +4,24 @@ use mathlib.Core.Logic.{⊎-elim}
 use Prim.Native.Nat.{suc, _-_}
 use native.Mathlib.Omega.{arith}
 use lib.ListN.{length}
-use Rattle.lines.specs.Reading.{span, IsNext}
-use Rattle.lines.proofs.Reading.{is-next}
 use Rattle.fields.specs.declared.classes.Class.{Class}
 use Rattle.fields.specs.Readings.{textOf, readingOf}
-use Rattle.items.proofs.Sets.{lineMarks}
+use Rattle.lines.specs.Reading.{span, IsNext}
+use Rattle.lines.proofs.Reading.{is-next}
+use Rattle.rules.specs.Terms.{input}
 use Rattle.judging.specs.Opening.{lowOpen, closeClaims}
+use Rattle.judging.proofs.Sets.{lineMarks}
 use Rattle.pass.proofs.Walk.{Walking, own-at, claims-closed, claims-kept, own-took, own-left, span-long, ident-few, walk-start, walk-ready, walk-room, walk-tail, walk-other, walk-more, walk-field, walk-head, walk-end}
-use borrow.Author.Needs.{needs}
 use Rattle.pass.proofs.enter_faults.Statement.{statement}
+use borrow.Author.Needs.{needs}
 use Rattle.pass.proofs.enter_faults.Tie as tie
 
 abbrev Inv-loop : tie.InvT-loop
-Inv-loop s code day lines₀ rules₀ job table stood₀ g₀ open₀ pend₀ since₀ top₀ reads₀ h₀ claims₀ block₀ wait₀ at₀ n₀ lines rules stood g «open» pend since top reads h claims block wait at n =
-    Walking code day s lines₀ rules₀ job lines rules stood g «open» pend since top reads h claims block wait at n
+Inv-loop s code day lines₀ rules₀ basis table stood₀ g₀ open₀ pend₀ since₀ top₀ reads₀ h₀ claims₀ block₀ wait₀ at₀ n₀ lines rules stood g «open» pend since top reads h claims block wait at n =
+    Walking (input code day) s lines₀ rules₀ basis lines rules stood g «open» pend since top reads h claims block wait at n
 
 abbrev μ-loop : tie.MeasureT-loop
-μ-loop s code day lines₀ rules₀ job table stood₀ g₀ open₀ pend₀ since₀ top₀ reads₀ h₀ claims₀ block₀ wait₀ at₀ n₀ lines rules stood g «open» pend since top reads h claims block wait at n =
+μ-loop s code day lines₀ rules₀ basis table stood₀ g₀ open₀ pend₀ since₀ top₀ reads₀ h₀ claims₀ block₀ wait₀ at₀ n₀ lines rules stood g «open» pend since top reads h claims block wait at n =
     length s - at
 
 -- the line that was found
@@ -39,8 +40,8 @@ claims-joined c =
     ⊎-elim (λ w. w .2 ∙ w .1 .ensures ∙ claims-closed (at-loop .loop .«open») (at-loop .loop .pend) (at-loop .loop .claims) (w .0 .taken))
     (λ w. w .1 ∙ claims-kept (at-loop .loop .«open») (at-loop .loop .pend) (at-loop .loop .claims) (w .0 .left)) (c .if1 .came)
 
-job-of-requires : tie.Need-job-of-requires Inv-loop μ-loop
-job-of-requires c κs = search needs
+basis-of-requires : tie.Need-basis-of-requires Inv-loop μ-loop
+basis-of-requires c κs = search needs
 
 table-requires : tie.Need-table-requires Inv-loop μ-loop
 table-requires c κs = search needs
@@ -71,7 +72,7 @@ no-wait-requires c κs = search needs
 
 loop-holds : tie.Need-loop-holds Inv-loop μ-loop
 loop-holds c =
-    walk-start _ _ _ (c .before .before .before .before .before .before .before .before .before .before .before .before .before .pre .1) (c .before .before .before .before .before .before .before .before .before .job-of .ensures) (c .before .before .before .before .before .none-open .ensures) (c .before .before .no-claims .ensures) (c .before .start .ensures) (c .no-wait .ensures) (c .before .before .before .before .before .before .before .unseen .ensures) (c .before .before .before .before .before .before .empty .ensures)
+    walk-start _ _ (c .before .before .before .before .before .before .before .before .before .before .before .before .before .pre .1) (c .before .before .before .before .before .before .before .before .before .basis-of .ensures) (c .before .before .before .before .before .none-open .ensures) (c .before .before .no-claims .ensures) (c .before .start .ensures) (c .no-wait .ensures) (c .before .before .before .before .before .before .before .unseen .ensures) (c .before .before .before .before .before .before .empty .ensures)
 
 line-from-requires : tie.Need-line-from-requires Inv-loop μ-loop
 line-from-requires c κs = search needs
@@ -315,7 +316,7 @@ enter-faults-spec =
     (tie.spec
     Inv-loop
     μ-loop
-    job-of-requires
+    basis-of-requires
     table-requires
     unseen-requires
     empty-requires

@@ -2,10 +2,10 @@ use mathlib.Core.Path.{_∙_}
 use native.Mathlib.Omega.{arith}
 use Rattle.ledger.proofs.Marks.{marked-few}
 use Rattle.ledger.proofs.Entering.{entered-both}
-use Rattle.judging.specs.Opening.{closeAs, closeFaults}
+use Rattle.judging.specs.Closing.{closeAs, closeFaults}
 use Rattle.pass.proofs.Walk.{entered-list}
-use borrow.Author.Needs.{needs}
 use Rattle.pass.proofs.shut_all.Statement.{statement}
+use borrow.Author.Needs.{needs}
 use Rattle.pass.proofs.shut_all.Tie as tie
 
 enter-requires : tie.Need-enter-requires
@@ -38,10 +38,10 @@ returns c =
     let item = c .before .before .before .before .shut-item .ensures in
     let er = c .before .before .before .before .before .before .before .read-as .ensures in
     let ec = c .before .before .before .before .before .before .before .before .claims-after .ensures in (
-      entered-both (start .pre .0) E (entered-list (λ i. closeFaults (a .job) (a .b) (a .w) (a .no) (a .own) (er i) (ec i)) (item .0)),
+      entered-both (start .pre .0) E (entered-list (λ i. closeFaults (a .basis) (a .b) (a .w) (a .no) (a .own) (er i) (ec i)) (item .0)),
       (
-        item .1 .0 ∙ (λ i. closeAs (a .job) (a .b) (a .w) (a .no) (a .own) (er i) (ec i) .block),
-        item .1 .1 ∙ (λ i. closeAs (a .job) (a .b) (a .w) (a .no) (a .own) (er i) (ec i) .wait),
+        item .1 .0 ∙ (λ i. closeAs (a .basis) (a .b) (a .w) (a .no) (a .own) (er i) (ec i) .block),
+        item .1 .1 ∙ (λ i. closeAs (a .basis) (a .b) (a .w) (a .no) (a .own) (er i) (ec i) .wait),
         item .1 .2,
       ),
     )

@@ -2,11 +2,11 @@ use mathlib.Core.Path.{ap, _∙_}
 use native.Mathlib.Omega.{arith}
 use Rattle.ledger.specs.Marks.{marked}
 use Rattle.ledger.proofs.Entering.{entered-both}
-use Rattle.items.specs.State.{lastMarks}
+use Rattle.judging.specs.Closing.{lastMarks}
 use Rattle.judging.specs.Opening.{readAs, closeClaims}
 use Rattle.pass.proofs.Walk.{entered-list, close-few}
-use borrow.Author.Needs.{needs}
 use Rattle.pass.proofs.shut_file.Statement.{statement}
+use borrow.Author.Needs.{needs}
 use Rattle.pass.proofs.shut_file.Tie as tie
 
 shut-all-requires : tie.Need-shut-all-requires
@@ -20,7 +20,7 @@ enter-requires c κs =
     let start = c .before .before .before .before .before .before .before .before .before .before .before .before in
     let a = start .args in
     let E = c .before .before .before .before .before .before .before .shut-all .ensures .0 in
-    (E .put .ready, omega (arith, E .sum, start .pre .1 .0, close-few (a .o) (a .job) (a .b) (a .w) (a .no) (a .own) (readAs (a .reads) (a .h)) (closeClaims (a .claims) (a .o) (a .p))))
+    (E .put .ready, omega (arith, E .sum, start .pre .1 .0, close-few (a .o) (a .basis) (a .b) (a .w) (a .no) (a .own) (readAs (a .reads) (a .h)) (closeClaims (a .claims) (a .o) (a .p))))
 
 same-length : tie.Need-same-length
 same-length c = search needs

@@ -1,10 +1,10 @@
 use mathlib.Core.Path.{ap}
 use Rattle.ledger.specs.Marks.{marked}
 use Rattle.ledger.proofs.Entering.{entered-both}
-use Rattle.items.specs.declared.Shut.{Shut}
+use Rattle.judging.specs.declared.Shut.{Shut}
 use Rattle.pass.proofs.Walk.{entered-list}
-use borrow.Author.Needs.{needs}
 use Rattle.pass.proofs.shut_item.Statement.{statement}
+use borrow.Author.Needs.{needs}
 use Rattle.pass.proofs.shut_item.Tie as tie
 
 close-item-requires : tie.Need-close-item-requires

@@ -3,7 +3,7 @@
 use second::heading::Heading;
 use second::samples::dice::Dice;
 
-use crate::groups::Group;
+use crate::group::Group;
 use crate::judge::Judge;
 
 const OUTCOMES: [u32; 16] = [0, 1, 2, 3, 4, 5, 6, 7, 8, 9, 10, 255, 257, 263, 65_537, u32::MAX];

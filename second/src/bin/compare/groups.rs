@@ -1,4 +1,4 @@
-//! The groups of comparisons, by name.
+//! All groups of comparisons.
 
 use second::samples::Sample;
 use second::samples::clean;
@@ -9,38 +9,11 @@ use second::samples::mutations::ALL as MUTATIONS;
 use second::samples::soup;
 
 use crate::calls;
+use crate::group::Group;
 use crate::judge::Judge;
 use crate::options::Options;
 use crate::refusals;
 use crate::sheets;
-
-type Run = Box<dyn Fn(&mut Judge, &mut Dice, u64) + Sync>;
-
-pub struct Group {
-    pub name: &'static str,
-    pub cases: u64,
-    /// Another seed gives other cases: worth running again.
-    pub is_random: bool,
-    pub run: Run,
-}
-
-impl Group {
-    pub fn listed(
-        name: &'static str,
-        cases: u64,
-        run: impl Fn(&mut Judge, &mut Dice, u64) + Sync + 'static,
-    ) -> Self {
-        Group { name, cases, is_random: false, run: Box::new(run) }
-    }
-
-    pub fn random(
-        name: &'static str,
-        cases: u64,
-        run: impl Fn(&mut Judge, &mut Dice, u64) + Sync + 'static,
-    ) -> Self {
-        Group { name, cases, is_random: true, run: Box::new(run) }
-    }
-}
 
 pub fn all(options: &Options) -> Vec<Group> {
     let edges = edges::all().into_iter().map(|edge| {

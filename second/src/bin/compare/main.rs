@@ -10,6 +10,7 @@ mod calls;
 #[path = "../../face.rs"]
 #[allow(unsafe_code)]
 mod face;
+mod group;
 mod groups;
 mod judge;
 mod lent;
@@ -24,7 +25,7 @@ use std::sync::atomic::{AtomicU64, Ordering};
 use std::thread;
 use std::time::{Duration, Instant};
 
-use groups::Group;
+use group::Group;
 use judge::Judge;
 use options::Options;
 use second::samples::dice::Dice;

@@ -5,7 +5,7 @@ use second::samples::clean;
 use second::samples::dice::Dice;
 use second::samples::{Job, Sample};
 
-use crate::groups::Group;
+use crate::group::Group;
 use crate::judge::Judge;
 
 pub const CODES: [u32; 8] = [0, 1, 300, 9999, 10_000, 65_836, 1 << 31, u32::MAX];

@@ -6,7 +6,7 @@ skips-to-requires : tie.Need-skips-to-requires
 skips-to-requires c κs = search needs
 
 returns : tie.Need-returns
-returns c = rw (c .skips-to .ensures)
+returns c = rw (c .before .skips-to .ensures)
 
 pub breaks-nineteen-closing-spec : {M : Type 1} → statement M
 breaks-nineteen-closing-spec = tie.close (tie.spec skips-to-requires returns)

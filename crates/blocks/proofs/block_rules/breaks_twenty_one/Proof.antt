@@ -18,7 +18,7 @@ returns-2 : tie.Need-returns-2
 returns-2 c = search needs
 
 returns-3 : tie.Need-returns-3
-returns-3 c = rw (c .before .before .before .span .given .1)
+returns-3 c = rw (c .before .before .before .before .before .span .given .1)
 
 pub breaks-twenty-one-spec : {M : Type 1} → statement M
 breaks-twenty-one-spec =

@@ -1,7 +1,7 @@
 use native.Mathlib.Omega.{arith}
 use Rattle.blocks.specs.Model.{closingMarks}
-use borrow.Author.Needs.{needs}
 use Rattle.blocks.proofs.block_rules.closing_marks.Statement.{statement}
+use borrow.Author.Needs.{needs}
 use Rattle.blocks.proofs.block_rules.closing_marks.Tie as tie
 
 flag-requires : tie.Need-flag-requires

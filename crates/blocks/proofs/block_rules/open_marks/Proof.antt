@@ -1,7 +1,7 @@
 use native.Mathlib.Omega.{arith}
 use Rattle.blocks.specs.Model.{openMarks}
-use borrow.Author.Needs.{needs}
 use Rattle.blocks.proofs.block_rules.open_marks.Statement.{statement}
+use borrow.Author.Needs.{needs}
 use Rattle.blocks.proofs.block_rules.open_marks.Tie as tie
 
 breaks-eighteen-requires : tie.Need-breaks-eighteen-requires

@@ -1,6 +1,6 @@
 use Rattle.blocks.specs.Model.{groupBreaks}
-use borrow.Author.Needs.{needs}
 use Rattle.blocks.proofs.groups.group_breaks.Statement.{statement}
+use borrow.Author.Needs.{needs}
 use Rattle.blocks.proofs.groups.group_breaks.Tie as tie
 
 mul-group : tie.Need-mul-group

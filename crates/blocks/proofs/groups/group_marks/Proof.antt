@@ -1,7 +1,7 @@
 use native.Mathlib.Omega.{arith}
 use Rattle.blocks.specs.Model.{groupMarks}
-use borrow.Author.Needs.{needs}
 use Rattle.blocks.proofs.groups.group_marks.Statement.{statement}
+use borrow.Author.Needs.{needs}
 use Rattle.blocks.proofs.groups.group_marks.Tie as tie
 
 group-mark-requires : tie.Need-group-mark-requires

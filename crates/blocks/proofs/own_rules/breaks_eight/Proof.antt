@@ -1,7 +1,7 @@
 use borrow.Author.Tests.{eq-eqb, ne-eqb}
 use Rattle.blocks.specs.Model.{breaks8}
-use borrow.Author.Needs.{needs}
 use Rattle.blocks.proofs.own_rules.breaks_eight.Statement.{statement}
+use borrow.Author.Needs.{needs}
 use Rattle.blocks.proofs.own_rules.breaks_eight.Tie as tie
 
 is-payment-requires : tie.Need-is-payment-requires

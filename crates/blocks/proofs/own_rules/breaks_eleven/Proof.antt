@@ -1,7 +1,7 @@
 use borrow.Author.Tests.{eq-eqb, ne-eqb}
 use Rattle.blocks.specs.Model.{breaks11}
-use borrow.Author.Needs.{needs}
 use Rattle.blocks.proofs.own_rules.breaks_eleven.Statement.{statement}
+use borrow.Author.Needs.{needs}
 use Rattle.blocks.proofs.own_rules.breaks_eleven.Tie as tie
 
 returns : tie.Need-returns

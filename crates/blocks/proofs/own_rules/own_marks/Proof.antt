@@ -1,7 +1,7 @@
 use native.Mathlib.Omega.{arith}
 use Rattle.blocks.specs.Model.{ownMarks}
-use borrow.Author.Needs.{needs}
 use Rattle.blocks.proofs.own_rules.own_marks.Statement.{statement}
+use borrow.Author.Needs.{needs}
 use Rattle.blocks.proofs.own_rules.own_marks.Tie as tie
 
 breaks-ten-requires : tie.Need-breaks-ten-requires

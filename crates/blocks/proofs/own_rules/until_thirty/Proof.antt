@@ -1,5 +1,5 @@
 use Rattle.laws.proofs.OneOf.{one-of}
-use Rattle.blocks.specs.OwnRules.{untilThirty}
+use Rattle.rules.specs.FieldRules.{untilThirty}
 use Rattle.blocks.proofs.own_rules.until_thirty.Statement.{statement}
 use Rattle.blocks.proofs.own_rules.until_thirty.Tie as tie
 

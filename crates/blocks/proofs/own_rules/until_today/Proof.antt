@@ -1,5 +1,5 @@
 use Rattle.laws.proofs.OneOf.{one-of}
-use Rattle.blocks.specs.OwnRules.{untilToday}
+use Rattle.rules.specs.FieldRules.{untilToday}
 use Rattle.blocks.proofs.own_rules.until_today.Statement.{statement}
 use Rattle.blocks.proofs.own_rules.until_today.Tie as tie
 

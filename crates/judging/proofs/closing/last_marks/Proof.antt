@@ -1,7 +1,7 @@
 use native.Mathlib.Omega.{arith}
-use Rattle.items.specs.State.{lastMarks}
-use borrow.Author.Needs.{needs}
+use Rattle.judging.specs.Closing.{lastMarks}
 use Rattle.judging.proofs.closing.last_marks.Statement.{statement}
+use borrow.Author.Needs.{needs}
 use Rattle.judging.proofs.closing.last_marks.Tie as tie
 
 add-flag : tie.Need-add-flag

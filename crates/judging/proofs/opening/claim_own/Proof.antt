@@ -1,7 +1,7 @@
 use borrow.Author.Tests.{eq-eqb, ne-eqb}
 use Rattle.fields.specs.Kinds.{place}
-use borrow.Author.Needs.{needs}
 use Rattle.judging.proofs.opening.claim_own.Statement.{statement}
+use borrow.Author.Needs.{needs}
 use Rattle.judging.proofs.opening.claim_own.Tie as tie
 
 with-claim-requires : tie.Need-with-claim-requires

@@ -1,8 +1,8 @@
 use borrow.Author.Tests.{eq-eqb, ne-eqb}
 use Rattle.fields.specs.Kinds.{place}
 use Rattle.judging.specs.Opening.{codeOf}
-use borrow.Author.Needs.{needs}
 use Rattle.judging.proofs.opening.code_of.Statement.{statement}
+use borrow.Author.Needs.{needs}
 use Rattle.judging.proofs.opening.code_of.Tie as tie
 
 returns : tie.Need-returns

@@ -1,7 +1,7 @@
 use borrow.Author.Tests.{eq-eqb, ne-eqb}
 use Rattle.fields.specs.Kinds.{place}
-use borrow.Author.Needs.{needs}
 use Rattle.judging.proofs.opening.field_open.Statement.{statement}
+use borrow.Author.Needs.{needs}
 use Rattle.judging.proofs.opening.field_open.Tie as tie
 
 add-t14 : tie.Need-add-t14

@@ -1,5 +1,4 @@
 use borrow.Author.Tests.{le-leb, lt-leb}
-use borrow.Author.Needs.{needs}
 use Rattle.judging.proofs.opening.keep_own.Statement.{statement}
 use Rattle.judging.proofs.opening.keep_own.Tie as tie
 

@@ -1,7 +1,7 @@
 use native.Mathlib.Omega.{arith}
 use Rattle.judging.proofs.Cases.{marks-broken, marks-plain, marks-span, marks-stated, marks-party, marks-paid}
-use borrow.Author.Needs.{needs}
 use Rattle.judging.proofs.opening.said_marks.Statement.{statement}
+use borrow.Author.Needs.{needs}
 use Rattle.judging.proofs.opening.said_marks.Tie as tie
 
 enum-told : tie.Need-enum-told

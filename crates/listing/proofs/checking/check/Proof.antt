@@ -11,34 +11,34 @@ is-code-requires : tie.Need-is-code-requires
 is-code-requires c κs = search needs
 
 returns : tie.Need-returns
-returns c = bad-code _ _ _ _ _ (ap not (sym (c .before .is-code .ensures)) ∙ c .if1 .taken)
+returns c = bad-code _ _ _ _ (ap not (sym (c .before .is-code .ensures)) ∙ c .if1 .taken)
 
 is-accounting-day-requires : tie.Need-is-accounting-day-requires
 is-accounting-day-requires c κs = search needs
 
 returns-2 : tie.Need-returns-2
-returns-2 c = bad-day _ _ _ _ _ (ap not (sym (c .before .before .before .is-code .ensures)) ∙ c .before .before .if1 .left) (ap not (sym (c .before .is-accounting-day .ensures)) ∙ c .if2 .taken)
+returns-2 c = bad-day _ _ _ _ (ap not (sym (c .before .before .before .is-code .ensures)) ∙ c .before .before .if1 .left) (ap not (sym (c .before .is-accounting-day .ensures)) ∙ c .if2 .taken)
 
 returns-3 : tie.Need-returns-3
-returns-3 c = too-long _ _ _ _ _ (ap not (sym (c .before .before .before .before .is-code .ensures)) ∙ c .before .before .before .if1 .left) (ap not (sym (c .before .before .is-accounting-day .ensures)) ∙ c .before .if2 .left) (c .if3 .taken)
+returns-3 c = too-long _ _ _ _ (ap not (sym (c .before .before .before .before .is-code .ensures)) ∙ c .before .before .before .if1 .left) (ap not (sym (c .before .before .is-accounting-day .ensures)) ∙ c .before .if2 .left) (c .if3 .taken)
 
 returns-4 : tie.Need-returns-4
-returns-4 c = unequal-rooms _ _ _ _ _ (ap not (sym (c .before .before .before .before .before .is-code .ensures)) ∙ c .before .before .before .before .if1 .left) (ap not (sym (c .before .before .before .is-accounting-day .ensures)) ∙ c .before .before .if2 .left) (c .before .if3 .left) (c .if4 .taken)
+returns-4 c = unequal-rooms _ _ _ _ (ap not (sym (c .before .before .before .before .before .is-code .ensures)) ∙ c .before .before .before .before .if1 .left) (ap not (sym (c .before .before .before .is-accounting-day .ensures)) ∙ c .before .before .if2 .left) (c .before .if3 .left) (c .if4 .taken)
 
 body-len-requires : tie.Need-body-len-requires
 body-len-requires c κs = search needs
 
 returns-5 : tie.Need-returns-5
-returns-5 c = no-mark _ _ _ _ _ (ap not (sym (c .before .before .before .before .before .before .before .is-code .ensures)) ∙ c .before .before .before .before .before .before .if1 .left) (ap not (sym (c .before .before .before .before .before .is-accounting-day .ensures)) ∙ c .before .before .before .before .if2 .left) (c .before .before .before .if3 .left) (c .before .before .if4 .left) _ (c .before .body-len .ensures) (c .if5 .taken)
+returns-5 c = no-mark _ _ _ _ (ap not (sym (c .before .before .before .before .before .before .before .is-code .ensures)) ∙ c .before .before .before .before .before .before .if1 .left) (ap not (sym (c .before .before .before .before .before .is-accounting-day .ensures)) ∙ c .before .before .before .before .if2 .left) (c .before .before .before .if3 .left) (c .before .before .if4 .left) _ (c .before .body-len .ensures) (c .if5 .taken)
 
 add-if6 : tie.Need-add-if6
 add-if6 c = search needs
 
 returns-6 : tie.Need-returns-6
-returns-6 c = leftovers _ _ _ _ _ (ap not (sym (c .before .before .before .before .before .before .before .before .is-code .ensures)) ∙ c .before .before .before .before .before .before .before .if1 .left) (ap not (sym (c .before .before .before .before .before .before .is-accounting-day .ensures)) ∙ c .before .before .before .before .before .if2 .left) (c .before .before .before .before .if3 .left) (c .before .before .before .if4 .left) _ (c .before .before .body-len .ensures) (c .before .if5 .left) (c .if6 .taken)
+returns-6 c = leftovers _ _ _ _ (ap not (sym (c .before .before .before .before .before .before .before .before .is-code .ensures)) ∙ c .before .before .before .before .before .before .before .if1 .left) (ap not (sym (c .before .before .before .before .before .before .is-accounting-day .ensures)) ∙ c .before .before .before .before .before .if2 .left) (c .before .before .before .before .if3 .left) (c .before .before .before .if4 .left) _ (c .before .before .body-len .ensures) (c .before .if5 .left) (c .if6 .taken)
 
 returns-7 : tie.Need-returns-7
-returns-7 c = starts-with-mark _ _ _ _ _ (ap not (sym (c .before .before .before .before .before .before .before .before .before .is-code .ensures)) ∙ c .before .before .before .before .before .before .before .before .if1 .left) (ap not (sym (c .before .before .before .before .before .before .before .is-accounting-day .ensures)) ∙ c .before .before .before .before .before .before .if2 .left) (c .before .before .before .before .before .if3 .left) (c .before .before .before .before .if4 .left) _ (c .before .before .before .body-len .ensures) (c .before .before .if5 .left) (c .before .if6 .left) (c .if7 .taken)
+returns-7 c = starts-with-mark _ _ _ _ (ap not (sym (c .before .before .before .before .before .before .before .before .before .is-code .ensures)) ∙ c .before .before .before .before .before .before .before .before .if1 .left) (ap not (sym (c .before .before .before .before .before .before .before .is-accounting-day .ensures)) ∙ c .before .before .before .before .before .before .if2 .left) (c .before .before .before .before .before .if3 .left) (c .before .before .before .before .if4 .left) _ (c .before .before .before .body-len .ensures) (c .before .before .if5 .left) (c .before .if6 .left) (c .if7 .taken)
 
 slice-aggregate-enter-faults : tie.Need-slice-aggregate-enter-faults
 slice-aggregate-enter-faults c = sym (length-take-le _ (c .before .before .before .before .before .before .before .before .before .before .before .before .before .before .args .file .now) (omega (arith, c .before .before .before .if5 .left)))
@@ -53,7 +53,7 @@ same-length-2 : tie.Need-same-length-2
 same-length-2 c = search needs
 
 returns-8 : tie.Need-returns-8
-returns-8 c = checked _ _ _ _ _ (ap not (sym (c .before .before .before .before .before .before .before .before .before .before .before .before .before .before .before .before .before .is-code .ensures)) ∙ c .before .before .before .before .before .before .before .before .before .before .before .before .before .before .before .before .if1 .left) (ap not (sym (c .before .before .before .before .before .before .before .before .before .before .before .before .before .before .before .is-accounting-day .ensures)) ∙ c .before .before .before .before .before .before .before .before .before .before .before .before .before .before .if2 .left) (c .before .before .before .before .before .before .before .before .before .before .before .before .before .if3 .left) (c .before .before .before .before .before .before .before .before .before .before .before .before .if4 .left) _ (c .before .before .before .before .before .before .before .before .before .before .before .body-len .ensures) (c .before .before .before .before .before .before .before .before .before .before .if5 .left) (c .before .before .before .before .before .before .before .before .before .if6 .left) (c .before .before .before .before .before .before .before .before .if7 .left) (c .before .before .before .before .enter-faults .ensures)
+returns-8 c = checked _ _ _ _ (ap not (sym (c .before .before .before .before .before .before .before .before .before .before .before .before .before .before .before .before .before .is-code .ensures)) ∙ c .before .before .before .before .before .before .before .before .before .before .before .before .before .before .before .before .if1 .left) (ap not (sym (c .before .before .before .before .before .before .before .before .before .before .before .before .before .before .before .is-accounting-day .ensures)) ∙ c .before .before .before .before .before .before .before .before .before .before .before .before .before .before .if2 .left) (c .before .before .before .before .before .before .before .before .before .before .before .before .before .if3 .left) (c .before .before .before .before .before .before .before .before .before .before .before .before .if4 .left) _ (c .before .before .before .before .before .before .before .before .before .before .before .body-len .ensures) (c .before .before .before .before .before .before .before .before .before .before .if5 .left) (c .before .before .before .before .before .before .before .before .before .if6 .left) (c .before .before .before .before .before .before .before .before .if7 .left) (c .before .before .before .before .enter-faults .ensures)
 
 pub check-spec : {M : Type 1} → statement M
 check-spec =

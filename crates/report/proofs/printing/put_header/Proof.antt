@@ -1,7 +1,7 @@
 use Rattle.text.proofs.Wrote.{then}
 use Rattle.report.specs.Printing.{headerText}
-use borrow.Author.Needs.{needs}
 use Rattle.report.proofs.printing.put_header.Statement.{statement}
+use borrow.Author.Needs.{needs}
 use Rattle.report.proofs.printing.put_header.Tie as tie
 
 slice-aggregate-put : tie.Need-slice-aggregate-put

@@ -3,12 +3,13 @@ use mathlib.Core.Path.{_≡_, refl, _∙_}
 use native.Mathlib.Omega.{arith}
 use lib.ListN.{length}
 use Rattle.text.specs.Strings.{Wrote}
-use Rattle.text.proofs.Wrote.{then, same-length as as-long}
+use Rattle.text.proofs.Wrote.{then}
+use Rattle.text.proofs.Wrote.{same-length as as-long}
 use Rattle.ledger.specs.Slices.{held}
 use Rattle.report.specs.Printing.{rowTexts, listingText}
 use Rattle.report.proofs.Listings.{rows-none, rows-more, at-start}
-use borrow.Author.Needs.{needs}
 use Rattle.report.proofs.printing.put_listing.Statement.{statement}
+use borrow.Author.Needs.{needs}
 use Rattle.report.proofs.printing.put_listing.Tie as tie
 
 abbrev Inv-loop : tie.InvT-loop

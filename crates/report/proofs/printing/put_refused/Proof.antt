@@ -1,8 +1,8 @@
 use Rattle.text.proofs.Wrote.{then}
 use Rattle.report.specs.Printing.{refusedText}
 use Rattle.report.proofs.Listings.{room-for, at-start}
-use borrow.Author.Needs.{needs}
 use Rattle.report.proofs.printing.put_refused.Statement.{statement}
+use borrow.Author.Needs.{needs}
 use Rattle.report.proofs.printing.put_refused.Tie as tie
 
 slice-aggregate-put : tie.Need-slice-aggregate-put

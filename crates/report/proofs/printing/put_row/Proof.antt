@@ -1,8 +1,8 @@
 use Rattle.text.proofs.Wrote.{then}
 use Rattle.report.specs.Printing.{rowText}
 use Rattle.report.proofs.Listings.{room-for}
-use borrow.Author.Needs.{needs}
 use Rattle.report.proofs.printing.put_row.Statement.{statement}
+use borrow.Author.Needs.{needs}
 use Rattle.report.proofs.printing.put_row.Tie as tie
 
 slice-aggregate-put : tie.Need-slice-aggregate-put

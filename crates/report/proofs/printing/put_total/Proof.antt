@@ -1,8 +1,8 @@
 use Rattle.text.proofs.Wrote.{then}
 use Rattle.report.specs.Printing.{totalText}
 use Rattle.report.proofs.Listings.{room-for}
-use borrow.Author.Needs.{needs}
 use Rattle.report.proofs.printing.put_total.Statement.{statement}
+use borrow.Author.Needs.{needs}
 use Rattle.report.proofs.printing.put_total.Tie as tie
 
 slice-aggregate-put : tie.Need-slice-aggregate-put

@@ -7,8 +7,8 @@ use Rattle.report.specs.Job.{jobOf}
 use Rattle.report.proofs.Jobs.{whole}
 use Rattle.report.proofs.Listings.{begins-same}
 use Rattle.report.proofs.Answers.{too-long, no-job, has-job}
-use borrow.Author.Needs.{needs}
 use Rattle.report.proofs.program.list.Statement.{statement}
+use borrow.Author.Needs.{needs}
 use Rattle.report.proofs.program.list.Tie as tie
 
 abbrev from : tie.After-read-job → tie.Start

@@ -1,8 +1,8 @@
 use mathlib.Core.Path.{refl}
 use Rattle.report.proofs.Listings.{begins-same}
 use Rattle.report.proofs.Lists.{shown}
-use borrow.Author.Needs.{needs}
 use Rattle.report.proofs.program.list_file.Statement.{statement}
+use borrow.Author.Needs.{needs}
 use Rattle.report.proofs.program.list_file.Tie as tie
 
 slice-aggregate-check : tie.Need-slice-aggregate-check

@@ -1,0 +1,2 @@
+mod Nine
+pub mod Accounting

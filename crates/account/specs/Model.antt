@@ -1,0 +1,120 @@
+-- Model of the code, not part of the statement: what each function of `account` computes of an account and an item.
+use Prim.Native.Nat.{ℕ, _+_, min}
+use mathlib.Core.Bool.{Bool, true, false, cond, not, _&&_, _||_}
+use mathlib.Core.List.{List}
+use lib.Dec.{ltb}
+use lib.ListN.{getD, set, replicate}
+use Rattle.headings.specs.declared.Heading.{Heading}
+use Rattle.headings.specs.declared.Read.{Read}
+use Rattle.headings.specs.declared.Read.the-variants.{Reads, Unreadable}
+use Rattle.headings.specs.ItemTypes.{isClosing, isPayment, isPriority, groupOf}
+use Rattle.rules.specs.declared.FirstKc.{FirstKc}
+use Rattle.rules.specs.declared.FirstKc.the-variants.{NoKc, BrokenKc, Pays}
+use Rattle.rules.specs.declared.Digest.{Digest}
+use Rattle.blocks.specs.declared.Basis.{Basis}
+use Rattle.blocks.specs.declared.Block.{Block}
+use Rattle.blocks.specs.Model.{countCap, sumCap, ownMarks, openMarks, closingMarks}
+use Rattle.account.specs.declared.Accounted.{Accounted}
+
+unfoldable pub plusAt : ℕ → List ℕ → ℕ → ℕ → List ℕ
+plusAt cap xs d a = cond (ltb d 9) (set xs d (min cap (getD xs d 0 + a))) xs
+
+-- an amount more
+unfoldable pub amountBlock : Block → ℕ → ℕ → Block
+amountBlock b kind a =
+    record {
+      classed = b .classed;
+      priority = b .priority;
+      any = b .any;
+      some = b .some;
+      day = b .day;
+      first = b .first;
+      last = b .last;
+      counts = plusAt countCap (b .counts) (groupOf kind) 1;
+      sums = plusAt sumCap (b .sums) (groupOf kind) a;
+    }
+
+unfoldable pub countsAfter : List ℕ → ℕ → FirstKc → List ℕ
+countsAfter xs kind NoKc = xs
+countsAfter xs kind BrokenKc = xs
+countsAfter xs kind (Pays a day) = cond (isPayment kind) (plusAt countCap xs (groupOf kind) 1) xs
+
+unfoldable pub sumsAfter : List ℕ → ℕ → FirstKc → List ℕ
+sumsAfter xs kind NoKc = xs
+sumsAfter xs kind BrokenKc = xs
+sumsAfter xs kind (Pays a day) = cond (isPayment kind) (plusAt sumCap xs (groupOf kind) (a .0)) xs
+
+-- the first KC of an item of this type
+unfoldable pub kcBlock : Block → ℕ → FirstKc → Block
+kcBlock b kind kc =
+    record {
+      classed = b .classed;
+      priority = b .priority;
+      any = b .any;
+      some = b .some;
+      day = b .day;
+      first = b .first;
+      last = b .last;
+      counts = countsAfter (b .counts) kind kc;
+      sums = sumsAfter (b .sums) kind kc;
+    }
+
+-- a readable heading more that is no 51
+unfoldable pub headingBlock : Block → Heading → Block
+headingBlock b h =
+    record {
+      classed = b .classed || isPayment (h .kind);
+      priority = (b .classed && b .priority) || (not (b .classed) && (isPayment (h .kind) && isPriority (h .kind)));
+      any = true;
+      some = true;
+      day = cond (b .some) (b .day) (h .day);
+      first = cond (b .some) (b .first) (h .number);
+      last = h .number;
+      counts = b .counts;
+      sums = b .sums;
+    }
+
+-- an unreadable heading more
+unfoldable pub touchedBlock : Block → Block
+touchedBlock b =
+    record {
+      classed = b .classed;
+      priority = b .priority;
+      any = true;
+      some = b .some;
+      day = b .day;
+      first = b .first;
+      last = b .last;
+      counts = b .counts;
+      sums = b .sums;
+    }
+
+-- no item of the open block yet
+unfoldable pub emptyBlock : Bool → Bool → Block
+emptyBlock classed priority =
+    record {
+      classed = classed;
+      priority = priority;
+      any = false;
+      some = false;
+      day = 0;
+      first = record { 0 = 0 };
+      last = record { 0 = 0 };
+      counts = replicate 9 0;
+      sums = replicate 9 0;
+    }
+
+unfoldable pub readBlock : Block → Heading → FirstKc → Block
+readBlock b h kc = cond (isClosing (h .kind)) (emptyBlock (b .classed) (b .priority)) (kcBlock (headingBlock b h) (h .kind) kc)
+
+unfoldable pub readMarks : Basis → Block → Digest → Heading → ℕ
+readMarks j b it h =
+    ownMarks j h (it .kc) + cond (isClosing (h .kind)) (closingMarks b h (it .span) (it .s9) (it .sums)) (openMarks b h)
+
+unfoldable pub closeAt : Basis → Block → Digest → Read → Accounted
+closeAt j b it (Reads h) = record { block = readBlock b h (it .kc); marks = readMarks j b it h }
+closeAt j b it Unreadable = record { block = touchedBlock b; marks = 0 }
+
+-- the account and the marks after an item
+abbrev pub closeModel : Basis → Block → Digest → Accounted
+closeModel j b it = closeAt j b it (it .head)

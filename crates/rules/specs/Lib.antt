@@ -1,0 +1,13 @@
+pub mod Terms
+pub mod Rows
+pub mod Tree
+pub mod Said
+pub mod Blocks
+pub mod Tests
+pub mod LineRules
+pub mod FieldRules
+pub mod HeadingRules
+pub mod BlockRules
+pub mod Spots
+pub mod Faults
+pub mod Demand
