@@ -41,7 +41,8 @@ enum certis_refusal {
     CERTIS_LONG_FILE = 3,      /* the file has more than CERTIS_FILE_MOST bytes */
     CERTIS_UNEQUAL_ROOMS = 4,  /* the rooms for lines and rules differ in length */
     CERTIS_NO_END_MARK = 5,    /* there is no byte 1A in the file */
-    CERTIS_EMPTY_FILE = 6,     /* its first byte is 1A */
+    CERTIS_EMPTY_FILE = 6,     /* it is the byte 1A alone */
+    CERTIS_LEFTOVERS = 9,      /* bytes stand after the first 1A; asked after 5 and before 6 */
     CERTIS_BAD_PARTS = 10,     /* the parts are not an account number's digits */
     CERTIS_BAD_LAYOUT = 11,    /* the text does not have a heading's layout */
     CERTIS_BAD_HEADING = 12,   /* it is a 51, breaks rule 10, 13 or 14, or is none that a third party sends */
@@ -92,14 +93,15 @@ extern "C" {
  * Checks an input file for the submitter's code and the accounting day (a
  * number of eight digits, YYYYMMDD). Returns 0 and sets *total to the number of
  * pairs of a line and a rule broken there; it is 0 exactly when no rule is
- * broken anywhere in the file. Only bytes before the first 1A are judged.
+ * broken anywhere in the file. The file ends with its first 1A.
  *
  * Refusals, the first that applies:
  *   1  the code is not 1 to 9999
  *   2  the day is not a real day from 20000101 to 20991231
  *   3  the file has more than 10,000,000 bytes, those after the 1A included
  *   5  there is no byte 1A in the file
- *   6  the first byte of the file is 1A
+ *   9  a byte stands after the first 1A
+ *   6  the file is the byte 1A alone
  */
 uint32_t certis_total(const uint8_t *file, size_t file_len,
                       uint32_t code, uint32_t day,
@@ -119,7 +121,8 @@ uint32_t certis_total(const uint8_t *file, size_t file_len,
  *   3  the file has more than 10,000,000 bytes, those after the 1A included
  *   4  lines_len and rules_len differ
  *   5  there is no byte 1A in the file
- *   6  the first byte of the file is 1A
+ *   9  a byte stands after the first 1A
+ *   6  the file is the byte 1A alone
  */
 uint32_t certis_check(const uint8_t *file, size_t file_len,
                       uint32_t code, uint32_t day,
@@ -235,7 +238,8 @@ uint32_t certis_sheet_open(const uint32_t *codes, size_t codes_len,
  *   2   the day is not a real day from 20000101 to 20991231
  *   3   the file has more than 10,000,000 bytes, those after the 1A included
  *   5   there is no byte 1A in the file
- *   6   the first byte of the file is 1A
+ *   9   a byte stands after the first 1A
+ *   6   the file is the byte 1A alone
  *   20  the file has faults
  *   21  payer or beneficiary of an item that posts is not listed; it may be one
  *       of the amount 0

@@ -146,6 +146,10 @@ static void test_check_refusals(void)
     check_refuses("4 before 6", 4, END, 1, CODE, DAY, 2, 3);
     refuses("5: an empty file", 5, WORKED, 0, CODE, DAY);
     refuses("5: no end mark", 5, WORKED, length - 1, CODE, DAY);
+    refuses("9: LF behind the end mark", 9, L("") END "\n", 4, CODE, DAY);
+    refuses("9: another file behind the end mark", 9, L("") END L("") END, 6, CODE, DAY);
+    refuses("9: two end marks", 9, END END, 2, CODE, DAY);
+    check_refuses("4 before 9", 4, END END, 2, CODE, DAY, 2, 3);
     refuses("6: the end mark alone", 6, END, 1, CODE, DAY);
     refuses("6: the end mark first", 6, END "HD:11", 6, CODE, DAY);
 }
@@ -194,8 +198,6 @@ static void test_both_sides(void)
     lists("a 32 thirty days later", BLOCK(ITEM_32, L("KC:100000000000 20240403"), "S3:1 100000000000"), 0, "");
     lists("a 32 thirty-one days later", BLOCK(ITEM_32, L("KC:100 20240404"), "S3:1 100"), 1, "2/8");
     lists("a 32 over its amount", BLOCK(ITEM_32, L("KC:100000000001 20240304"), "S3:1 100000000001"), 1, "2/9");
-    lists("bytes after the end mark",
-          BLOCK(ITEM_11, KC_100, "S1:1 100") "HD:99 \xFF" L("") END, 0, "");
 }
 
 static void test_headings(void)

@@ -242,6 +242,7 @@ static void test_own_refusals(void)
     post_bytes("1 before 2", 1, list, &sheet, bytes, file.length, 0, 0);
     post_bytes("5: an empty file", 5, list, &sheet, bytes, 0, 300, DAY);
     post_bytes("5: no end mark", 5, list, &sheet, bytes, file.length - 1, 300, DAY);
+    post_bytes("9: a byte behind the end mark", 9, list, &sheet, bytes_of(L("") END "\n"), 4, 300, DAY);
     post_bytes("6: the end mark first", 6, list, &sheet, bytes_of(END), 1, 300, DAY);
     post_bytes("20: another submitter's code", 20, list, &sheet, bytes, file.length, 710, DAY);
     post_bytes("20: a day later than ten days", 20, list, &sheet, bytes, file.length, 300, 20240315);

@@ -1,4 +1,4 @@
-/* Hints at what a whole file has wrong: LF for CR LF, or another code page. */
+/* Hints at what a whole file has wrong: LF for CR LF, another code page, or what stands behind its end mark. */
 
 #include "listing.h"
 
@@ -70,4 +70,19 @@ void show_hints(const struct bytes *file)
     struct reader reader = before_lines(file->at, file->length);
     hint_at_ends(reader.rest, reader.end);
     hint_at_page(reader.rest, reader.end);
+}
+
+void show_leftovers(const struct bytes *file)
+{
+    const uint8_t *behind = before_lines(file->at, file->length).end + 1;
+    size_t length = file->length - (size_t)(behind - file->at);
+    size_t ends = 0;
+    while (ends < length && (behind[ends] == '\r' || behind[ends] == '\n')) {
+        ends++;
+    }
+    const char *what = ends == length                                          ? "line ends"
+                       : length - ends >= 3 && memcmp(behind + ends, "HD:", 3) == 0 ? "another file"
+                       : behind[0] == 0x1A                                     ? "another end mark"
+                                                                               : "other bytes";
+    printf("hint: %zu %s behind the end mark: %s.\n", length, length == 1 ? "byte stands" : "bytes stand", what);
 }

@@ -74,12 +74,22 @@ static int show_listing(const struct request *asked, const struct bytes *file, c
     return found->total == 0 ? GOOD : FAULTS;
 }
 
+/* A refusal, and where it was asked for what stands behind the end mark. */
+static int refused(uint32_t refusal, const struct request *asked, const struct bytes *file)
+{
+    int status = show_refusal(refusal, asked->explain);
+    if (refusal == CERTIS_LEFTOVERS && asked->explain) {
+        show_leftovers(file);
+    }
+    return status;
+}
+
 static int list_faults(const struct request *asked, const struct bytes *file, struct faults *found)
 {
     uint32_t refusal = certis_check(file->at, file->length, asked->code, asked->day, found->lines, found->count,
                                     found->rules, found->count, &found->total);
     if (refusal != 0) {
-        return show_refusal(refusal, asked->explain);
+        return refused(refusal, asked, file);
     }
     return show_listing(asked, file, found);
 }
@@ -95,7 +105,7 @@ static int check_file(const struct request *asked, const struct bytes *file)
     struct faults found = { 0 };
     uint32_t refusal = certis_total(file->at, file->length, asked->code, asked->day, &found.total);
     if (refusal != 0) {
-        return show_refusal(refusal, asked->explain);
+        return refused(refusal, asked, file);
     }
     found.count = wanted(asked, found.total);
     /* Room for one more than is listed: the library wants a place to point at. */

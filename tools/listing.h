@@ -22,4 +22,7 @@ void explain_faults(const struct bytes *file, const struct faults *found, size_t
  * line ends and its code page. */
 void show_hints(const struct bytes *file);
 
+/* What stands behind the end mark, for a file that is refused for it. */
+void show_leftovers(const struct bytes *file);
+
 #endif

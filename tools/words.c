@@ -48,6 +48,7 @@ static const char *const REFUSALS[] = {
     [3] = "The file has more than 10,000,000 bytes.",
     [5] = "The file has no end mark (byte 1A).",
     [6] = "The file is empty: it begins with the end mark (byte 1A).",
+    [9] = "Something stands behind the end mark (byte 1A).",
     [10] = "The prefix is not 0 to 6 digits, or the number not 1 to 10.",
     [11] = "The text is not 54 bytes in the layout of a heading.",
     [12] = "The heading is a 51, or breaks rule 10, 13 or 14, or is none that a third party may send.",
