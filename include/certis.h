@@ -1,16 +1,19 @@
 /* certis.h: the proved CERTIS library for hosts in C.
  *
- * The rules, the refusals and their numbers are those of document 01. Every
- * function returns 0, or the number of the refusal. A refusal leaves everything
- * behind the pointers as it stood. No function keeps a pointer, allocates,
- * fails in any other way or runs for ever; calls from several threads do not
- * disturb each other.
+ * The rules, the refusals and their numbers are those of documents 01 and 02.
+ * Every function returns 0, or the number of the refusal, but for
+ * certis_turnover_text, which refuses nothing and returns a length. A refusal
+ * leaves everything behind the pointers as it stood. No function keeps a
+ * pointer, allocates, fails in any other way or runs for ever; calls from
+ * several threads do not disturb each other. A call takes less than 16 KB of
+ * stack.
  *
  * What a caller owes, for every function:
  *   - each pointer is not null and properly aligned;
  *   - behind a pointer with a length stand that many elements (a length of 0 is
  *     fine: nothing is then read or written there);
- *   - behind a pointer without a length stands one element;
+ *   - behind a pointer without a length stands one element, or as many as the
+ *     comment beside it says;
  *   - no region that is written overlaps any other region given.
  * Nothing is asked of the values: every byte, number and length has an answer.
  */
@@ -21,6 +24,64 @@
 #include <stdbool.h>
 #include <stddef.h>
 #include <stdint.h>
+
+/* The first number changes where a host that was written for an older header
+ * must change its calls. */
+#define CERTIS_VERSION "1.0"
+
+/* The most bytes of a file that is checked, and the bytes of a heading. */
+#define CERTIS_FILE_MOST 10000000
+#define CERTIS_HEADING 54
+
+/* What the functions return. */
+enum certis_refusal {
+    CERTIS_DONE = 0,
+    CERTIS_BAD_CODE = 1,       /* the code is not 1 to 9999 */
+    CERTIS_BAD_DAY = 2,        /* the day is not real, or not from 20000101 to 20991231 */
+    CERTIS_LONG_FILE = 3,      /* the file has more than CERTIS_FILE_MOST bytes */
+    CERTIS_UNEQUAL_ROOMS = 4,  /* the rooms for lines and rules differ in length */
+    CERTIS_NO_END_MARK = 5,    /* there is no byte 1A in the file */
+    CERTIS_EMPTY_FILE = 6,     /* its first byte is 1A */
+    CERTIS_BAD_PARTS = 10,     /* the parts are not an account number's digits */
+    CERTIS_BAD_LAYOUT = 11,    /* the text does not have a heading's layout */
+    CERTIS_BAD_HEADING = 12,   /* it is a 51, or breaks rule 10, 13 or 14 */
+    CERTIS_BAD_OUTCOME = 13,   /* the outcome is not 1 to 7 */
+    CERTIS_NO_OUTGOING = 14,   /* the table of outgoing types has no entry */
+    CERTIS_BAD_NUMBER = 15,    /* the output number is not in its class */
+    CERTIS_SHORT_TARGET = 16,  /* the target has fewer than CERTIS_HEADING bytes */
+    CERTIS_BAD_LIST = 19,      /* the list is too long, repeats a code, or has one not 1 to 9999 */
+    CERTIS_HAS_FAULTS = 20,    /* the file has faults */
+    CERTIS_NOT_LISTED = 21,    /* payer or beneficiary of an item that posts is not listed */
+    CERTIS_PAST_LIMIT = 22     /* a turnover would pass 10^17 - 1 either way */
+};
+
+/* The rules of document 01, as checking lists them. */
+enum certis_rule {
+    CERTIS_RULE_CHARACTER = 1, /* a line: an inadmissible byte */
+    CERTIS_RULE_KIND = 2,      /* none of the kinds of lines, or continues nothing */
+    CERTIS_RULE_NO_ITEM = 3,   /* no heading above it */
+    CERTIS_RULE_LINE_END = 4,  /* no CR LF after it */
+    CERTIS_RULE_REPEATED = 5,  /* a field: stood in the item already */
+    CERTIS_RULE_LAYOUT = 6,    /* its layout; a heading's too */
+    CERTIS_RULE_ACCOUNT = 7,   /* the account check */
+    CERTIS_RULE_KC_DAY = 8,    /* an amount: its day */
+    CERTIS_RULE_KC_MOST = 9,   /* the amount of a 32 */
+    CERTIS_RULE_TYPE = 10,     /* a heading: its type */
+    CERTIS_RULE_DAY = 11,      /* its day */
+    CERTIS_RULE_SUBMITTER = 12, /* its first code */
+    CERTIS_RULE_OUTPUT = 13,   /* its output number */
+    CERTIS_RULE_CODES = 14,    /* its second and third code */
+    CERTIS_RULE_NO_KC = 15,    /* no amount */
+    CERTIS_RULE_NOT_CLOSED = 16, /* a block: no 51 */
+    CERTIS_RULE_EMPTY = 17,    /* a 51 alone */
+    CERTIS_RULE_ONE_DAY = 18,  /* a day that differs from the first */
+    CERTIS_RULE_NUMBERS = 19,  /* an input number out of order */
+    CERTIS_RULE_PRIORITY = 20, /* another priority than the file's first */
+    CERTIS_RULE_INTERVAL = 21, /* the 51's IN */
+    CERTIS_RULE_S9 = 22,       /* a 51 with an S9 */
+    CERTIS_RULE_S0 = 30,       /* the 51's S0; 31 to 38 are those of S1 to S8 */
+    CERTIS_RULE_S8 = 38
+};
 
 #ifdef __cplusplus
 extern "C" {
@@ -99,6 +160,82 @@ uint32_t certis_derive(const uint8_t *heading, size_t heading_len,
 uint32_t certis_account(const uint8_t *prefix, size_t prefix_len,
                         const uint8_t *number, size_t number_len,
                         bool *good);
+
+/* The turnover sheet.
+ *
+ * A sheet holds the turnovers of up to CERTIS_LISTED participants, for a list
+ * of their codes. It is CERTIS_TURNOVERS numbers in the caller's memory, in
+ * hundredths as KC has them; of the participant codes[i] they are
+ *
+ *   turnovers[4 * i]        the debit
+ *   turnovers[4 * i + 1]    the credit
+ *   turnovers[4 * i + 2]    the debit of the second sheet
+ *   turnovers[4 * i + 3]    the credit of the second sheet
+ *
+ * The caller keeps the list and the sheet together: the same codes in the same
+ * order at every call.
+ */
+#define CERTIS_LISTED 64
+#define CERTIS_TURNOVERS 256
+
+/* Opening a sheet.
+ *
+ * Sets all CERTIS_TURNOVERS numbers to 0. An empty list is fine.
+ *
+ * Refusal:
+ *   19  the list has more than CERTIS_LISTED codes, repeats one, or has one that
+ *       is not 1 to 9999
+ */
+uint32_t certis_sheet_open(const uint32_t *codes, size_t codes_len,
+                           int64_t *turnovers /* CERTIS_TURNOVERS */);
+
+/* Posting a file.
+ *
+ * Checks the file as certis_total does and, if it has no fault, posts its items
+ * in their order, all of them or none. Payer and beneficiary are the second and
+ * third code of a 35, 37 or 45, and the first and second of any other item. The
+ * amount is that of the item's KC:
+ *
+ *   01 11 12 21 35 45   added to the payer's debit and the beneficiary's credit
+ *   13 14 37            taken from the payer's credit and the beneficiary's debit
+ *   32                  added to the sender's credit and the other's debit,
+ *                       on the second sheet
+ *   33                  taken from the sender's debit and the other's credit,
+ *                       on the second sheet
+ *   44 51 55            nothing is posted, and nobody need be listed
+ *
+ * Over any row of postings on a new sheet, refused ones among them, the debits
+ * of the first sheet together are the posted additions less the posted
+ * cancellations (13, 14, 37), and so are the credits. One sheet may take files
+ * of several submitters and days; that a file is posted once only is the
+ * caller's affair. Nothing is asked of the turnovers: a sheet that no posting
+ * could have left is posted on as any other.
+ *
+ * Refusals, the first that applies:
+ *   19  the list, as in certis_sheet_open
+ *   1   the code is not 1 to 9999
+ *   2   the day is not a real day from 20000101 to 20991231
+ *   3   the file has more than 10,000,000 bytes, those after the 1A included
+ *   5   there is no byte 1A in the file
+ *   6   the first byte of the file is 1A
+ *   20  the file has faults
+ *   21  payer or beneficiary of an item that posts is not listed; it may be one
+ *       of the amount 0
+ *   22  after some item a turnover that it moved would have passed
+ *       99,999,999,999,999,999 either way, whatever later items make of it
+ */
+uint32_t certis_sheet_post(const uint32_t *codes, size_t codes_len,
+                           int64_t *turnovers /* CERTIS_TURNOVERS */,
+                           const uint8_t *file, size_t file_len,
+                           uint32_t code, uint32_t day);
+
+/* A turnover as it is shown.
+ *
+ * Writes the sign, + or -, and the digits with no zero in front, nought as +0,
+ * and returns how many bytes that is, 2 to 20; the bytes after them are kept.
+ * Every number has an answer.
+ */
+size_t certis_turnover_text(int64_t turnover, uint8_t *text /* 20 bytes */);
 
 #ifdef __cplusplus
 }

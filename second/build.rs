@@ -1,6 +1,6 @@
-//! Tells the linker where libhost.a is: the directory in CERTIS_LIB.
+//! Tells the linker where libcertis.a is: the directory in CERTIS_LIB, which `./library` makes.
 //!
-//! `src/face.rs` asks for the library itself (`static=host`), so only the two
+//! `src/face.rs` asks for the library itself (`static=certis`), so only the two
 //! runners link it; the reference and its tests build without CERTIS_LIB.
 
 use std::env;
@@ -13,9 +13,9 @@ fn main() {
     let Ok(directory) = env::var("CERTIS_LIB") else {
         return;
     };
-    let archive = Path::new(&directory).join("libhost.a");
+    let archive = Path::new(&directory).join("libcertis.a");
     if !archive.is_file() {
-        eprintln!("CERTIS_LIB ({directory}) has no libhost.a; it must be an absolute path");
+        eprintln!("CERTIS_LIB ({directory}) has no libcertis.a; it must be an absolute path");
         process::exit(1);
     }
     // A rebuilt archive has to be linked again.

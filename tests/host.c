@@ -1,14 +1,14 @@
-/* host: calls the four functions of include/certis.h as a host in C does, on the
- * examples and at the refusals of document 01. The answers expected here were
- * worked out from that document. Memory is lent out of the middle of larger
- * arrays filled with a pattern, so a byte changed anywhere else is seen. The
- * last line printed is 'N passed, M failed'.
+/* host: calls checking, deriving and the account check of include/certis.h as a
+ * host in C does, on the examples and at the refusals of document 01. The answers
+ * expected here were worked out from that document. Memory is lent out of the
+ * middle of larger arrays filled with a pattern, so a byte changed anywhere else
+ * is seen. The last line printed is 'N passed, M failed'.
  */
 
 #include "certis.h"
+#include "expect.h"
 
 #include <inttypes.h>
-#include <stdio.h>
 #include <stdlib.h>
 #include <string.h>
 
@@ -22,9 +22,6 @@
 /* The lent part begins at EDGE, and at least EDGE places follow it. */
 enum { EDGE = 8, PLACES = 80, MOST_ROOM = PLACES - 2 * EDGE, HEADING = 54 };
 
-#define L(text) text "\r\n"
-#define END "\x1A"
-
 static const char WORKED[] =
     L("HD:11 20240304 0000301 0000001 0000710 0000000 0000000")
     L("KC:12500 20240304")
@@ -33,24 +30,6 @@ static const char WORKED[] =
     L("IN:1 1")
     L("S1:1 12600")
     END;
-
-static unsigned passed;
-static unsigned failed;
-
-static void expect(bool holds, const char *what)
-{
-    if (holds) {
-        passed += 1;
-    } else {
-        failed += 1;
-        printf("FAILED: %s\n", what);
-    }
-}
-
-static const uint8_t *bytes_of(const char *text)
-{
-    return (const uint8_t *)text;
-}
 
 /* Checking */
 
@@ -392,6 +371,5 @@ int main(void)
     test_bad_headings();
     test_bad_outcomes();
     test_accounts();
-    printf("%u passed, %u failed\n", passed, failed);
-    return failed == 0 ? 0 : 1;
+    return finish();
 }

@@ -23,8 +23,13 @@ pub fn refusal(file: &[u8], code: u32, day: u32, rooms: (usize, usize)) -> Optio
 
 /// All faults of a file that is not refused.
 pub fn faults(file: &[u8], code: u32, day: u32) -> Vec<Fault> {
+    rules::faults(&parse(file), code, day)
+}
+
+/// What stands before the end mark.
+pub fn parse(file: &[u8]) -> File<'_> {
     let end = end_mark(file).unwrap_or(file.len());
-    rules::faults(&File::parse(&file[..end]), code, day)
+    File::parse(&file[..end])
 }
 
 /// Where the first end mark stands. Parts without one are passed over with

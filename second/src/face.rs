@@ -2,7 +2,7 @@
 //! the only unsafe code here. Both runners include this file.
 
 mod raw {
-    #[link(name = "host", kind = "static")]
+    #[link(name = "certis", kind = "static")]
     unsafe extern "C" {
         pub fn certis_total(
             file: *const u8,
@@ -40,11 +40,26 @@ mod raw {
             number_len: usize,
             good: *mut bool,
         ) -> u32;
+
+        pub fn certis_sheet_open(codes: *const u32, codes_len: usize, turnovers: *mut i64) -> u32;
+
+        pub fn certis_sheet_post(
+            codes: *const u32,
+            codes_len: usize,
+            turnovers: *mut i64,
+            file: *const u8,
+            file_len: usize,
+            code: u32,
+            day: u32,
+        ) -> u32;
+
+        pub fn certis_turnover_text(turnover: i64, text: *mut u8) -> usize;
     }
 }
 
-// Each call lends slices of Rust: valid for their lengths, not null, and those
-// lent for writing overlap nothing else. That is all the header asks for.
+// Each call lends slices or arrays of Rust: valid for their lengths, not null,
+// and those lent for writing overlap nothing else. That is all the header asks
+// for.
 
 pub fn total(file: &[u8], code: u32, day: u32, total: &mut u64) -> u32 {
     unsafe { raw::certis_total(file.as_ptr(), file.len(), code, day, total) }
@@ -92,4 +107,32 @@ pub fn account(prefix: &[u8], number: &[u8], good: &mut bool) -> u32 {
     unsafe {
         raw::certis_account(prefix.as_ptr(), prefix.len(), number.as_ptr(), number.len(), good)
     }
+}
+
+pub fn sheet_open(codes: &[u32], turnovers: &mut [i64; 256]) -> u32 {
+    unsafe { raw::certis_sheet_open(codes.as_ptr(), codes.len(), turnovers.as_mut_ptr()) }
+}
+
+pub fn sheet_post(
+    codes: &[u32],
+    turnovers: &mut [i64; 256],
+    file: &[u8],
+    code: u32,
+    day: u32,
+) -> u32 {
+    unsafe {
+        raw::certis_sheet_post(
+            codes.as_ptr(),
+            codes.len(),
+            turnovers.as_mut_ptr(),
+            file.as_ptr(),
+            file.len(),
+            code,
+            day,
+        )
+    }
+}
+
+pub fn turnover_text(turnover: i64, text: &mut [u8; 20]) -> usize {
+    unsafe { raw::certis_turnover_text(turnover, text.as_mut_ptr()) }
 }

@@ -1,5 +1,6 @@
 //! The second program: a checker for CERTIS input files, written from
-//! document 01 and docs/DECISIONS.md, and from nothing else of the project.
+//! documents 01 and 02 and docs/DECISIONS.md, and from nothing else of the
+//! project.
 //!
 //! It exists to be compared with the proved library, so it is as plain as can
 //! be: the whole file is parsed, and each rule then looks at whatever it needs.
@@ -19,6 +20,7 @@ pub mod lines;
 pub mod listing;
 pub mod rules;
 pub mod samples;
+pub mod sheet;
 pub mod types;
 
 #[cfg(test)]

@@ -10,6 +10,8 @@ pub const PRIORITY: [u32; 4] = [1, 21, 44, 45];
 pub const ORDINARY: [u32; 9] = [11, 12, 13, 14, 32, 33, 35, 37, 55];
 
 const LARGEST_NUMBER: u32 = 9_999_999;
+/// The largest amount of one item.
+pub const LARGEST_AMOUNT: u64 = 999_999_999_999_999;
 /// The largest sum that an S line can state.
 const LARGEST_SUM: u64 = 99_999_999_999_999_999;
 /// No item and no control item of this module is longer.
@@ -23,7 +25,15 @@ type Sums = [(u64, u64); 6];
 
 /// A few blocks of a few items.
 pub fn small(dice: &mut Dice) -> Draft {
-    let mut author = Author::new(dice);
+    small_by(Author::new(dice))
+}
+
+/// The same, from one of these participants and to them.
+pub fn small_among(dice: &mut Dice, codes: &[u32]) -> Draft {
+    small_by(Author::among(dice, codes, LARGEST_AMOUNT))
+}
+
+fn small_by(mut author: Author) -> Draft {
     for _ in 0..author.dice.range(1, 3) {
         let items = author.dice.range(1, 6);
         author.block(items as u32, usize::MAX);
@@ -36,7 +46,16 @@ pub fn small(dice: &mut Dice) -> Draft {
 
 /// About so many bytes, and not more; blocks of up to 5,000 items.
 pub fn of_size(dice: &mut Dice, bytes: usize) -> Draft {
-    let mut author = Author::new(dice);
+    of_size_by(Author::new(dice), bytes)
+}
+
+/// The same, from one of these participants and to them, with amounts up to
+/// `most`.
+pub fn of_size_among(dice: &mut Dice, bytes: usize, codes: &[u32], most: u64) -> Draft {
+    of_size_by(Author::among(dice, codes, most), bytes)
+}
+
+fn of_size_by(mut author: Author, bytes: usize) -> Draft {
     let limit = bytes.saturating_sub(2 * LONGEST_ITEM);
     loop {
         let items = author.dice.range(1, 5_000);
@@ -53,6 +72,10 @@ struct Author<'d> {
     /// Bytes of the lines so far.
     size: usize,
     kinds: &'static [u32],
+    /// Who is paid; anybody if there is none.
+    codes: Vec<u32>,
+    /// The largest amount.
+    most: u64,
 }
 
 impl<'d> Author<'d> {
@@ -60,7 +83,14 @@ impl<'d> Author<'d> {
         let code = dice.range(1, 9999) as u32;
         let day = dice.pick(&TRICKY);
         let kinds = if dice.once_in(2) { &PRIORITY[..] } else { &ORDINARY[..] };
-        Author { dice, draft: Draft::new(code, day), size: 0, kinds }
+        let draft = Draft::new(code, day);
+        Author { dice, draft, size: 0, kinds, codes: Vec::new(), most: LARGEST_AMOUNT }
+    }
+
+    fn among(dice: &'d mut Dice, codes: &[u32], most: u64) -> Self {
+        let mut author = Author::new(dice);
+        author.draft.code = author.dice.pick(codes);
+        Author { codes: codes.to_vec(), most, ..author }
     }
 
     fn leftover(&mut self) {
@@ -122,17 +152,21 @@ impl<'d> Author<'d> {
 
     /// Mostly a participant's code; seven digits are all a heading asks for.
     fn code(&mut self) -> u32 {
+        if !self.codes.is_empty() {
+            return self.dice.pick(&self.codes);
+        }
         let last = if self.dice.once_in(8) { 9_999_999 } else { 9_999 };
         self.dice.range(1, last) as u32
     }
 
     fn amount(&mut self, kind: u32, left: u64) -> u64 {
-        let most = if kind == 32 { 100_000_000_000 } else { 999_999_999_999_999 };
+        let most = if kind == 32 { 100_000_000_000 } else { LARGEST_AMOUNT };
+        let most = most.min(self.most);
         let most = match self.dice.below(10) {
             0 => return most.min(left),
             1 => return 0,
             2 => most,
-            _ => 10_000_000,
+            _ => most.min(10_000_000),
         };
         self.dice.range(0, most.min(left))
     }

@@ -1,8 +1,14 @@
 //! A file in the making: its lines, which can still be changed one by one.
 
+use std::collections::BTreeMap;
+
 use super::Sample;
 use crate::heading::Heading;
 use crate::lines::END_MARK;
+
+/// What tells one item from another on a sheet: its type, its second code, its
+/// third and its amount.
+pub type Payment = (u32, u32, u32, u64);
 
 #[derive(Clone, Debug)]
 pub struct Draft {
@@ -34,6 +40,29 @@ impl Draft {
         let third = if matches!(kind, 35 | 37 | 45) { 800 } else { 0 };
         let (day, first) = (self.day, self.code);
         Heading { kind, day, first, number, second: 710, output: 0, third }
+    }
+
+    /// One block without faults, if the items have none.
+    pub fn block_of(code: u32, day: u32, items: &[Payment]) -> Self {
+        let mut draft = Draft::new(code, day);
+        draft.block(items);
+        draft
+    }
+
+    /// One block more, numbered from 1.
+    pub fn block(&mut self, items: &[Payment]) {
+        let mut sums: BTreeMap<u32, (u64, u64)> = BTreeMap::new();
+        for (number, &(kind, second, third, amount)) in (1..).zip(items) {
+            self.heading(Heading { second, third, ..self.good_heading(kind, number) });
+            self.line(format!("KC:{amount} {:08}", self.day));
+            let (count, sum) = sums.entry(kind / 10).or_default();
+            (*count, *sum) = (*count + 1, *sum + amount);
+        }
+        self.heading(self.good_heading(51, 0));
+        self.line(format!("IN:1 {}", items.len()));
+        for (group, (count, sum)) in sums {
+            self.line(format!("S{group}:{count} {sum}"));
+        }
     }
 
     pub fn sample(&self) -> Sample {

@@ -10,6 +10,7 @@ mod clock;
 #[path = "../../face.rs"]
 #[allow(unsafe_code)]
 mod face;
+mod sheet;
 
 use std::env;
 use std::hint::black_box;
@@ -26,13 +27,14 @@ const CALLS: u32 = 100_000;
 
 fn main() {
     let rounds = env::args().nth(1).and_then(|word| word.parse().ok()).unwrap_or(11);
-    println!("{}, best of {rounds} interleaved rounds", clock::name());
+    println!("{}, {}, best of {rounds} interleaved rounds", env::consts::ARCH, clock::name());
     println!("lent memory is not cleared between calls");
     let clean = large::clean_of(&mut Dice::new(1), large::MOST);
     let mut missed = clean_file(clean.job(), rounds);
     small_calls(rounds);
     missed += growth(clean.job(), rounds);
     missed += worst_files(clean.job(), rounds);
+    missed += sheet::posting(rounds);
     println!("\ngoals missed: {missed}");
 }
 
@@ -99,7 +101,7 @@ fn clean_file(job: Job, rounds: u32) -> u32 {
         .sum()
 }
 
-/// Deriving and the account check, a hundred thousand calls at a time.
+/// Deriving, the account check and showing, a hundred thousand calls at a time.
 fn small_calls(rounds: u32) {
     let headings = [
         &b"HD:12 20240304 0000300 0000017 0000710 0000000 0000000"[..],
@@ -107,8 +109,9 @@ fn small_calls(rounds: u32) {
         b"HD:11 20240304 0000301 0000001 0000710 0000000 0000000",
     ];
     let accounts = [(&b""[..], &b"2000145399"[..]), (b"19", b"2000145398"), (b"000019", b"19")];
+    let turnovers = [0, -540, 99_999_999_999_999_999];
     let of = |call: u32| call as usize % 3;
-    let (mut target, mut target2) = ([0; 54], [0; 54]);
+    let (mut target, mut target2, mut text) = ([0; 54], [0; 54], [0; 20]);
     let mut all = [
         Contestant::new("deriving, proved", || {
             for call in 0..CALLS {
@@ -139,6 +142,17 @@ fn small_calls(rounds: u32) {
                 black_box(account::check(prefix, number).is_ok());
             }
         }),
+        Contestant::new("turnover shown, proved", || {
+            for call in 0..CALLS {
+                let turnover = black_box(turnovers[of(call)]);
+                black_box(face::turnover_text(turnover, black_box(&mut text)));
+            }
+        }),
+        Contestant::new("turnover shown, second program", || {
+            for call in 0..CALLS {
+                black_box(second::sheet::show(black_box(turnovers[of(call)])));
+            }
+        }),
     ];
     race(&mut all, rounds);
     header("single calls", "time", "proved/it");
@@ -148,26 +162,27 @@ fn small_calls(rounds: u32) {
     }
 }
 
-/// Ten times the bytes: how many times the time.
 fn growth(clean: Job, rounds: u32) -> u32 {
     let small = large::clean_of(&mut Dice::new(1), large::MOST / 10);
-    let jobs = [small.job(), clean];
-    let mut rooms = jobs.map(|_| ([0; ROOM], [0; ROOM]));
-    let mut all: Vec<Contestant> = jobs
-        .iter()
-        .zip(&mut rooms)
-        .map(|(job, (lines, rules))| {
-            let name = format!("clean file of {} bytes", job.file.len());
-            Contestant::new(&name, || library_check(*job, lines, rules))
-        })
-        .collect();
+    ten_times("growth", [small.job(), clean], rounds, &|job| {
+        library_check(job, &mut [0; ROOM], &mut [0; ROOM]);
+    })
+}
+
+/// Ten times the bytes: how many times the time.
+fn ten_times(title: &str, jobs: [Job; 2], rounds: u32, run: &dyn Fn(Job)) -> u32 {
+    let mut all = jobs.map(|job| {
+        let name = format!("clean file of {} bytes", job.file.len());
+        Contestant::new(&name, move || run(job))
+    });
     race(&mut all, rounds * 3);
-    header("growth", "time", "it/first");
+    header(title, "time", "it/first");
     let times = ratio(all[1].best, all[0].best);
-    let bytes = clean.file.len() as f64 / small.file.len() as f64;
-    judge(&all[0].name, &per_byte(&all[0], &small.file), 1.0, None);
+    let [small, large] = jobs.map(|job| job.file);
+    let bytes = large.len() as f64 / small.len() as f64;
+    judge(&all[0].name, &per_byte(&all[0], small), 1.0, None);
     // The files are not exactly ten to one.
-    judge(&all[1].name, &per_byte(&all[1], clean.file), times * 10.0 / bytes, Some(11.0))
+    judge(&all[1].name, &per_byte(&all[1], large), times * 10.0 / bytes, Some(11.0))
 }
 
 /// The files that could be worst, per byte beside the clean one.

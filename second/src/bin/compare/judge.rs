@@ -8,6 +8,7 @@ use second::heading;
 use second::rules::Fault;
 use second::samples::dice::Dice;
 use second::samples::{Job, Sample};
+use second::sheet::{self, TURNOVERS};
 
 use crate::face;
 use crate::lent::Lent;
@@ -23,6 +24,9 @@ const PATTERNS: [u32; 4] = [0xC5C5_C5C5, 0, 1, u32::MAX];
 
 /// What may lie before and behind a file in memory.
 const AROUND: [&[u8]; 6] = [b"", b"\x1a", b"\r\n\x1a", b"\n", b"HD:11 \x1a", b"   \r\n"];
+
+/// Around a sheet: no turnover that any group uses.
+const BESIDE: i64 = -0x5A5A_5A5A_5A5A_5A5A;
 
 /// What the reference says of a file: its faults or a refusal.
 type Verdict = Result<Vec<Fault>, u32>;
@@ -147,6 +151,51 @@ impl Judge {
             if found != answer.err().unwrap_or(0) || good != answer.unwrap_or(before) {
                 self.fail(|| report::account(prefix, number, answer, (found, before, good)));
             }
+        }
+    }
+
+    /// Opens a sheet in memory that holds this number everywhere.
+    pub fn open(&mut self, codes: &[u32], held: i64) {
+        let before = [held; TURNOVERS];
+        let mut expected = before;
+        let answer = sheet::open(codes, &mut expected);
+        let mut lent = Lent::of(&before, BESIDE);
+        let found = face::sheet_open(codes, lent.lend_array());
+        self.sheet((answer, &expected), (found, lent), || report::opening(codes));
+    }
+
+    /// Posts a file on a sheet, which is afterwards as the reference says.
+    pub fn post(&mut self, codes: &[u32], turnovers: &mut [i64; TURNOVERS], job: Job) -> bool {
+        let Job { code, day, file } = job;
+        let mut lent = Lent::of(turnovers, BESIDE);
+        let found = face::sheet_post(codes, lent.lend_array(), file, code, day);
+        let answer = sheet::post(codes, turnovers, file, code, day);
+        self.sheet((answer, turnovers), (found, lent), || report::posting(codes, job));
+        answer.is_ok()
+    }
+
+    /// The number, all turnovers and what lies around them.
+    fn sheet(
+        &mut self,
+        (answer, expected): (Result<(), u32>, &[i64]),
+        (found, mut lent): (u32, Lent<i64>),
+        story: impl FnOnce() -> String,
+    ) {
+        self.comparisons += 1;
+        let number = answer.err().unwrap_or(0);
+        self.tally.sheet_answer(number);
+        if found != number || !lent.holds(expected.iter().copied()) {
+            self.fail(|| report::sheet(&story(), (answer, expected), (found, lent.lend())));
+        }
+    }
+
+    pub fn show(&mut self, turnover: i64) {
+        self.comparisons += 1;
+        let expected = sheet::show(turnover);
+        let mut text = Lent::new(20, 0xA5);
+        let found = face::turnover_text(turnover, text.lend_array());
+        if found != expected.len() || !text.holds(expected.bytes()) {
+            self.fail(|| report::shown_turnover(turnover, &expected, found, text.lend()));
         }
     }
 }

@@ -13,10 +13,22 @@ impl<T: Copy + PartialEq> Lent<T> {
         Lent { places: vec![pattern; length + 2 * MARGIN], pattern }
     }
 
+    /// Memory that holds these values beforehand, and the pattern around them.
+    pub fn of(values: &[T], pattern: T) -> Self {
+        let mut lent = Lent::new(values.len(), pattern);
+        lent.lend().copy_from_slice(values);
+        lent
+    }
+
     /// What the library gets to see.
     pub fn lend(&mut self) -> &mut [T] {
         let end = self.places.len() - MARGIN;
         &mut self.places[MARGIN..end]
+    }
+
+    /// The same where the length is a part of the type.
+    pub fn lend_array<const N: usize>(&mut self) -> &mut [T; N] {
+        self.lend().try_into().expect("memory of that length")
     }
 
     /// The first places hold these values, and all others what they held.

@@ -16,6 +16,7 @@ mod lent;
 mod options;
 mod refusals;
 mod report;
+mod sheets;
 mod tally;
 
 use std::process::ExitCode;
@@ -152,9 +153,11 @@ fn finish(entries: &[Entry], is_whole: bool) -> ExitCode {
     let mut failed = entries.iter().filter(|entry| entry.judge.failed > 0).count();
     let mut groups = entries.len();
     if is_whole {
-        groups += 2;
+        groups += 3;
         failed += usize::from(is_missing("rules", &all.tally.missing_rules()));
         failed += usize::from(is_missing("refusals", &all.tally.missing_refusals()));
+        let missing = all.tally.missing_sheet_answers();
+        failed += usize::from(is_missing("answers of the sheet", &missing));
     }
     println!("{} comparisons in {groups} groups", all.comparisons);
     println!("{} passed, {failed} failed", groups - failed);

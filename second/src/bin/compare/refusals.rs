@@ -8,8 +8,8 @@ use second::samples::{Job, Sample};
 use crate::groups::Group;
 use crate::judge::Judge;
 
-const CODES: [u32; 8] = [0, 1, 300, 9999, 10_000, 65_836, 1 << 31, u32::MAX];
-const DAYS: [u32; 12] = [
+pub const CODES: [u32; 8] = [0, 1, 300, 9999, 10_000, 65_836, 1 << 31, u32::MAX];
+pub const DAYS: [u32; 12] = [
     19991231,
     20000101,
     20000102,
@@ -23,7 +23,7 @@ const DAYS: [u32; 12] = [
     0,
     u32::MAX,
 ];
-const FILES: [&[u8]; 7] = [b"", b"\x1a", b"\r\n\x1a", b"x", b"x\x1a", b"\x1ax\x1a", b"\r\n"];
+pub const FILES: [&[u8]; 7] = [b"", b"\x1a", b"\r\n\x1a", b"x", b"x\x1a", b"\x1ax\x1a", b"\r\n"];
 const ROOMS: [(usize, usize); 6] = [(0, 0), (3, 3), (0, 1), (1, 0), (5, 4), (256, 255)];
 const LENGTHS: [usize; 5] = [9_999_998, 9_999_999, 10_000_000, 10_000_001, 10_000_002];
 

@@ -90,6 +90,32 @@ pub fn account(
     )
 }
 
+pub fn opening(codes: &[u32]) -> String {
+    format!("certis_sheet_open for {codes:?}")
+}
+
+pub fn posting(codes: &[u32], job: Job) -> String {
+    format!("certis_sheet_post for {codes:?}, {}", input(job))
+}
+
+/// The places that differ, or what lies around them does.
+pub fn sheet(
+    call: &str,
+    (answer, expected): (Result<(), u32>, &[i64]),
+    (found, turnovers): (u32, &[i64]),
+) -> String {
+    let places = expected.iter().zip(turnovers).enumerate();
+    let parted: Vec<_> = places.filter(|(_, (one, other))| one != other).take(12).collect();
+    format!(
+        "{call}\n  expected {answer:?}, found {found}\n  \
+         turnovers that differ, as place, expected and found: {parted:?}"
+    )
+}
+
+pub fn shown_turnover(turnover: i64, expected: &str, found: usize, text: &[u8]) -> String {
+    format!("certis_turnover_text {turnover}: expected {expected}, found {found} {}", shown(text))
+}
+
 /// A smaller file that still makes a difference: lines are left out, then
 /// bytes, in ever smaller pieces.
 fn shrink(job: Job, differs: Differs) -> Option<Sample> {

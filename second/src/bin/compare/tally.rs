@@ -7,15 +7,19 @@ use second::rules::Fault;
 pub struct Tally {
     rules: [u64; 64],
     refusals: [u64; 20],
+    /// Answers of opening a sheet and of posting on one, 0 where it was done.
+    sheet_answers: [u64; 23],
 }
 
 /// Every rule and every refusal that the C face can give.
 const RULES: [std::ops::RangeInclusive<usize>; 2] = [1..=22, 30..=38];
 const REFUSALS: [std::ops::RangeInclusive<usize>; 2] = [1..=6, 10..=16];
+/// Checking's own among them; no rooms are lent, so 4 cannot be.
+const SHEET_ANSWERS: [std::ops::RangeInclusive<usize>; 3] = [0..=3, 5..=6, 19..=22];
 
 impl Tally {
     pub fn new() -> Self {
-        Tally { rules: [0; 64], refusals: [0; 20] }
+        Tally { rules: [0; 64], refusals: [0; 20], sheet_answers: [0; 23] }
     }
 
     pub fn faults(&mut self, faults: &[Fault]) {
@@ -28,11 +32,18 @@ impl Tally {
         self.refusals[number as usize] += 1;
     }
 
+    pub fn sheet_answer(&mut self, number: u32) {
+        self.sheet_answers[number as usize] += 1;
+    }
+
     pub fn add(&mut self, other: &Tally) {
         for (sum, more) in self.rules.iter_mut().zip(other.rules) {
             *sum += more;
         }
         for (sum, more) in self.refusals.iter_mut().zip(other.refusals) {
+            *sum += more;
+        }
+        for (sum, more) in self.sheet_answers.iter_mut().zip(other.sheet_answers) {
             *sum += more;
         }
     }
@@ -47,11 +58,20 @@ impl Tally {
         REFUSALS.into_iter().flatten().filter(|&number| self.refusals[number] == 0).collect()
     }
 
+    /// The answers of the sheet that were never given.
+    pub fn missing_sheet_answers(&self) -> Vec<usize> {
+        let numbers = SHEET_ANSWERS.into_iter().flatten();
+        numbers.filter(|&number| self.sheet_answers[number] == 0).collect()
+    }
+
     pub fn print(&self) {
         println!("\nhow often the reference met each rule:");
         print_table(RULES.into_iter().flatten().map(|rule| (rule, self.rules[rule])));
         println!("and each refusal:");
         print_table(REFUSALS.into_iter().flatten().map(|number| (number, self.refusals[number])));
+        println!("and each answer of the sheet, 0 where it was opened or posted on:");
+        let numbers = SHEET_ANSWERS.into_iter().flatten();
+        print_table(numbers.map(|number| (number, self.sheet_answers[number])));
     }
 }
 

@@ -1,0 +1,126 @@
+/* stack: holds what include/certis.h says of the stack that a call takes. Each
+ * job runs in a thread whose stack was painted; what is no longer paint was
+ * used, less what a thread uses that does nothing. The last line printed is
+ * 'N passed, M failed'.
+ */
+
+#define _POSIX_C_SOURCE 200809L /* for pthread_attr_setstack */
+
+#include "certis.h"
+
+#include <pthread.h>
+#include <stdio.h>
+#include <stdlib.h>
+#include <string.h>
+
+#define ROOM ((size_t)1 << 18)
+#define PROMISED ((size_t)16 << 10)
+#define PAINT 0xA5
+
+struct sample {
+    uint8_t bytes[1 << 16];
+    size_t length;
+};
+
+/* One with faults, which is checked, and one without, which is posted. */
+static struct sample faulty;
+static struct sample clean;
+
+static void *nothing(void *ignored)
+{
+    return ignored;
+}
+
+static void *total(void *ignored)
+{
+    uint64_t faults = 0;
+    certis_total(faulty.bytes, faulty.length, 300, 20240304, &faults);
+    return ignored;
+}
+
+static void *check(void *ignored)
+{
+    static uint32_t lines[64];
+    static uint32_t rules[64];
+    uint64_t faults = 0;
+    certis_check(faulty.bytes, faulty.length, 300, 20240304, lines, 64, rules, 64, &faults);
+    return ignored;
+}
+
+static void *derive(void *ignored)
+{
+    static const char heading[] = "HD:12 20240304 0000300 0000017 0000710 0000000 0000000";
+    static uint8_t target[CERTIS_HEADING];
+    certis_derive((const uint8_t *)heading, CERTIS_HEADING, 6, 42, target, sizeof target);
+    return ignored;
+}
+
+static void *account(void *ignored)
+{
+    bool good = false;
+    certis_account((const uint8_t *)"19", 2, (const uint8_t *)"2000145399", 10, &good);
+    return ignored;
+}
+
+static void *post(void *ignored)
+{
+    static const uint32_t codes[] = { 300, 710, 820 };
+    static int64_t turnovers[CERTIS_TURNOVERS];
+    certis_sheet_post(codes, 3, turnovers, clean.bytes, clean.length, 300, 20240304);
+    return ignored;
+}
+
+/* The bytes of stack that a thread with this job uses; ROOM if it cannot run. */
+static size_t used_by(void *(*job)(void *))
+{
+    pthread_attr_t attributes;
+    pthread_t thread;
+    uint8_t *stack = aligned_alloc(4096, ROOM);
+    size_t paint = 0;
+    if (stack == NULL) {
+        return ROOM;
+    }
+    memset(stack, PAINT, ROOM);
+    pthread_attr_init(&attributes);
+    if (pthread_attr_setstack(&attributes, stack, ROOM) == 0 && pthread_create(&thread, &attributes, job, NULL) == 0) {
+        pthread_join(thread, NULL);
+        while (paint < ROOM && stack[paint] == PAINT) {
+            paint += 1;
+        }
+    }
+    pthread_attr_destroy(&attributes);
+    free(stack);
+    return ROOM - paint;
+}
+
+static bool read_sample(const char *name, struct sample *sample)
+{
+    FILE *from = fopen(name, "rb");
+    if (from != NULL) {
+        sample->length = fread(sample->bytes, 1, sizeof sample->bytes, from);
+        fclose(from);
+    }
+    return sample->length > 0;
+}
+
+int main(int count, char **words)
+{
+    static const struct {
+        const char *name;
+        void *(*run)(void *);
+    } JOBS[] = { { "certis_total", total }, { "certis_check", check }, { "certis_derive", derive }, { "certis_account", account },
+                 { "certis_sheet_post", post } };
+    unsigned passed = 0;
+    unsigned failed = 0;
+    bool readable = count > 2 && read_sample(words[1], &faulty) && read_sample(words[2], &clean);
+    size_t idle = readable ? used_by(nothing) : ROOM;
+    for (size_t i = 0; i < sizeof JOBS / sizeof JOBS[0]; i++) {
+        size_t used = used_by(JOBS[i].run);
+        bool holds = idle < ROOM && used < idle + PROMISED;
+        passed += holds;
+        failed += !holds;
+        printf("%s%s takes %zu bytes of stack\n", holds ? "" : "FAILED: ", JOBS[i].name, used < idle ? 0 : used - idle);
+    }
+    printf("%u passed, %u failed\n", passed, failed);
+    return failed == 0 ? 0 : 1;
+}

@@ -1,0 +1,88 @@
+/* The rules and refusals of documents 01 and 02 in words. */
+
+#include "desk.h"
+
+#include <inttypes.h>
+#include <stdio.h>
+
+#define GROUP(d) \
+    "S" d " (0 and 0 if absent) is not the count and sum of the block's other readable items of types " d "x."
+
+static const char *const RULES[] = {
+    [1] = "The line holds a character that is not admissible.",
+    [2] = "The line is no heading, field or continuation, or it continues nothing.",
+    [3] = "No heading stands above the line.",
+    [4] = "The line is not ended by CR LF.",
+    [5] = "This field stood in the item already.",
+    [6] = "The heading or field, with its continuations, does not have the right layout.",
+    [7] = "The account fails the modulo 11 check, or its number is zero.",
+    [8] = "The day of the amount is not a real day, or is later than this type of item allows.",
+    [9] = "The amount of a 32 is over 1000000000.00.",
+    [10] = "The type is not one that an input file may hold.",
+    [11] = "The day is not real, is after the accounting day, or is more than ten days before it.",
+    [12] = "The first code is not the submitter's.",
+    [13] = "The output number is not zero.",
+    [14] = "The second code is zero; or the third is zero in a 35, 37 or 45, or is not zero in another type.",
+    [15] = "The item has no amount (KC).",
+    [16] = "No readable 51 closes the items from here on.",
+    [17] = "The 51 closes a block with nothing else in it.",
+    [18] = "The day is not that of the block's first readable heading.",
+    [19] = "The input number does not follow the one before it, or is zero where it may not be.",
+    [20] = "The item is not of the same priority as the file's first item.",
+    [21] = "The 51 has no IN, or its IN is not the first and last number of the block's items.",
+    [22] = "The 51 has an S9.",
+    [30] = GROUP("0"),
+    [31] = GROUP("1"),
+    [32] = GROUP("2"),
+    [33] = GROUP("3"),
+    [34] = GROUP("4"),
+    [35] = GROUP("5"),
+    [36] = GROUP("6"),
+    [37] = GROUP("7"),
+    [38] = GROUP("8"),
+};
+
+static const char *const REFUSALS[] = {
+    [1] = "The code is not 1 to 9999.",
+    [2] = "The day is not a real day from 20000101 to 20991231.",
+    [3] = "The file has more than 10,000,000 bytes.",
+    [5] = "The file has no end mark (byte 1A).",
+    [6] = "The file is empty: it begins with the end mark (byte 1A).",
+    [10] = "The prefix is not 0 to 6 digits, or the number not 1 to 10.",
+    [11] = "The text is not 54 bytes in the layout of a heading.",
+    [12] = "The heading is a 51, or breaks rule 10, 13 or 14.",
+    [13] = "The outcome is not 1 to 7.",
+    [14] = "The table of outgoing types has no entry for this type and outcome.",
+    [15] = "The output number is not in the class of the input type.",
+    [19] = "The list has more than 64 codes, repeats one, or has one that is not 1 to 9999.",
+    [20] = "The file has faults.",
+    [21] = "Payer or beneficiary of an item is not listed.",
+    [22] = "A turnover would pass 999999999999999.99 either way.",
+};
+
+#define COUNT(table) (sizeof(table) / sizeof((table)[0]))
+
+const char *rule_in_words(uint32_t rule)
+{
+    return rule < COUNT(RULES) ? RULES[rule] : NULL;
+}
+
+const char *refusal_in_words(uint32_t refusal)
+{
+    return refusal < COUNT(REFUSALS) ? REFUSALS[refusal] : NULL;
+}
+
+void end_line(const char *words)
+{
+    if (words != NULL) {
+        printf(": %s", words);
+    }
+    putchar('\n');
+}
+
+int show_refusal(uint32_t refusal, bool in_words)
+{
+    printf("refused %" PRIu32, refusal);
+    end_line(in_words ? refusal_in_words(refusal) : NULL);
+    return FAILED;
+}
