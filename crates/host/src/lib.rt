@@ -1,6 +1,8 @@
 // The C face: numbers and bytes only. Each function answers 0, or the number of the refusal by document 01, and a refusal leaves
 // everything behind the pointers as it was. The promises are those of the jobs below, said with numbers: `listing` for checking,
-// `outcomes` for deriving, `figures` for the account check, `sheet` for the turnovers.
+// `outcomes` for deriving, `figures` for the account check, `sheet` for the turnovers, `entering` for the register.
+use entering::blanking;
+use entering::entering as registering;
 use figures::accounts;
 use listing::checking;
 use sheet::opening;
@@ -15,6 +17,9 @@ ghost use Rattle.outcomes.specs.Deriving.{deriveRefusals, derivedTarget};
 ghost use Rattle.figures.specs.Accounts.{accountRefusals, accountHolds};
 ghost use Rattle.items.specs.Faults.{faults};
 ghost use Rattle.listing.specs.Checking.{checkRefusals};
+ghost use Rattle.register.specs.Register.{registerOf};
+ghost use Rattle.register.specs.Entering.{entered};
+ghost use Rattle.entering.specs.Jobs.{usesOf, enterRefusals, sizeAfter, targetAfter, newRegister, blankRefusals};
 ghost use Rattle.sheet.specs.Posting.{openRefusals, opened, postRefusals, posted};
 ghost use Rattle.sheet.specs.Shown.{Shows};
 ghost use Rattle.host.specs.Face.{totalAfter, ListedAt};
@@ -95,4 +100,31 @@ pub extern "C" fn certis_turnover_text(turnover: i64, target: &mut [u8; 20]) -> 
     ensures { λ r. ⌜ Shows (now (target .entry)) turnover (now (target .exit)) r ⌝ }
 {
     showing::show(turnover, target)
+}
+
+// A new register: 13 bytes.
+#[no_mangle]
+pub extern "C" fn certis_register_new(code: u32, target: &mut [u8]) -> u32
+    ensures number { λ r. ⌜ r ≡ first (blankRefusals code (length (now (target .entry)))) ⌝ }
+    ensures after { λ _. ⌜ now (target .exit) ≡ targetAfter (first (blankRefusals code (length (now (target .entry))))) (newRegister code) (now (target .entry)) ⌝ }
+{
+    blanking::number_of(blanking::blank(code, target))
+}
+
+#[no_mangle]
+pub extern "C" fn certis_register_enter(
+    register: &[u8],
+    file: &[u8],
+    code: u32,
+    day: u32,
+    target: &mut [u8],
+    written: &mut usize,
+) -> u32
+    ensures number { λ r. ⌜ r ≡ first (enterRefusals (now (register .entry)) (now (file .entry)) code day (length (now (target .entry)))) ⌝ }
+    ensures size { λ _. ⌜ now (written .exit) ≡ sizeAfter (first (enterRefusals (now (register .entry)) (now (file .entry)) code day (length (now (target .entry))))) (entered (registerOf (now (register .entry))) day (usesOf (now (file .entry)))) (now (written .entry)) ⌝ }
+    ensures after { λ _. ⌜ now (target .exit) ≡ targetAfter (first (enterRefusals (now (register .entry)) (now (file .entry)) code day (length (now (target .entry))))) (entered (registerOf (now (register .entry))) day (usesOf (now (file .entry)))) (now (target .entry)) ⌝ }
+{
+    let answer = registering::enter(register, file, code, day, target);
+    *written = registering::written_or(answer, *written);
+    registering::number_of(answer)
 }
