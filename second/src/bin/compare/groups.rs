@@ -12,6 +12,7 @@ use crate::calls;
 use crate::judge::Judge;
 use crate::options::Options;
 use crate::refusals;
+use crate::registers;
 use crate::sheets;
 
 type Run = Box<dyn Fn(&mut Judge, &mut Dice, u64) + Sync>;
@@ -51,6 +52,7 @@ pub fn all(options: &Options) -> Vec<Group> {
     groups.extend(calls::all());
     groups.extend(edges);
     groups.extend(sheets::all(options.files));
+    groups.extend(registers::all(options.files));
     groups.extend(random_files(options.files));
     groups.push(large_files(options.large));
     groups
