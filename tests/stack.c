@@ -13,8 +13,7 @@
 #include <stdlib.h>
 #include <string.h>
 
-#define ROOM ((size_t)1 << 18)
-#define PROMISED ((size_t)16 << 10)
+#define ROOM ((size_t)4 << 20)
 #define PAINT 0xA5
 
 struct sample {
@@ -70,6 +69,16 @@ static void *post(void *ignored)
     return ignored;
 }
 
+static void *enter(void *ignored)
+{
+    static uint8_t fresh[CERTIS_REGISTER_LEAST];
+    static uint8_t target[CERTIS_REGISTER_MOST];
+    size_t written = 0;
+    certis_register_new(300, fresh, sizeof fresh);
+    certis_register_enter(fresh, sizeof fresh, clean.bytes, clean.length, 300, 20240304, target, sizeof target, &written);
+    return ignored;
+}
+
 /* The bytes of stack that a thread with this job uses; ROOM if it cannot run. */
 static size_t used_by(void *(*job)(void *))
 {
@@ -108,15 +117,17 @@ int main(int count, char **words)
     static const struct {
         const char *name;
         void *(*run)(void *);
-    } JOBS[] = { { "certis_total", total }, { "certis_check", check }, { "certis_derive", derive }, { "certis_account", account },
-                 { "certis_sheet_post", post } };
+        size_t promised;
+    } JOBS[] = { { "certis_total", total, 16 << 10 },   { "certis_check", check, 16 << 10 },
+                 { "certis_derive", derive, 16 << 10 }, { "certis_account", account, 16 << 10 },
+                 { "certis_sheet_post", post, 16 << 10 }, { "certis_register_enter", enter, 2 << 20 } };
     unsigned passed = 0;
     unsigned failed = 0;
     bool readable = count > 2 && read_sample(words[1], &faulty) && read_sample(words[2], &clean);
     size_t idle = readable ? used_by(nothing) : ROOM;
     for (size_t i = 0; i < sizeof JOBS / sizeof JOBS[0]; i++) {
         size_t used = used_by(JOBS[i].run);
-        bool holds = idle < ROOM && used < idle + PROMISED;
+        bool holds = idle < ROOM && used < idle + JOBS[i].promised;
         passed += holds;
         failed += !holds;
         printf("%s%s takes %zu bytes of stack\n", holds ? "" : "FAILED: ", JOBS[i].name, used < idle ? 0 : used - idle);
