@@ -39,6 +39,7 @@ static inline int worse(int status, int other)
 /* The subcommands. */
 int desk_account(int count, char **words);
 int desk_list(int count, char **words);
+int desk_register(int count, char **words);
 int desk_sheet(int count, char **words);
 
 /* Arguments */

@@ -23,6 +23,7 @@ struct command {
 static const struct command COMMANDS[] = {
     { "account", desk_account, "checks account numbers" },
     { "list", desk_list, "lists the faults of input files" },
+    { "register", desk_register, "keeps the numbers that a participant has used" },
     { "sheet", desk_sheet, "posts input files and shows the turnovers" },
 };
 
