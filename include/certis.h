@@ -6,7 +6,7 @@
  * leaves everything behind the pointers as it stood. No function keeps a
  * pointer, allocates, fails in any other way or runs for ever; calls from
  * several threads do not disturb each other. A call takes less than 16 KB of
- * stack.
+ * stack, but for certis_register_enter, which takes less than 2 MB.
  *
  * What a caller owes, for every function:
  *   - each pointer is not null and properly aligned;
@@ -53,7 +53,14 @@ enum certis_refusal {
     CERTIS_BAD_LIST = 19,      /* the list is too long, repeats a code, or has one not 1 to 9999 */
     CERTIS_HAS_FAULTS = 20,    /* the file has faults */
     CERTIS_NOT_LISTED = 21,    /* payer or beneficiary of an item that posts is not listed */
-    CERTIS_PAST_LIMIT = 22     /* a turnover would pass 10^17 - 1 either way */
+    CERTIS_PAST_LIMIT = 22,    /* a turnover would pass 10^17 - 1 either way */
+    CERTIS_BAD_REGISTER = 23,  /* the bytes are not a well-formed register */
+    CERTIS_OTHER_CODE = 24,    /* the register is of another code */
+    CERTIS_DAY_BEFORE = 25,    /* the day is before the register's latest */
+    CERTIS_FAULTS_ENTERED = 26, /* the file that is to be entered has faults */
+    CERTIS_USED_ALREADY = 27,  /* a number is used already, in the register or twice in the file */
+    CERTIS_MANY_RANGES = 28,   /* more than CERTIS_RANGES ranges would remain */
+    CERTIS_SHORT_REGISTER = 29 /* the target is too short for the register */
 };
 
 /* The rules of document 01, as checking lists them. */
@@ -258,6 +265,66 @@ uint32_t certis_sheet_post(const uint32_t *codes, size_t codes_len,
  * Every number has an answer.
  */
 size_t certis_turnover_text(int64_t turnover, uint8_t *text /* 20 bytes */);
+
+/* The register of numbers used.
+ *
+ * A register holds the numbers that a participant has used of each day, as
+ * ranges. It is bytes in the caller's memory, all numbers high byte first:
+ *
+ *   bytes   0   CRG
+ *           3   the version, 1, in 2 bytes
+ *           5   the participant's code, in 2
+ *           7   the latest accounting day, in 4
+ *          11   the count of ranges, in 2
+ *          13   for each range the day, the first and the last number, in 4 each
+ *
+ * Ranges stand by day and first number, and never touch within a day. A caller
+ * keeps the bytes and hands them in again; it need not look into them.
+ */
+#define CERTIS_RANGES 64
+#define CERTIS_REGISTER_LEAST 13
+#define CERTIS_REGISTER_MOST (13 + 12 * CERTIS_RANGES)
+
+/* A new register.
+ *
+ * Writes a register with no ranges, of CERTIS_REGISTER_LEAST bytes; a longer
+ * target keeps its other bytes.
+ *
+ * Refusals, the first that applies:
+ *   1   the code is not 1 to 9999
+ *   29  the target has fewer than CERTIS_REGISTER_LEAST bytes
+ */
+uint32_t certis_register_new(uint32_t code, uint8_t *target, size_t target_len);
+
+/* Entering a file.
+ *
+ * Checks the file as certis_total does and, if it has no fault, writes the
+ * register with the file's numbers into the target and sets *written to its
+ * length; a longer target keeps its other bytes. Used are the day and the
+ * number of every heading; the number of a 51 too, unless it is 0. The
+ * accounting day becomes the latest, and days more than ten before it are
+ * dropped. What is written is a register again. The old one is not changed:
+ * the caller puts the new one in its place.
+ *
+ * Refusals, the first that applies:
+ *   1   the code is not 1 to 9999
+ *   2   the day is not a real day from 20000101 to 20991231
+ *   3   the file has more than 10,000,000 bytes, those after the 1A included
+ *   5   there is no byte 1A in the file
+ *   6   the first byte of the file is 1A
+ *   23  the bytes are not a well-formed register
+ *   24  its code is another
+ *   25  the day is before its latest
+ *   26  the file has faults
+ *   27  a number is used already, in the register or twice in the file
+ *   28  more than CERTIS_RANGES ranges would remain
+ *   29  the target is too short; CERTIS_REGISTER_MOST bytes always are enough
+ */
+uint32_t certis_register_enter(const uint8_t *reg, size_t reg_len,
+                               const uint8_t *file, size_t file_len,
+                               uint32_t code, uint32_t day,
+                               uint8_t *target, size_t target_len,
+                               size_t *written);
 
 #ifdef __cplusplus
 }

@@ -14,8 +14,7 @@
 #include <stdlib.h>
 #include <string.h>
 
-#define ROOM ((size_t)1 << 18)
-#define PROMISED ((size_t)16 << 10)
+#define ROOM ((size_t)4 << 20)
 #define PAINT 0xA5
 
 struct sample {
@@ -80,6 +79,16 @@ static void *post(void *ignored)
     return ignored;
 }
 
+static void *enter(void *ignored)
+{
+    static uint8_t fresh[CERTIS_REGISTER_LEAST];
+    static uint8_t target[CERTIS_REGISTER_MOST];
+    size_t written = 0;
+    certis_register_new(300, fresh, sizeof fresh);
+    certis_register_enter(fresh, sizeof fresh, clean.bytes, clean.length, 300, 20240304, target, sizeof target, &written);
+    return ignored;
+}
+
 /* The bytes of stack that a thread with this job uses; ROOM if it cannot run. */
 static size_t used_by(void *(*job)(void *))
 {
@@ -118,9 +127,12 @@ int main(int count, char **words)
     static const struct {
         const char *name;
         void *(*run)(void *);
+        size_t promised;
     } JOBS[] = {
-        { "certis_total", total },   { "certis_check", check },     { "certis_tell", tell },
-        { "certis_derive", derive }, { "certis_account", account }, { "certis_sheet_post", post },
+        { "certis_total", total, 16 << 10 },     { "certis_check", check, 16 << 10 },
+        { "certis_tell", tell, 16 << 10 },       { "certis_derive", derive, 16 << 10 },
+        { "certis_account", account, 16 << 10 }, { "certis_sheet_post", post, 16 << 10 },
+        { "certis_register_enter", enter, 2 << 20 },
     };
     unsigned passed = 0;
     unsigned failed = 0;
@@ -128,7 +140,7 @@ int main(int count, char **words)
     size_t idle = readable ? used_by(nothing) : ROOM;
     for (size_t i = 0; i < sizeof JOBS / sizeof JOBS[0]; i++) {
         size_t used = used_by(JOBS[i].run);
-        bool holds = idle < ROOM && used < idle + PROMISED;
+        bool holds = idle < ROOM && used < idle + JOBS[i].promised;
         passed += holds;
         failed += !holds;
         printf("%s%s takes %zu bytes of stack\n", holds ? "" : "FAILED: ", JOBS[i].name, used < idle ? 0 : used - idle);

@@ -40,6 +40,7 @@ static inline int worse(int status, int other)
 int desk_account(int count, char **words);
 int desk_derive(int count, char **words);
 int desk_list(int count, char **words);
+int desk_register(int count, char **words);
 int desk_sheet(int count, char **words);
 int desk_tell(int count, char **words);
 int desk_whose(int count, char **words);

@@ -24,6 +24,7 @@ static const struct command COMMANDS[] = {
     { "account", desk_account, "checks account numbers" },
     { "derive", desk_derive, "writes the heading that an outcome makes of an input heading" },
     { "list", desk_list, "lists the faults of input files" },
+    { "register", desk_register, "keeps the numbers that a participant has used" },
     { "sheet", desk_sheet, "posts input files and shows the turnovers" },
     { "tell", desk_tell, "tells the type and the recipient of that heading before a number is spent" },
     { "whose", desk_whose, "finds the input headings that a derived heading may come from" },

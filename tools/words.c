@@ -59,6 +59,13 @@ static const char *const REFUSALS[] = {
     [20] = "The file has faults.",
     [21] = "Payer or beneficiary of an item is not listed.",
     [22] = "A turnover would pass 999999999999999.99 either way.",
+    [23] = "This is not a well-formed register.",
+    [24] = "The register is of another code.",
+    [25] = "The day is before the register's latest.",
+    [26] = "The file has faults.",
+    [27] = "A number of the file is used already, in the register or twice in the file.",
+    [28] = "The register would have more than 64 ranges.",
+    [29] = "The room for the register is too short.",
 };
 
 static const char *const OUTCOMES[] = {

@@ -64,6 +64,20 @@ mod raw {
         ) -> u32;
 
         pub fn certis_turnover_text(turnover: i64, text: *mut u8) -> usize;
+
+        pub fn certis_register_new(code: u32, target: *mut u8, target_len: usize) -> u32;
+
+        pub fn certis_register_enter(
+            register: *const u8,
+            register_len: usize,
+            file: *const u8,
+            file_len: usize,
+            code: u32,
+            day: u32,
+            target: *mut u8,
+            target_len: usize,
+            written: *mut usize,
+        ) -> u32;
     }
 }
 
@@ -156,4 +170,32 @@ pub fn sheet_post(
 
 pub fn turnover_text(turnover: i64, text: &mut [u8; 20]) -> usize {
     unsafe { raw::certis_turnover_text(turnover, text.as_mut_ptr()) }
+}
+
+pub fn register_new(code: u32, target: &mut [u8]) -> u32 {
+    unsafe { raw::certis_register_new(code, target.as_mut_ptr(), target.len()) }
+}
+
+pub fn register_enter(
+    register: &[u8],
+    file: &[u8],
+    code: u32,
+    day: u32,
+    target: &mut [u8],
+    written: &mut usize,
+) -> u32 {
+    let target_len = target.len();
+    unsafe {
+        raw::certis_register_enter(
+            register.as_ptr(),
+            register.len(),
+            file.as_ptr(),
+            file.len(),
+            code,
+            day,
+            target.as_mut_ptr(),
+            target_len,
+            written,
+        )
+    }
 }

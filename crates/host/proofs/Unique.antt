@@ -10,7 +10,10 @@ use Rattle.listing.specs.Checking.{slicesAfter}
 use Rattle.figures.specs.Accounts.{accountHolds}
 use lib.IntN.{ℤ}
 use Rattle.outcomes.specs.Deriving.{outgoingKind, recipient}
-use Rattle.host.specs.Face.{storedAt, TotalAt, CheckedAt, ToldAt, DerivedAt, AccountAt, OpenedAt, PostedAt}
+use Rattle.register.specs.Register.{registerOf}
+use Rattle.register.specs.Entering.{entered}
+use Rattle.entering.specs.Jobs.{usesOf, sizeAfter, targetAfter, newRegister}
+use Rattle.host.specs.Face.{storedAt, TotalAt, CheckedAt, ToldAt, DerivedAt, AccountAt, OpenedAt, PostedAt, BlankedAt, EnteredAt}
 
 pub total-unique : {file : List ℕ} {code day before r r′ after after′ : ℕ} → TotalAt file code day before r after → TotalAt file code day before r′ after′ → (r ≡ r′) × (after ≡ after′)
 total-unique {file} {code} {day} {before} C D =
@@ -50,3 +53,17 @@ opened-unique C D = (C .number ∙ sym (D .number), C .turnovers ∙ sym (D .tur
 pub posted-unique : {codes : List ℕ} {before : List ℤ} {file : List ℕ} {code day r r′ : ℕ} {after after′ : List ℤ} → PostedAt codes before file code day r after → PostedAt codes before file code day r′ after′
     → (r ≡ r′) × (after ≡ after′)
 posted-unique C D = (C .number ∙ sym (D .number), C .turnovers ∙ sym (D .turnovers))
+
+pub blanked-unique : {code : ℕ} {before : List ℕ} {r r′ : ℕ} {after after′ : List ℕ} → BlankedAt code before r after → BlankedAt code before r′ after′ → (r ≡ r′) × (after ≡ after′)
+blanked-unique {code} {before} C D =
+    let e = C .number ∙ sym (D .number) in
+    (e, C .target ∙ ap (λ (k : ℕ). targetAfter k (newRegister code) before) e ∙ sym (D .target))
+
+pub entered-unique : {register file : List ℕ} {code day : ℕ} {before : List ℕ} {size₀ r r′ : ℕ} {after after′ : List ℕ} {size size′ : ℕ} → EnteredAt register file code day before size₀ r after size → EnteredAt register file code day before size₀ r′ after′ size′
+    → (r ≡ r′) × (after ≡ after′) × (size ≡ size′)
+entered-unique {register} {file} {code} {day} {before} {size₀} C D =
+    let e = C .number ∙ sym (D .number) in (
+      e,
+      C .target ∙ ap (λ (k : ℕ). targetAfter k (entered (registerOf register) day (usesOf file)) before) e ∙ sym (D .target),
+      C .written ∙ ap (λ (k : ℕ). sizeAfter k (entered (registerOf register) day (usesOf file)) size₀) e ∙ sym (D .written),
+    )

@@ -13,6 +13,9 @@ use Rattle.rules.specs.Faults.{Fault, faults}
 use Rattle.listing.specs.Checking.{checkRefusals, slicesAfter}
 use Rattle.outcomes.specs.Deriving.{tellRefusals, outgoingKind, recipient, deriveRefusals, derivedTarget}
 use Rattle.sheet.specs.Posting.{openRefusals, opened, postRefusals, posted}
+use Rattle.register.specs.Register.{registerOf}
+use Rattle.register.specs.Entering.{entered}
+use Rattle.entering.specs.Jobs.{usesOf, enterRefusals, sizeAfter, targetAfter, newRegister, blankRefusals}
 
 -- 'A refusal returns its number, no total, and changes no lent byte': a value, or on a refusal what stood there
 abbrev pub storedAt : ℕ → ℕ → ℕ → ℕ
@@ -55,3 +58,14 @@ pub record OpenedAt (codes : List ℕ) (before : List ℤ) (r : ℕ) (after : Li
 pub record PostedAt (codes : List ℕ) (before : List ℤ) (file : List ℕ) (code day r : ℕ) (after : List ℤ) : Type 0 where
   pub number : r ≡ first (postRefusals codes before file code day)
   pub turnovers : after ≡ posted codes before file code day
+
+-- certis_register_new: the refusal or 0, and the target
+pub record BlankedAt (code : ℕ) (before : List ℕ) (r : ℕ) (after : List ℕ) : Type 0 where
+  pub number : r ≡ first (blankRefusals code (length before))
+  pub target : after ≡ targetAfter r (newRegister code) before
+
+-- certis_register_enter: the refusal or 0, the target, and how many bytes were written
+pub record EnteredAt (register file : List ℕ) (code day : ℕ) (before : List ℕ) (size₀ r : ℕ) (after : List ℕ) (size : ℕ) : Type 0 where
+  pub number : r ≡ first (enterRefusals register file code day (length before))
+  pub target : after ≡ targetAfter r (entered (registerOf register) day (usesOf file)) before
+  pub written : size ≡ sizeAfter r (entered (registerOf register) day (usesOf file)) size₀

@@ -1,7 +1,9 @@
 // The C face: numbers and bytes only. Each function answers 0, or the number of the refusal by document 01 or 02, and a refusal leaves
 // everything behind the pointers as it was: a total or an answer is stored where nothing is refused, and is never loaded. The promises
 // are those of the jobs below, said with numbers: `listing` for checking, `outcomes` for telling and deriving, `figures` for the account
-// check, `sheet` for the turnovers.
+// check, `sheet` for the turnovers, `entering` for the register.
+use entering::blanking;
+use entering::entering as registering;
 use figures::accounts;
 use headings::ItemNo;
 use listing::checking;
@@ -14,7 +16,7 @@ ghost use mathlib.Core.Bool.{cond};
 ghost use lib.Dec.{eqb};
 ghost use Rattle.listing.specs.Checking.{checkedNumber, checkedOr};
 ghost use Rattle.sheet.specs.Shown.{Shows};
-ghost use Rattle.host.specs.Face.{TotalAt, CheckedAt, ToldAt, DerivedAt, AccountAt, OpenedAt, PostedAt};
+ghost use Rattle.host.specs.Face.{TotalAt, CheckedAt, ToldAt, DerivedAt, AccountAt, OpenedAt, PostedAt, BlankedAt, EnteredAt};
 
 // A total behind a pointer, where the job is done.
 fn store_total(at: &mut u64, done: bool, total: u64)
@@ -42,6 +44,15 @@ fn store_answer(at: &mut u32, done: bool, answer: u32)
 {
     if done {
         *at = answer;
+    }
+}
+
+// A length behind a pointer, where the job is done.
+fn store_size(at: &mut usize, done: bool, size: usize)
+    ensures { λ _. ⌜ now (at .exit) ≡ cond done size (now (at .entry)) ⌝ }
+{
+    if done {
+        *at = size;
     }
 }
 
@@ -145,4 +156,29 @@ pub extern "C" fn certis_turnover_text(turnover: i64, target: &mut [u8; 20]) -> 
     ensures { λ r. ⌜ Shows (now (target .entry)) turnover (now (target .exit)) r ⌝ }
 {
     showing::show(turnover, target)
+}
+
+// A new register: 13 bytes.
+#[no_mangle]
+pub extern "C" fn certis_register_new(code: u32, target: &mut [u8]) -> u32
+    ensures { λ r. ⌜ BlankedAt code (now (target .entry)) r (now (target .exit)) ⌝ }
+{
+    blanking::number_of(blanking::blank(code, target))
+}
+
+#[no_mangle]
+pub extern "C" fn certis_register_enter(
+    register: &[u8],
+    file: &[u8],
+    code: u32,
+    day: u32,
+    target: &mut [u8],
+    written: &mut usize,
+) -> u32
+    ensures { λ r. ⌜ EnteredAt (now (register .entry)) (now (file .entry)) code day (now (target .entry)) (now (written .entry)) r (now (target .exit)) (now (written .exit)) ⌝ }
+{
+    let answer = registering::enter(register, file, code, day, target);
+    let refusal = registering::number_of(answer);
+    store_size(written, refusal == 0, registering::written_or(answer, 0));
+    refusal
 }

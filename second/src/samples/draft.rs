@@ -65,6 +65,19 @@ impl Draft {
         }
     }
 
+    /// One block more, of items of a day with these numbers and a closing item
+    /// with a number of its own.
+    pub fn numbered(&mut self, day: u32, numbers: &[u32], closing: u32) {
+        for &number in numbers {
+            self.heading(Heading { day, ..self.good_heading(11, number) });
+            self.line(format!("KC:1 {day:08}"));
+        }
+        self.heading(Heading { day, ..self.good_heading(51, closing) });
+        let (count, first) = (numbers.len(), numbers.first().unwrap_or(&0));
+        self.line(format!("IN:{first} {}", numbers.last().unwrap_or(&0)));
+        self.line(format!("S1:{count} {count}"));
+    }
+
     pub fn sample(&self) -> Sample {
         Sample { code: self.code, day: self.day, file: self.bytes() }
     }

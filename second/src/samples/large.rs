@@ -121,6 +121,23 @@ pub fn controls_only(bytes: usize) -> Sample {
     repeated(b"", &heading(51, 1), bytes)
 }
 
+/// Blocks of one item each, every number once, `step` apart: ascending,
+/// descending, every other one first, or in any order.
+pub fn blocks_of_one(dice: &mut Dice, bytes: usize, order: u64, step: u32) -> Sample {
+    const LONGEST: usize = 160;
+    let places = 0..(bytes / LONGEST) as u32;
+    let mut numbers: Vec<u32> = places.map(|place| 1 + place * step).collect();
+    match order {
+        0 => {}
+        1 => numbers.reverse(),
+        2 => numbers.sort_by_key(|number| (number / step % 2, *number)),
+        _ => dice.shuffle(&mut numbers),
+    }
+    let mut draft = Draft::new(CODE, DAY);
+    numbers.into_iter().for_each(|number| draft.numbered(DAY, &[number], 0));
+    draft.sample()
+}
+
 /// One block of as many items as fit, closed by a 51 that is nearly right.
 fn one_long_block(bytes: usize) -> Sample {
     let mut draft = Draft::new(CODE, DAY);

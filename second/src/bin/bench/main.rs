@@ -10,6 +10,7 @@ mod clock;
 #[path = "../../face.rs"]
 #[allow(unsafe_code)]
 mod face;
+mod register;
 mod sheet;
 
 use std::env;
@@ -35,6 +36,7 @@ fn main() {
     missed += growth(clean.job(), rounds);
     missed += worst_files(clean.job(), rounds);
     missed += sheet::posting(rounds);
+    missed += register::entering(rounds);
     println!("\ngoals missed: {missed}");
 }
 

@@ -13,6 +13,7 @@ use crate::group::Group;
 use crate::judge::Judge;
 use crate::options::Options;
 use crate::refusals;
+use crate::registers;
 use crate::sheets;
 
 pub fn all(options: &Options) -> Vec<Group> {
@@ -24,6 +25,7 @@ pub fn all(options: &Options) -> Vec<Group> {
     groups.extend(calls::all());
     groups.extend(edges);
     groups.extend(sheets::all(options.files));
+    groups.extend(registers::all(options.files));
     groups.extend(random_files(options.files));
     groups.push(large_files(options.large));
     groups

@@ -5,6 +5,7 @@ use second::account;
 use second::check;
 use second::derive;
 use second::heading;
+use second::register::{self, Register};
 use second::rules::Fault;
 use second::samples::dice::Dice;
 use second::samples::{Job, Sample};
@@ -213,6 +214,50 @@ impl Judge {
         self.tally.sheet_answer(number);
         if found != number || !lent.holds(expected.iter().copied()) {
             self.fail(|| report::sheet(&story(), (answer, expected), (found, lent.lend())));
+        }
+    }
+
+    /// A new register in a target of this length.
+    pub fn blank(&mut self, code: u32, room: usize) {
+        let answer = register::blank(code, room);
+        let mut target = Lent::new(room, 0xA5);
+        let found = face::register_new(code, target.lend());
+        self.register(&answer, found, target, || report::blank(code, room));
+    }
+
+    /// Enters a file in a register; the new one, where it is not refused.
+    pub fn enter(&mut self, register: &[u8], job: Job, room: usize) -> Option<Vec<u8>> {
+        const BEFORE: usize = 0xC5C5_C5C5;
+        let Job { code, day, file } = job;
+        let answer = register::enter(register, file, code, day, room);
+        let mut target = Lent::new(room, 0xA5);
+        let mut written = BEFORE;
+        let found = face::register_enter(register, file, code, day, target.lend(), &mut written);
+        if written != answer.as_ref().map_or(BEFORE, Vec::len) {
+            self.fail(|| format!("{written} written: {}", report::entering(register, job, room)));
+        }
+        // What is written can be entered in again.
+        if answer.as_ref().is_ok_and(|bytes| Register::read(bytes).is_none()) {
+            self.fail(|| format!("no register: {}", report::entering(register, job, room)));
+        }
+        self.register(&answer, found, target, || report::entering(register, job, room));
+        answer.ok()
+    }
+
+    /// The number, the bytes written and all others of the target.
+    fn register(
+        &mut self,
+        answer: &Result<Vec<u8>, u32>,
+        found: u32,
+        mut target: Lent<u8>,
+        story: impl FnOnce() -> String,
+    ) {
+        self.comparisons += 1;
+        let number = answer.as_ref().err().copied().unwrap_or(0);
+        self.tally.register_answer(number);
+        let written = answer.as_deref().unwrap_or(&[]);
+        if found != number || !target.holds(written.iter().copied()) {
+            self.fail(|| report::register(&story(), (number, written), (found, target.lend())));
         }
     }
 

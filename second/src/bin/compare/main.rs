@@ -16,6 +16,7 @@ mod judge;
 mod lent;
 mod options;
 mod refusals;
+mod registers;
 mod report;
 mod sheets;
 mod tally;
@@ -39,6 +40,8 @@ fn main() -> ExitCode {
         }
     }
 }
+
+const STACK: usize = 8 << 20;
 
 /// A group with what became of it over all rounds.
 struct Entry {
@@ -98,7 +101,9 @@ fn run(group: &Group, judge: &mut Judge, seed: u64, threads: u64, deadline: Opti
     let mut round = Judge::new();
     thread::scope(|scope| {
         let work = || run_batches(group, seed, &next, batch, deadline);
-        let workers: Vec<_> = (0..threads).map(|_| scope.spawn(work)).collect();
+        // Entering in a register takes more than a megabyte of stack.
+        let spawn = || thread::Builder::new().stack_size(STACK).spawn_scoped(scope, work);
+        let workers: Vec<_> = (0..threads).map(|_| spawn().expect("a worker starts")).collect();
         for worker in workers {
             round.add(worker.join().expect("a worker ends"));
         }
@@ -154,11 +159,13 @@ fn finish(entries: &[Entry], is_whole: bool) -> ExitCode {
     let mut failed = entries.iter().filter(|entry| entry.judge.failed > 0).count();
     let mut groups = entries.len();
     if is_whole {
-        groups += 3;
+        groups += 4;
         failed += usize::from(is_missing("rules", &all.tally.missing_rules()));
         failed += usize::from(is_missing("refusals", &all.tally.missing_refusals()));
         let missing = all.tally.missing_sheet_answers();
         failed += usize::from(is_missing("answers of the sheet", &missing));
+        let missing = all.tally.missing_register_answers();
+        failed += usize::from(is_missing("answers of the register", &missing));
     }
     println!("{} comparisons in {groups} groups", all.comparisons);
     println!("{} passed, {failed} failed", groups - failed);

@@ -123,6 +123,25 @@ pub fn sheet(
     )
 }
 
+pub fn blank(code: u32, room: usize) -> String {
+    format!("certis_register_new for {code}, target of {room} bytes")
+}
+
+pub fn entering(register: &[u8], job: Job, room: usize) -> String {
+    let (register, input) = (shown(register), input(job));
+    format!("certis_register_enter, target of {room} bytes, register {register}, {input}")
+}
+
+pub fn register(call: &str, expected: (u32, &[u8]), found: (u32, &[u8])) -> String {
+    format!(
+        "{call}\n  expected {} {}\n  found {} {}",
+        expected.0,
+        shown(expected.1),
+        found.0,
+        shown(found.1)
+    )
+}
+
 pub fn shown_turnover(turnover: i64, expected: &str, found: usize, text: &[u8]) -> String {
     format!("certis_turnover_text {turnover}: expected {expected}, found {found} {}", shown(text))
 }

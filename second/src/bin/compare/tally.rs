@@ -9,6 +9,8 @@ pub struct Tally {
     refusals: [u64; 20],
     /// Answers of opening a sheet and of posting on one, 0 where it was done.
     sheet_answers: [u64; 23],
+    /// Answers of a new register and of entering, 0 where one was written.
+    register_answers: [u64; 30],
 }
 
 /// Every rule and every refusal that the C face can give.
@@ -16,10 +18,16 @@ const RULES: [std::ops::RangeInclusive<usize>; 2] = [1..=22, 30..=38];
 const REFUSALS: [std::ops::RangeInclusive<usize>; 2] = [1..=6, 9..=16];
 /// Checking's own among them; no rooms are lent, so 4 cannot be.
 const SHEET_ANSWERS: [std::ops::RangeInclusive<usize>; 4] = [0..=3, 5..=6, 9..=9, 19..=22];
+const REGISTER_ANSWERS: [std::ops::RangeInclusive<usize>; 4] = [0..=3, 5..=6, 9..=9, 23..=29];
 
 impl Tally {
     pub fn new() -> Self {
-        Tally { rules: [0; 64], refusals: [0; 20], sheet_answers: [0; 23] }
+        Tally {
+            rules: [0; 64],
+            refusals: [0; 20],
+            sheet_answers: [0; 23],
+            register_answers: [0; 30],
+        }
     }
 
     pub fn faults(&mut self, faults: &[Fault]) {
@@ -36,6 +44,10 @@ impl Tally {
         self.sheet_answers[number as usize] += 1;
     }
 
+    pub fn register_answer(&mut self, number: u32) {
+        self.register_answers[number as usize] += 1;
+    }
+
     pub fn add(&mut self, other: &Tally) {
         for (sum, more) in self.rules.iter_mut().zip(other.rules) {
             *sum += more;
@@ -44,6 +56,9 @@ impl Tally {
             *sum += more;
         }
         for (sum, more) in self.sheet_answers.iter_mut().zip(other.sheet_answers) {
+            *sum += more;
+        }
+        for (sum, more) in self.register_answers.iter_mut().zip(other.register_answers) {
             *sum += more;
         }
     }
@@ -64,6 +79,12 @@ impl Tally {
         numbers.filter(|&number| self.sheet_answers[number] == 0).collect()
     }
 
+    /// The answers of the register that were never given.
+    pub fn missing_register_answers(&self) -> Vec<usize> {
+        let numbers = REGISTER_ANSWERS.into_iter().flatten();
+        numbers.filter(|&number| self.register_answers[number] == 0).collect()
+    }
+
     pub fn print(&self) {
         println!("\nhow often the reference met each rule:");
         print_table(RULES.into_iter().flatten().map(|rule| (rule, self.rules[rule])));
@@ -72,6 +93,9 @@ impl Tally {
         println!("and each answer of the sheet, 0 where it was opened or posted on:");
         let numbers = SHEET_ANSWERS.into_iter().flatten();
         print_table(numbers.map(|number| (number, self.sheet_answers[number])));
+        println!("and each answer of the register, 0 where one was written:");
+        let numbers = REGISTER_ANSWERS.into_iter().flatten();
+        print_table(numbers.map(|number| (number, self.register_answers[number])));
     }
 }
 

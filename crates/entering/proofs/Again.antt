@@ -1,0 +1,191 @@
+-- What is written is a register again: so the next entering is never refused by 23.
+use Prim.Native.Nat.{ℕ, _+_, _/_, _≤_}
+use native.Mathlib.Omega.{arith}
+use mathlib.Core.Path.{_≡_, refl, sym, ap, _∙_, subst}
+use mathlib.Core.Bool.{Bool, true, false, cond, not, _&&_, _||_, false≢true}
+use mathlib.Core.List.{List, [], _∷_}
+use mathlib.Core.Logic.{_⊎_, inl, inr}
+use lib.Dec.{eqb, leb, ltb}
+use lib.ListN.{length, take}
+use borrow.Author.Tests.{eqb-true, ltb-true, ltb-false, le-leb, le-ltb, not-true, not-false}
+use Rattle.laws.specs.Refusals.{first}
+use Rattle.days.specs.Days.{isReal, later, dayNumber}
+use Rattle.days.proofs.Order.{real-parts, later-number}
+use Rattle.headings.specs.declared.Heading.{Heading}
+use Rattle.headings.specs.declared.Read.{Read}
+use Rattle.headings.specs.declared.Read.the-variants.{Reads}
+use Rattle.rules.specs.Terms.{Terms, input}
+use Rattle.rules.specs.HeadingRules.{rule11}
+use Rattle.rules.specs.Faults.{faults}
+use Rattle.lines.specs.Lines.{body}
+use Rattle.lines.proofs.Body.{body-take}
+use Rattle.item_reader.specs.declared.Slip.{Slip}
+use Rattle.item_reader.specs.Slips.{slipsFrom}
+use Rattle.item_reader.specs.Accepted.{Fine, Each}
+use Rattle.item_reader.proofs.Accepted.{accepted}
+use Rattle.listing.specs.Checking.{isCode, isAccountingDay}
+use Rattle.register.specs.Register.{Range, Register, registerBytes, registerOf, rangeStands, allStand, inOrder, latestStands, wellFormed, isRegister}
+use Rattle.register.specs.Entering.{Use, usedAt, used, kept, join, add, addAll, entered}
+use Rattle.register.specs.Spans.{Fits, Sound}
+use Rattle.register.proofs.Sets.{both, either, left, right, pair, order-strung, strung-order, all-sound, all-ordered}
+use Rattle.register.proofs.Formed.{Formed, formed, stand-sound, stands-again}
+use Rattle.entering.specs.Keys.{Dated}
+use Rattle.entering.specs.Jobs.{usesOf, enterRefusals, newRegister}
+use Rattle.entering.proofs.Uses.{uses-fit, kept-strung, kept-sound}
+use Rattle.laws.proofs.Refusals.{none-applies}
+use Rattle.entering.proofs.Tests.{is-formed}
+
+-- ---- days that a register of a latest day may have
+abbrev DayStands : ℕ → ℕ → Type 0
+DayStands latest day = (isReal day ≡ true) × (later day latest 0 ≡ false) × (later latest day 10 ≡ false)
+
+abbrev AllDays : ℕ → List Range → Type 0
+AllDays latest [] = Unit {0}
+AllDays latest (r ∷ rs) = DayStands latest (r .day) × AllDays latest rs
+
+abbrev UseDays : ℕ → List Use → Type 0
+UseDays latest [] = Unit {0}
+UseDays latest (u ∷ us) = DayStands latest (u .day) × UseDays latest us
+
+-- ---- the days of an accepted file
+day-stands : (terms : Terms) (h : Heading) → rule11 terms h ≡ false → DayStands (terms .today) (h .day)
+day-stands terms h e = go (isReal (h .day)) refl (later (h .day) (terms .today) 0) refl (later (terms .today) (h .day) 10) refl e
+  where
+    go : (x : Bool) → isReal (h .day) ≡ x → (y : Bool) → later (h .day) (terms .today) 0 ≡ y → (z : Bool) → later (terms .today) (h .day) 10 ≡ z → (not x || (y || z)) ≡ false → DayStands (terms .today) (h .day)
+    go true p false q false r e = (p, q, r)
+    go true p false q true r e = absurd (false≢true (sym e))
+    go true p true q z r e = absurd (false≢true (sym e))
+    go false p y q z r e = absurd (false≢true (sym e))
+
+use-days : (terms : Terms) (head : Read) (h : Heading) → head ≡ Reads h → rule11 terms h ≡ false → (us : List Use) → UseDays (terms .today) us → UseDays (terms .today) (usedAt head us)
+use-days terms head h e r us D = subst (λ (head : Read). UseDays (terms .today) (usedAt head us)) (sym e) (go (eqb (h .number .0) 0))
+  where
+    go : (x : Bool) → UseDays (terms .today) (cond x us (record { day = h .day; number = h .number .0 } ∷ us))
+    go true = D
+    go false = (day-stands terms h r, D)
+
+pub fine-days : (terms : Terms) (ss : List Slip) → Each (Fine terms) ss → UseDays (terms .today) (used ss)
+fine-days terms [] E = tt
+fine-days terms (s ∷ ss) E = use-days terms (s .head) (E .0 .heading) (E .0 .reads) (E .0 .day) (used ss) (fine-days terms ss (E .1))
+
+-- .. have eight digits
+dated : (today : ℕ) (us : List Use) → UseDays today us → Dated us
+dated today [] D = tt
+dated today (u ∷ us) D =
+    let y : 1 ≤ u .day / 10000 = real-parts (u .day) (D .0 .0) .year-from in
+    let z : u .day / 10000 ≤ 9999 = real-parts (u .day) (D .0 .0) .year-to in
+    (omega (arith, y), omega (arith, z), dated today us (D .1))
+
+pub accepted-dated : (code today : ℕ) (file : List ℕ) → length (faults (input code today) file) ≡ 0 → Dated (usesOf file)
+accepted-dated code today file e = dated today (usesOf file) (fine-days (input code today) (slipsFrom 1 (body file)) (accepted (input code today) file e))
+
+pub body-dated : (file : List ℕ) (k : ℕ) → k ≡ length (body file) → Dated (usesOf file) → Dated (used (slipsFrom 1 (take k file)))
+body-dated file k e D = subst (λ (s : List ℕ). Dated (used (slipsFrom 1 s))) (sym (ap (λ (n : ℕ). take n file) e ∙ body-take file)) D
+
+-- ---- the days of the ranges that stay
+module _ (old today : ℕ) (ro : isReal old ≡ true) (rt : isReal today ≡ true) (h : old ≤ today) where
+  number-le : dayNumber old ≤ dayNumber today
+  number-le = go (ltb old today) refl
+    where
+      go : (x : Bool) → ltb old today ≡ x → dayNumber old ≤ dayNumber today
+      go true p = let l = later-number old today (real-parts old ro) (real-parts today rt) (ltb-true old today p) in omega arith
+      go false p = let l = ltb-false old today p in let e : old ≡ today = omega arith in omega (arith, ap dayNumber e)
+
+  kept-days : (rs : List Range) → allStand old rs ≡ true → AllDays today (kept today rs)
+  kept-days [] e = tt
+  kept-days (r ∷ rs) e =
+      let a = both (rangeStands old r) (allStand old rs) e in
+      let b = both (isReal (r .day)) (not (later (r .day) old 0) && (not (later old (r .day) 10) && (leb 1 (r .first) && (leb (r .first) (r .last) && leb (r .last) 9999999)))) (a .0) in
+      let c = both (not (later (r .day) old 0)) (not (later old (r .day) 10) && (leb 1 (r .first) && (leb (r .first) (r .last) && leb (r .last) 9999999))) (b .1) in
+      let l = ltb-false (dayNumber old + 0) (dayNumber (r .day)) (not-true _ (c .0)) in
+      go (later today (r .day) 10) refl (b .0) (le-ltb (dayNumber today + 0) (dayNumber (r .day)) (omega (arith, l, number-le))) (kept-days rs (a .1))
+    where
+      go : (x : Bool) → later today (r .day) 10 ≡ x → isReal (r .day) ≡ true → later (r .day) today 0 ≡ false → AllDays today (kept today rs) → AllDays today (cond x (kept today rs) (r ∷ kept today rs))
+      go true p real notlater ih = ih
+      go false p real notlater ih = ((real, notlater, p), ih)
+
+-- ---- one number more
+join-days : (latest : ℕ) (r : Range) (qs : List Range) → DayStands latest (r .day) → AllDays latest qs → AllDays latest (join r qs)
+join-days latest r [] d D = (d, tt)
+join-days latest r (q ∷ qs) d D = go (eqb (r .day) (q .day) && eqb (r .last + 1) (q .first))
+  where
+    go : (x : Bool) → AllDays latest (cond x (record { day = r .day; first = r .first; last = q .last } ∷ qs) (r ∷ q ∷ qs))
+    go true = (d, D .1)
+    go false = (d, D)
+
+add-days : (latest : ℕ) (u : Use) (rs : List Range) → DayStands latest (u .day) → AllDays latest rs → AllDays latest (add u rs)
+add-days latest u [] d D = (d, tt)
+add-days latest u (r ∷ rs) d D =
+    go (ltb (u .day) (r .day) || (eqb (u .day) (r .day) && ltb (u .number) (r .first))) (eqb (u .day) (r .day) && eqb (r .last + 1) (u .number)) (eqb (u .day) (r .day) && leb (u .number) (r .last)) (add-days latest u rs d (D .1))
+  where
+    go : (x y z : Bool) → AllDays latest (add u rs)
+        → AllDays latest (cond x (join (record { day = u .day; first = u .number; last = u .number }) (r ∷ rs)) (cond y (join (record { day = r .day; first = r .first; last = u .number }) rs) (cond z (r ∷ rs) (r ∷ add u rs))))
+    go true y z ih = join-days latest (record { day = u .day; first = u .number; last = u .number }) (r ∷ rs) d D
+    go false true z ih = join-days latest (record { day = r .day; first = r .first; last = u .number }) rs (D .0) (D .1)
+    go false false true ih = D
+    go false false false ih = (D .0, ih)
+
+all-days : (latest : ℕ) (us : List Use) (rs : List Range) → UseDays latest us → AllDays latest rs → AllDays latest (addAll us rs)
+all-days latest [] rs U D = D
+all-days latest (u ∷ us) rs U D = all-days latest us (add u rs) (U .1) (add-days latest u rs (U .0) D)
+
+all-stand : (latest : ℕ) (rs : List Range) → Sound rs → AllDays latest rs → allStand latest rs ≡ true
+all-stand latest [] S D = refl
+all-stand latest (r ∷ rs) S D =
+    let d = D .0 in
+    pair (rangeStands latest r) (allStand latest rs)
+    (pair (isReal (r .day)) _ (d .0) (pair (not (later (r .day) latest 0)) _ (ap not (d .1)) (pair (not (later latest (r .day) 10)) _ (ap not (d .2))
+    (pair (leb 1 (r .first)) _ (le-leb 1 (r .first) (S .0)) (pair (leb (r .first) (r .last)) (leb (r .last) 9999999) (le-leb (r .first) (r .last) (S .1)) (le-leb (r .last) 9999999 (S .2)))))))
+    (all-stand latest rs (S .3) (D .1))
+
+-- ---- the register with a file entered is well formed
+module _ (g : Register) (w : wellFormed g ≡ true) (us : List Use) (F : Fits us) (today : ℕ) (U : UseDays today us) (rt : isReal today ≡ true) (h : g .latest ≤ today) where
+  f : Formed g
+  f = formed g w
+
+  S₀ : Sound (g .ranges)
+  S₀ = stand-sound (g .latest) (g .ranges) (f .stand)
+
+  S : Sound (kept today (g .ranges))
+  S = kept-sound today (g .ranges) S₀
+
+  O : inOrder (kept today (g .ranges)) ≡ true
+  O = strung-order 0 (kept today (g .ranges)) S (kept-strung 0 today (g .ranges) (order-strung (g .ranges) S₀ (f .order)))
+
+  D : AllDays today (kept today (g .ranges))
+  D = go (either (isReal (g .latest)) (eqb (g .latest) 0 && eqb (length (g .ranges)) 0) (f .latest))
+    where
+      none : (rs : List Range) → length rs ≡ 0 → AllDays today (kept today rs)
+      none [] e = tt
+      none (r ∷ rs) e = absurd (omega arith)
+
+      go : (isReal (g .latest) ≡ true) ⊎ ((eqb (g .latest) 0 && eqb (length (g .ranges)) 0) ≡ true) → AllDays today (kept today (g .ranges))
+      go (inl p) = kept-days (g .latest) today p rt h (g .ranges) (f .stand)
+      go (inr p) = none (g .ranges) (eqb-true (length (g .ranges)) 0 (both (eqb (g .latest) 0) (eqb (length (g .ranges)) 0) p .1))
+
+  entered-formed : wellFormed (entered g today us) ≡ true
+  entered-formed =
+      pair (leb 1 (g .code) && leb (g .code) 9999) _ (pair (leb 1 (g .code)) (leb (g .code) 9999) (le-leb 1 (g .code) (f .code-from)) (le-leb (g .code) 9999 (f .code-to)))
+      (pair (latestStands today (addAll us (kept today (g .ranges)))) _ (left (isReal today) _ rt)
+      (pair (allStand today (addAll us (kept today (g .ranges)))) (inOrder (addAll us (kept today (g .ranges))))
+      (all-stand today (addAll us (kept today (g .ranges))) (all-sound us (kept today (g .ranges)) F S) (all-days today us (kept today (g .ranges)) U D))
+      (all-ordered us (kept today (g .ranges)) F S O)))
+
+-- what entering writes is a register
+pub entered-stands : (register file : List ℕ) (code day room : ℕ) → first (enterRefusals register file code day room) ≡ 0 → isRegister (registerBytes (entered (registerOf register) day (usesOf file))) ≡ true
+entered-stands register file code day room e =
+    let N = none-applies (enterRefusals register file code day room) tt e in
+    let a : isRegister register ≡ true = not-false (isRegister register) (N .1 .1 .1 .1 .1 .1 .1 .0) in
+    let r : isAccountingDay day ≡ true = not-false (isAccountingDay day) (N .1 .0) in
+    let l : registerOf register .latest ≤ day = ltb-false day (registerOf register .latest) (N .1 .1 .1 .1 .1 .1 .1 .1 .1 .0) in
+    let z : length (faults (input code day) file) ≡ 0 = eqb-true (length (faults (input code day) file)) 0 (not-false _ (N .1 .1 .1 .1 .1 .1 .1 .1 .1 .1 .0)) in
+    let k : length (entered (registerOf register) day (usesOf file) .ranges) ≤ 64 = ltb-false 64 (length (entered (registerOf register) day (usesOf file) .ranges)) (N .1 .1 .1 .1 .1 .1 .1 .1 .1 .1 .1 .1 .0) in
+    stands-again (entered (registerOf register) day (usesOf file)) k
+    (entered-formed (registerOf register) (is-formed register a) (usesOf file) (uses-fit 1 (body file)) day (fine-days (input code day) (slipsFrom 1 (body file)) (accepted (input code day) file z)) (real-day day r) l)
+  where
+    real-day : (day : ℕ) → isAccountingDay day ≡ true → isReal day ≡ true
+    real-day day r = both (isReal day) (leb 20000101 day && leb day 20991231) r .0
+
+-- .. and so is a new one
+pub blank-stands : (code : ℕ) → isCode code ≡ true → isRegister (registerBytes (newRegister code)) ≡ true
+blank-stands code e = stands-again (newRegister code) (omega arith) (pair (leb 1 code && leb code 9999) ((isReal 0 || true) && true) e (pair (isReal 0 || true) true (right (isReal 0) true refl) refl))

@@ -1,0 +1,107 @@
+// The numbers that a file uses and the ranges that a register keeps, as keys: a day and a number in one.
+use headings::Read;
+use register::bytes;
+use register::reading;
+ghost use mathlib.Core.Path.{_≡_};
+ghost use mathlib.Core.Bool.{true};
+ghost use Prim.Native.Nat.{_+_, _*_, _≤_};
+ghost use lib.ListN.{length, drop};
+ghost use Rattle.item_reader.specs.Slips.{slipsFrom};
+ghost use Rattle.register.specs.Register.{rangesIn};
+ghost use Rattle.register.specs.Entering.{used, kept};
+ghost use Rattle.register.specs.Spans.{key, spansOf};
+ghost use Rattle.sorting.specs.Sorting.{Rises, Within, Ordered};
+ghost use Rattle.entering.specs.Keys.{keyAt, Gathered, Kept};
+
+fn key_of(day: u32, number: u32) -> u64
+    ensures { λ r. ⌜ r ≡ key day number ⌝ }
+{
+    (day as u64) * 10000000 + (number as u64)
+}
+
+// The key of a heading, 0 where it uses no number.
+fn key_at(head: Read) -> u64
+    ensures { λ r. ⌜ r ≡ keyAt head ⌝ }
+{
+    match head {
+        Read::Reads(h) => {
+            if h.number.0 == 0 {
+                return 0;
+            }
+            key_of(h.day, h.number.0)
+        }
+        Read::Unreadable => 0,
+    }
+}
+
+// The keys of a file's items, in the order of the file. A heading has 54 bytes, so that they have room.
+pub fn gather(s: &[u8], keys: &mut [u64]) -> usize
+    requires { ⌜ length (now s) ≤ 54 * length (now keys) ⌝ }
+    ensures { λ r. ⌜ Gathered (length (now (s .entry))) (used (slipsFrom 1 (now (s .entry)))) r (now (keys .exit)) ⌝ }
+{
+    let mut n = 0;
+    let b = item_reader::below_from(s, 0);
+    let mut at = b.next;
+    while at < s.len() {
+        let x = item_reader::slip_at(s, at);
+        let slip = x.slip;
+        at = x.next;
+        let head = slip.head;
+        let key = key_at(head);
+        if key != 0 {
+            keys[n] = key;
+            n += 1;
+        }
+    }
+    n
+}
+
+// No key is below the one before it.
+fn ascends(keys: &[u64]) -> bool
+    ensures { λ r. ⌜ (r ≡ true → Rises 0 (now (keys .entry))) ⌝ }
+{
+    let mut last = 0;
+    let mut i = 0;
+    while i < keys.len() {
+        if keys[i] < last {
+            return false;
+        }
+        last = keys[i];
+        i += 1;
+    }
+    true
+}
+
+// The usual file has its numbers in order: there it is one walk.
+pub fn put_in_order(keys: &mut [u64])
+    requires { ⌜ Within 0 1000000000000000 (now keys) ⌝ }
+    ensures { λ _. ⌜ Ordered 0 (now (keys .entry)) (now (keys .exit)) ⌝ }
+{
+    if ascends(keys) {
+        return;
+    }
+    sorting::sort(keys, 0, 1000000000000000);
+}
+
+// The first and last keys of the ranges that stay for an accounting day.
+pub fn keep(register: &[u8], day: u32, n: usize, starts: &mut [u64], ends: &mut [u64]) -> usize
+    requires { ⌜ (13 + 12 * n ≤ length (now register)) × (n ≤ length (now starts)) × (n ≤ length (now ends)) ⌝ }
+    ensures { λ r. ⌜ Kept (spansOf (kept day (rangesIn n (drop 13 (now (register .entry)))))) r (now (starts .exit)) (now (ends .exit)) ⌝ }
+{
+    let mut k = 0;
+    let mut at = 13;
+    let mut left = n;
+    while 0 < left {
+        let then = bytes::read(register, at, 4);
+        let from = bytes::read(register, at + 4, 4);
+        let to = bytes::read(register, at + 8, 4);
+        at += 12;
+        left -= 1;
+        if !reading::later(day, then, 10) {
+            starts[k] = key_of(then, from);
+            ends[k] = key_of(then, to);
+            k += 1;
+        }
+    }
+    k
+}

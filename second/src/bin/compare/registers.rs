@@ -1,0 +1,254 @@
+//! Groups about the register of numbers used: new ones, and entering.
+
+use second::register::{HEAD, RANGE, RANGES, Range, Register};
+use second::samples::calendar::{TRICKY, next, shift};
+use second::samples::dice::Dice;
+use second::samples::draft::Draft;
+use second::samples::mutations::ALL as MUTATIONS;
+use second::samples::{Job, Sample, large};
+
+use crate::groups::Group;
+use crate::judge::Judge;
+use crate::refusals::{CODES, DAYS, FILES};
+
+const CODE: u32 = 300;
+const DAY: u32 = 20240304;
+
+/// Room for any register.
+const ROOM: usize = HEAD + RANGE * RANGES;
+
+/// The random groups take their share of the files of a round.
+pub fn all(files: u64) -> Vec<Group> {
+    let registers = edges();
+    let bytes = full().write().len();
+    vec![
+        Group::listed("new registers", CODES.len() as u64, |judge, _, case| {
+            (0..=HEAD + 3).for_each(|room| judge.blank(CODES[case as usize], room));
+        }),
+        Group::listed("registers at their edges", registers.len() as u64, move |judge, _, case| {
+            judge.enter(&registers[case as usize], plain().job(), ROOM);
+        }),
+        Group::listed("registers, each byte changed", bytes as u64, each_byte),
+        Group::listed("registers of each length", bytes as u64 + 14, each_length),
+        Group::listed("registers, two ranges", 12 * 12, two_ranges),
+        Group::listed("registers, refusals in their order", orders(), order),
+        Group::listed("registers, files about 10,000,000 bytes", 2, lengths),
+        Group::listed("registers, targets of each length", ROOM as u64 + 5, targets),
+        Group::listed("registers, days about the tenth", TRICKY.len() as u64, tenth_day),
+        Group::random("registers, rows of files", files.div_ceil(60), row),
+        Group::random("registers, thirty days", files.div_ceil(600), thirty_days),
+        Group::random("registers, 70,000 blocks in any order", 2, many_blocks),
+    ]
+}
+
+fn register(latest: u32, ranges: &[(u32, u32, u32)]) -> Register {
+    let ranges = ranges.iter().map(|&(day, first, last)| Range { day, first, last }).collect();
+    Register { code: CODE, latest, ranges }
+}
+
+fn new() -> Register {
+    register(0, &[])
+}
+
+/// 64 ranges of one number each, over eleven days.
+fn full() -> Register {
+    let ranges: Vec<_> = (0..RANGES as u32)
+        .map(|place| (shift(DAY, place as i32 / 6 - 10), 3 * (place % 6) + 5, 3 * (place % 6) + 5))
+        .collect();
+    register(DAY, &ranges)
+}
+
+/// A file of one block.
+fn block(numbers: &[u32], closing: u32) -> Sample {
+    let mut draft = Draft::new(CODE, DAY);
+    draft.numbered(DAY, numbers, closing);
+    draft.sample()
+}
+
+fn plain() -> Sample {
+    block(&[1, 2], 3)
+}
+
+// Which bytes are a register.
+
+/// Both sides of every bound of its parts, one range more and fewer than it may
+/// have, and other marks and versions.
+fn edges() -> Vec<Vec<u8>> {
+    let mut all: Vec<Register> = Vec::new();
+    all.extend([0, 1, 299, 300, 301, 9_999, 10_000, 65_535].map(|code| Register { code, ..new() }));
+    let days = [0, 1, 101, 10_101, 20230229, 20240303, DAY, 20240305, 99_991_231, 99_991_232];
+    for latest in days.into_iter().chain([u32::MAX]) {
+        all.push(register(latest, &[]));
+        for day in (-12..=2).map(|days| shift(DAY, days)).chain(days) {
+            all.push(register(latest, &[(day, 5, 5)]));
+        }
+    }
+    let numbers = [0, 1, 2, 9_999_998, 9_999_999, 10_000_000, u32::MAX - 1, u32::MAX];
+    for first in numbers {
+        all.extend(numbers.map(|last| register(DAY, &[(DAY, first, last)])));
+    }
+    for count in RANGES as u32 - 1..=RANGES as u32 + 2 {
+        let ranges: Vec<_> = (0..count).map(|place| (DAY, 5 + 2 * place, 5 + 2 * place)).collect();
+        all.push(register(DAY, &ranges));
+    }
+    let mut bytes: Vec<Vec<u8>> = all.iter().map(Register::write).collect();
+    for start in
+        [&b"CRG\0\x02"[..], b"CRG\x01\0", b"CRG\x01\x01", b"CRG\0\0", b"crg\0\x01", b"GRC\0\x01"]
+    {
+        bytes.push([start, &new().write()[5..]].concat());
+    }
+    bytes.push(Vec::new());
+    bytes
+}
+
+fn each_byte(judge: &mut Judge, _: &mut Dice, place: u64) {
+    for byte in 0..=255 {
+        let mut bytes = full().write();
+        bytes[place as usize] = byte;
+        judge.enter(&bytes, plain().job(), ROOM);
+    }
+}
+
+fn each_length(judge: &mut Judge, _: &mut Dice, length: u64) {
+    let mut bytes = full().write();
+    bytes.resize(length as usize, 0);
+    judge.enter(&bytes, plain().job(), ROOM);
+    // The count changed along with it, where it can be.
+    if bytes.len() >= HEAD {
+        bytes[12] = ((bytes.len() - HEAD) / RANGE) as u8;
+        judge.enter(&bytes, plain().job(), ROOM);
+    }
+}
+
+/// The second about the end of the first, on the same day and on others.
+fn two_ranges(judge: &mut Judge, _: &mut Dice, case: u64) {
+    let (first, last) = (1 + case as u32 % 12, 1 + case as u32 / 12);
+    for days in -1..=1 {
+        let ranges = [(shift(DAY, -3), 5, 7), (shift(DAY, days - 3), first, last)];
+        judge.enter(&register(DAY, &ranges).write(), plain().job(), ROOM);
+    }
+    judge.enter(&register(DAY, &[(DAY, first, last)]).write(), block(&[6, 7], 8).job(), ROOM);
+}
+
+// Refusals.
+
+fn orders() -> u64 {
+    (CODES.len() * DAYS.len() * FILES.len()) as u64
+}
+
+/// Codes, days and files as checking is compared on, for registers that are
+/// right and wrong.
+fn order(judge: &mut Judge, _: &mut Dice, case: u64) {
+    let case = case as usize;
+    let code = CODES[case % CODES.len()];
+    let day = DAYS[case / CODES.len() % DAYS.len()];
+    let file = FILES[case / CODES.len() / DAYS.len()];
+    let registers =
+        [new(), register(DAY, &[]), register(99_991_231, &[]), Register { code: 1, ..new() }];
+    for bytes in registers.iter().map(Register::write).chain([b"CRG".to_vec()]) {
+        for room in [0, ROOM] {
+            judge.enter(&bytes, Job { code, day, file }, room);
+        }
+    }
+}
+
+fn lengths(judge: &mut Judge, _: &mut Dice, case: u64) {
+    let mut sample = plain();
+    sample.file.resize(10_000_000 + case as usize, b'x');
+    for bytes in [new().write(), b"CRG".to_vec()] {
+        judge.enter(&bytes, sample.job(), ROOM);
+    }
+}
+
+fn targets(judge: &mut Judge, _: &mut Dice, room: u64) {
+    let mut some = full();
+    some.ranges.truncate(3);
+    for (register, file) in [(new(), plain()), (some, plain()), (full(), block(&[6], 0))] {
+        judge.enter(&register.write(), file.job(), room as usize);
+    }
+}
+
+/// A register whose ranges are zero to twelve days old when a file comes.
+fn tenth_day(judge: &mut Judge, _: &mut Dice, case: u64) {
+    let latest = TRICKY[case as usize];
+    for age in 0..=10 {
+        let bytes = register(latest, &[(shift(latest, -age), 1, 9)]).write();
+        for later in 0..=12 {
+            let day = shift(latest, later);
+            let mut draft = Draft::new(CODE, day);
+            draft.numbered(day, &[10, 11], 0);
+            draft.numbered(shift(day, -10), &[7, 8], 9);
+            judge.enter(&bytes, draft.sample().job(), ROOM);
+        }
+    }
+}
+
+// Rows of files.
+
+/// Files of one day on one register, until it is full or they are through.
+fn row(judge: &mut Judge, dice: &mut Dice, _: u64) {
+    let mut bytes = new().write();
+    for _ in 0..dice.range(1, 12) {
+        let sample = file_of_row(dice, DAY);
+        bytes = judge.enter(&bytes, sample.job(), room(dice, &bytes)).unwrap_or(bytes);
+    }
+}
+
+/// A participant's register over a month, with days on which nothing comes.
+fn thirty_days(judge: &mut Judge, dice: &mut Dice, _: u64) {
+    let mut bytes = new().write();
+    let mut day = dice.pick(&TRICKY[..8]);
+    for _ in 0..30 {
+        for _ in 0..dice.below(4) {
+            let sample = file_of_row(dice, day);
+            bytes = judge.enter(&bytes, sample.job(), room(dice, &bytes)).unwrap_or(bytes);
+        }
+        day = next(day);
+        if dice.once_in(12) {
+            day = shift(day, dice.below(14) as i32);
+        }
+    }
+}
+
+/// Mostly enough; now and then about what the register takes now.
+fn room(dice: &mut Dice, bytes: &[u8]) -> usize {
+    if dice.once_in(8) { bytes.len() + dice.place(30) } else { ROOM }
+}
+
+/// Blocks of a few numbers among not many, in any order and on any of eleven
+/// days, some closed with a number; now and then a fault or another job.
+fn file_of_row(dice: &mut Dice, day: u32) -> Sample {
+    let mut draft = Draft::new(CODE, day);
+    for _ in 0..dice.range(1, 5) {
+        let day = shift(day, -(dice.pick(&[0, 0, 0, 0, 1, 2, 9, 10]) as i32));
+        let first = dice.range(1, 120) as u32;
+        let last = first + dice.below(6) as u32;
+        let numbers: Vec<u32> = (first..=last).collect();
+        let closing = if dice.once_in(3) { last + 1 } else { 0 };
+        draft.numbered(day, &numbers, closing);
+    }
+    if dice.once_in(24) {
+        let mutation = &MUTATIONS[dice.place(MUTATIONS.len())];
+        (mutation.apply)(&mut draft, dice);
+    }
+    let mut sample = draft.sample();
+    match dice.below(80) {
+        0 => sample.code = 301,
+        1 => sample.day = shift(sample.day, -1),
+        _ => {}
+    }
+    sample
+}
+
+/// As many blocks as a file can have: ascending, descending, odd before even or
+/// shuffled. They close up to one range, or to a few, or to too many.
+fn many_blocks(judge: &mut Judge, dice: &mut Dice, case: u64) {
+    let step = if case == 0 { 1 } else { dice.range(1, 2) as u32 };
+    for order in 0..4 {
+        let sample = large::blocks_of_one(dice, large::MOST, order, step);
+        let twice = dice.range(1, 60_000) as u32;
+        for bytes in [new().write(), register(DAY, &[(DAY, twice, twice)]).write()] {
+            judge.enter(&bytes, sample.job(), ROOM);
+        }
+    }
+}
