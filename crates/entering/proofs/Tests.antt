@@ -18,7 +18,7 @@ use Rattle.item_reader.specs.Slips.{slipsFrom}
 use Rattle.listing.specs.declared.checking.Checked.{Checked}
 use Rattle.listing.specs.declared.checking.Checked.the-variants.{Total, Refused}
 use Rattle.listing.specs.declared.checking.Unchecked.{Unchecked}
-use Rattle.listing.specs.declared.checking.Unchecked.the-variants.{BadCode, BadDay, TooLong, UnequalRooms, NoMark, StartsWithMark}
+use Rattle.listing.specs.declared.checking.Unchecked.the-variants.{BadCode, BadDay, TooLong, UnequalRooms, NoMark, Leftovers, StartsWithMark}
 use Rattle.listing.specs.Checking.{checkRefusals, uncheckedNumber, checkedNumber, checkedOr, Totals}
 use Rattle.register.specs.Register.{isVersion, mostOf, countIn, sizeOf, headBytes, registerBytes, registerOf, hasLayout, wellFormed, isRegister}
 use Rattle.register.specs.Bytes.{bigAt}
@@ -64,6 +64,7 @@ some BadDay = omega arith
 some TooLong = omega arith
 some UnequalRooms = omega arith
 some NoMark = omega arith
+some Leftovers = omega arith
 some StartsWithMark = omega arith
 
 module _ (register file : List ℕ) (code day : ℕ) (before : List ℕ) where

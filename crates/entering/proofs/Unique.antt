@@ -4,7 +4,7 @@ use mathlib.Core.Path.{_≡_, refl, sym, ap, _∙_}
 use mathlib.Core.Bool.{cond}
 use mathlib.Core.List.{List}
 use lib.Dec.{eqb}
-use Rattle.listing.specs.declared.checking.Unchecked.the-variants.{BadCode, BadDay, TooLong, UnequalRooms, NoMark, StartsWithMark}
+use Rattle.listing.specs.declared.checking.Unchecked.the-variants.{BadCode, BadDay, TooLong, UnequalRooms, NoMark, Leftovers, StartsWithMark}
 use Rattle.listing.proofs.Unique.{refusalOf}
 use Rattle.entering.specs.declared.entering.Entered.{Entered}
 use Rattle.entering.specs.declared.entering.Entered.the-variants.{Written, Refused, NotRegister, OtherCode, DayBefore, HasFaults, UsedAlready, TooMany, TooShort}
@@ -25,6 +25,7 @@ entered-told (Refused BadDay) = refl
 entered-told (Refused TooLong) = refl
 entered-told (Refused UnequalRooms) = refl
 entered-told (Refused NoMark) = refl
+entered-told (Refused Leftovers) = refl
 entered-told (Refused StartsWithMark) = refl
 entered-told NotRegister = refl
 entered-told OtherCode = refl
