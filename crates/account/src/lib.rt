@@ -20,7 +20,6 @@ ghost use mathlib.Core.Path.{_≡_};
 ghost use mathlib.Core.Bool.{cond};
 ghost use mathlib.Core.List.{[]};
 ghost use Prim.Native.Nat.{_<_, _^_};
-ghost use Rattle.rules.specs.declared.FirstKc.{FirstKc};
 ghost use Rattle.rules.specs.Blocks.{closesAt};
 ghost use Rattle.account.specs.Model.{amountBlock, kcBlock, headingBlock, touchedBlock, emptyBlock, readBlock, readMarks, closeModel};
 ghost use Rattle.account.specs.Summary.{summary};

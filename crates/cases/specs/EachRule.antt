@@ -3,7 +3,7 @@
 use Prim.Native.Nat.{ℕ}
 use Prim.Native.String.{String, _++_ as _++ˢ_}
 use mathlib.Core.List.{List, [], _∷_, _++_}
-use Rattle.rules.specs.Faults.{Fault, fault}
+use Rattle.rules.specs.Faults.{fault}
 use Rattle.cases.specs.Cases.{Case, faulty}
 
 abbrev only : List String → (line rule : ℕ) → Case

@@ -17,7 +17,7 @@ use Rattle.rules.specs.declared.FirstIn.{FirstIn}
 use Rattle.rules.specs.declared.FirstSum.{FirstSum}
 use Rattle.rules.specs.declared.Sum.{Sum}
 use Rattle.rules.specs.HeadingRules.{noKc}
-use Rattle.rules.specs.Rows.{FieldRow, field}
+use Rattle.rules.specs.Rows.{FieldRow}
 use Rattle.rules.specs.Tree.{Owned}
 use Rattle.rules.specs.Said.{says, stands, orElse, ifThere, is, isGroup, kcBy, kcOf, spanBy, spanOf, statedBy, statedOf, nineSums}
 use Rattle.items.specs.declared.Claims.{Claims}

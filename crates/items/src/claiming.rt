@@ -8,8 +8,6 @@ use rules::FirstSum;
 use rules::Sum;
 use rules::Sums;
 ghost use mathlib.Core.Path.{_≡_};
-ghost use Prim.Native.Nat.{_<_};
-ghost use Rattle.rules.specs.declared.FirstKc.{FirstKc};
 ghost use Rattle.rules.specs.Said.{kcBy, spanBy, statedBy};
 ghost use Rattle.items.specs.Claims.{noClaims, kcKept, spanKept, statedKept, groupClaims, claimsWith};
 

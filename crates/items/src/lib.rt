@@ -6,7 +6,6 @@
 use rules::FirstIn;
 use rules::FirstKc;
 use rules::Sums;
-ghost use Rattle.rules.specs.declared.FirstKc.{FirstKc};
 
 pub mod claiming;
 

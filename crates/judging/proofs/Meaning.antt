@@ -24,7 +24,7 @@ use Rattle.rules.specs.Rows.{Row, FieldRow, LowRow, heading, field, low}
 use Rattle.rules.specs.Tree.{Item, Owned}
 use Rattle.rules.specs.LineRules.{nowhere, prelude}
 use Rattle.rules.specs.LineRules.{inside as within}
-use Rattle.rules.specs.Said.{stands, continued, headOf, is}
+use Rattle.rules.specs.Said.{stands, continued, headOf}
 use Rattle.rules.specs.Spots.{lowSpot}
 use Rattle.ledger.specs.Marks.{insertAll, marked}
 use Rattle.ledger.proofs.Insertion.{insertAll-append}
@@ -79,13 +79,6 @@ Stood start a = Unit {0}
 Stood (early ups x ls) a = Unit {0}
 Stood (atHead b h ls) a = (k : ℕ) → getD a k 0 ≤ h .no
 Stood (atField b h hl ups x ls) a = (k : ℕ) → ltb (h .no) (getD a k 0) ≡ stands k (closed x ls ∷ ups)
-
--- the fields of the item above the next one
-abbrev pub upsThen : Pieces → List (Owned FieldRow)
-upsThen start = []
-upsThen (early ups x ls) = []
-upsThen (atHead b h ls) = []
-upsThen (atField b h hl ups x ls) = closed x ls ∷ ups
 
 headed-is : (c : Pieces) → Positive c → eqb (sinceOf c) 0 ≡ not (headed c)
 headed-is start P = refl

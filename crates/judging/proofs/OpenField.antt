@@ -340,7 +340,7 @@ module _ (terms : Terms) where
       go false e = λ i. openAt (x .row .no) (marks-same terms (headOf (closed h hl)) ups x l ls e i) (codeOf (x .ident)) (counted-same l ls e i)
 
   -- a field above every heading, and a field of an item
-  pub early-open : (ups : List (Owned FieldRow)) (y : FieldRow) → openOf (early ups y []) ≡ openAt (y .row .no) (lineMarks (y .row) + 8) 0 0
+  pub early-open : (ups : List (Owned FieldRow)) (y : FieldRow) → openOf (early ups y []) ≡ openAt (y .row .no) (lineMarks (y .row) + mark 3 true) 0 0
   unfolding looseMarks continuations
   early-open ups y = refl
 

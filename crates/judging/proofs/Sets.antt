@@ -13,7 +13,7 @@ use Rattle.rules.specs.Tests.{_if_}
 use Rattle.rules.specs.Terms.{Terms}
 use Rattle.rules.specs.Rows.{Row, FieldRow, LowRow, rowsFrom}
 use Rattle.rules.specs.Tree.{Owned, Item, tree}
-use Rattle.rules.specs.LineRules.{Place, rule1, rule2, rule3, rule4}
+use Rattle.rules.specs.LineRules.{Place, prelude, rule1, rule2, rule3, rule4}
 use Rattle.rules.specs.FieldRules.{rule5, rule6, rule7, rule8At, rule9At}
 use Rattle.rules.specs.Spots.{lowTests, fieldTests, looseTests, ownTests, blockTests}
 use Rattle.rules.specs.Said.{headOf, isUnreadable, digest}
@@ -46,7 +46,7 @@ unfolding fieldTests fieldMarks lineMarks
 field-set terms h above g = omega arith
 
 unfoldable pub looseMarks : Owned FieldRow → ℕ
-looseMarks g = lineMarks (g .owner .row) + 8
+looseMarks g = lineMarks (g .owner .row) + mark 3 (rule3 prelude)
 
 pub loose-set : (g : Owned FieldRow) → setOf (looseTests g) ≡ looseMarks g
 unfolding looseTests looseMarks lineMarks

@@ -1,7 +1,7 @@
 -- Model of the code, not part of the statement: the open field as four numbers, its line, its marks as they stand, the number of its class
 -- and its continuations so far; and what the item's fields claim as they close.
-use Prim.Native.Nat.{ℕ, _+_, _%_}
-use mathlib.Core.Bool.{Bool, false, cond, not, _&&_, _||_}
+use Prim.Native.Nat.{ℕ, _+_, _%_, _^_}
+use mathlib.Core.Bool.{Bool, true, false, cond, not, _&&_, _||_}
 use lib.Dec.{eqb, ltb, leb}
 use Rattle.laws.specs.Tests.{mark}
 use Rattle.headings.specs.declared.Heading.{Heading}
@@ -54,7 +54,7 @@ noOpen = record { no = 0; marks = 0; class = 0; tail = 0 }
 
 -- a field that its tail breaks: 6, and neither 7 nor 8 nor 9
 abbrev pub brokenBy : Bool → ℕ → ℕ
-brokenBy breaks m = cond breaks (m % 64 + 64) m
+brokenBy breaks m = cond breaks (m % 2 ^ 6 + 2 ^ 6) m
 
 abbrev pub moreOpen : Open → ℕ → Open
 moreOpen o n =
@@ -83,7 +83,7 @@ saidMarks j first h said = mark 6 (isBroken said) + mark 7 (failsCheck said) + k
 
 -- it reads: by bit 6 of its marks
 abbrev pub fitsBy : ℕ → Bool
-fitsBy m = ltb (m % 128) 64
+fitsBy m = ltb (m % 2 ^ 7) (2 ^ 6)
 
 -- ---- what is claimed
 -- the heading of the open item
@@ -122,7 +122,7 @@ openOwn j kc r n own again ident said =
 
 -- a field above every heading
 abbrev pub openLoose : ℕ → ℕ → Open
-openLoose n own = record { no = n; marks = own + 8; class = 0; tail = 0 }
+openLoose n own = record { no = n; marks = own + mark 3 true; class = 0; tail = 0 }
 
 -- a continuation or a line of no kind: since is the heading's line, no the field's
 abbrev pub lowMarksAt : ℕ → ℕ → ℕ → Bool → ℕ

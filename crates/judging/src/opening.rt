@@ -23,7 +23,6 @@ ghost use Prim.Native.Nat.{_≤_, _<_, _^_};
 ghost use lib.Dec.{eqb};
 ghost use Rattle.fields.specs.Classes.{classOf};
 ghost use Rattle.fields.specs.Readings.{ifFits};
-ghost use Rattle.rules.specs.declared.FirstKc.{FirstKc};
 ghost use Rattle.rules.specs.Said.{isUnreadable};
 ghost use Rattle.items.specs.Claims.{claimsWith};
 ghost use Rattle.judging.specs.Opening.{codeBy, codeOf, breaksTail, brokenBy, noOpen, moreOpen, lowOpen, readAs, saidMarks, fitsBy, ownClaims, closeClaims, headingIn, noPend, pendOf, openOwn, openLoose, lowMarksAt};

@@ -13,7 +13,6 @@ use Rattle.rules.specs.Tree.{tree}
 use Rattle.rules.specs.Tests.{_if_, Spot}
 use Rattle.rules.specs.Faults.{Fault, fault, faultsIn, faults}
 use Rattle.rules.specs.Demand.{countFrom, spotsOf, FaultIn, sizes, Ascending}
-use Rattle.rules.specs.Spots.{spot}
 use Rattle.rules.proofs.Rising.{Rising}
 use Rattle.rules.proofs.Orderly.{Orderly, spots-orderly}
 use Rattle.rules.proofs.Numbers.{every-number, lines-rise}

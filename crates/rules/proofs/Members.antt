@@ -10,7 +10,6 @@ use lib.Dec.{T}
 use Rattle.rules.specs.Tests.{Test, _if_, brokenOf, Spot}
 use Rattle.rules.specs.Faults.{Fault, fault, faultsAt, faultsOf}
 use Rattle.rules.specs.Demand.{BrokenAt, FaultAmong, sizes, Before, BeforeAll, Ascending}
-use Rattle.rules.specs.Spots.{spot}
 use Rattle.rules.proofs.Rising.{Rising, rising-le, only-one}
 use Rattle.rules.proofs.Orderly.{ascending, tests-rise, Orderly, orderly-at}
 

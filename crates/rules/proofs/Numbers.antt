@@ -14,7 +14,7 @@ use Rattle.rules.specs.Rows.{Row, FieldRow, LowRow, Sorted, heading, fie
 use Rattle.rules.specs.Tree.{Owned, Item, File, _▹_, itemOf, tree}
 use Rattle.rules.specs.Tests.{Spot}
 use Rattle.rules.specs.LineRules.{Place, nowhere, prelude, inside}
-use Rattle.rules.specs.Spots.{lowSpot, lows, placeIn, fieldSpot, fields, inner, items, spots, spot}
+use Rattle.rules.specs.Spots.{lowSpot, lows, placeIn, fieldSpot, fields, inner, items, spots}
 use Rattle.rules.specs.Demand.{countFrom}
 use Rattle.rules.proofs.Rising.{Rising}
 

@@ -9,7 +9,7 @@ use lib.ListN.{length}
 use Rattle.lines.specs.Lines.{body}
 use Rattle.rules.specs.Terms.{Terms}
 use Rattle.rules.specs.Tests.{_if_, brokenOf, Spot}
-use Rattle.rules.specs.Spots.{spotsIn, spot}
+use Rattle.rules.specs.Spots.{spotsIn}
 use Rattle.rules.specs.Faults.{Fault}
 
 -- a rule is broken at a spot: it is tested there, and the test says so

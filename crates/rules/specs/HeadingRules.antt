@@ -29,6 +29,6 @@ noKc NoKc = true
 noKc BrokenKc = false
 noKc (Pays a day) = false
 
--- 'For input types: 15: not a 51, and no KC line'
+-- '15: not a 51, and no KC line', 'for input types'
 abbrev pub rule15 : Heading → FirstKc → Bool
 rule15 h kc = isPayment (h .kind) && noKc kc

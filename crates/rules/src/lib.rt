@@ -23,8 +23,6 @@
 use headings::Amount;
 use headings::ItemNo;
 use headings::Read;
-ghost use Rattle.rules.specs.declared.FirstKc.{FirstKc};
-ghost use Rattle.rules.specs.Terms.{Terms};
 
 // The first KC of an item: its amount and its day.
 pub enum FirstKc {
