@@ -1,4 +1,4 @@
-// The C face: numbers and bytes only. Each function answers 0, or the number of the refusal by document 01, and a refusal leaves
+// The C face: numbers and bytes only. Each function answers 0, or the number of the refusal by document 01 or 02, and a refusal leaves
 // everything behind the pointers as it was. The promises are those of the jobs below, said with numbers: `listing` for checking,
 // `outcomes` for deriving, `figures` for the account check, `sheet` for the turnovers, `entering` for the register.
 use entering::blanking;
@@ -80,6 +80,7 @@ pub extern "C" fn certis_sheet_open(codes: &[u32], turnovers: &mut [i64; 256]) -
     opening::number_of(opening::open(codes, turnovers))
 }
 
+// Posts a file on an open sheet; the list is the one that it was opened with.
 #[no_mangle]
 pub extern "C" fn certis_sheet_post(
     codes: &[u32],

@@ -4,7 +4,7 @@ use native.Mathlib.Omega.{arith}
 use mathlib.Core.Path.{_≡_, refl, sym, ap, _∙_}
 use mathlib.Core.Bool.{Bool, true, false, _&&_, true≢false}
 use mathlib.Core.Option.{none, some}
-use mathlib.Core.List.{List, [], _∷_, _++_, map, List·Memᴰ, List·Memᴰ·head, List·Memᴰ·tail, List·Memᴰ·not-nil, Memᴰ·append-left, Memᴰ·append-right}
+use mathlib.Core.List.{List, [], _∷_, map, List·Memᴰ, List·Memᴰ·head, List·Memᴰ·tail, List·Memᴰ·not-nil, Memᴰ·append-left, Memᴰ·append-right}
 use mathlib.Core.Logic.{_↔_, inl}
 use lib.Dec.{eqb}
 use lib.ListN.{length}
@@ -15,7 +15,6 @@ use Rattle.headings.specs.declared.Heading.{Heading}
 use Rattle.headings.specs.declared.Amount.{Amount}
 use Rattle.headings.specs.declared.Read.{Read}
 use Rattle.headings.specs.declared.Read.the-variants.{Reads, Unreadable}
-use Rattle.headings.specs.ItemTypes.{isPayment}
 use Rattle.headings.specs.HeadRules.{rule10, rule13, rule14}
 use Rattle.figures.specs.Layouts.{fits, part}
 use Rattle.fields.specs.Kinds.{place, named}
@@ -31,7 +30,7 @@ use Rattle.items.specs.Rows.{Row, FieldRow, rowsFrom}
 use Rattle.items.specs.Tree.{Group, Item, File, tree}
 use Rattle.items.specs.Fields.{nowhere, inside, continuations, says, rule6}
 use Rattle.items.specs.Headings.{headOf, rule6At, isUnreadable, firstSaid, orElse, ifThere, is, kcBy, kcOf, digest, ownTests}
-use Rattle.items.specs.Faults.{lows, fields, inner, items, fieldSpot, headSpot, faults}
+use Rattle.items.specs.Faults.{lows, fields, inner, items, headSpot, faults}
 use Rattle.items.proofs.Demand.{spotsOf}
 use Rattle.items.proofs.ByRule.{six-at-field, six-at-heading, at-readable}
 use Rattle.item_reader.specs.Slips.{kcAmong, slipOf, slipsFrom}
