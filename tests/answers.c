@@ -8,7 +8,7 @@
 
 int printf(const char *format, ...);
 
-enum { ROUNDS = 50000, SHEETS = 5000, ROOM = 32, HEADING = 54 };
+enum { ROUNDS = 50000, SHEETS = 5000, REGISTERS = 5000, ROOM = 32, HEADING = 54, ONE_RANGE = 25 };
 
 #define L(text) text "\r\n"
 
@@ -153,12 +153,33 @@ static void post_one(struct tally *tally)
     }
 }
 
+/* Enters in a register of one range, 4 to 9 of the same day. */
+static void enter_one(struct tally *tally)
+{
+    static const char REGISTER[] = "CRG\0\1\1\x2C\1\x34\xD7\xB0\0\1\1\x34\xD7\xB0\0\0\0\4\0\0\0\x09";
+    uint8_t reg[ONE_RANGE];
+    uint8_t file[FILE_LENGTH];
+    uint8_t target[2 * ONE_RANGE] = { 0 };
+    size_t written = 0;
+    vary(reg, REGISTER, ONE_RANGE);
+    vary(file, FILE_TEXT, FILE_LENGTH);
+    size_t room = sizeof target - below(16);
+    uint32_t refusal = certis_register_enter(reg, ONE_RANGE, file, FILE_LENGTH, 300, 20240304, target, room, &written);
+    tally->answered += refusal == 0;
+    fold(tally, refusal);
+    fold(tally, written);
+    for (size_t i = 0; i < sizeof target; i++) {
+        fold(tally, target[i]);
+    }
+}
+
 int main(void)
 {
     struct tally files = { 0 };
     struct tally headings = { 0 };
     struct tally accounts = { 0 };
     struct tally sheets = { 0 };
+    struct tally registers = { 0 };
     for (int round = 0; round < ROUNDS; round++) {
         check_one(&files);
         derive_one(&headings);
@@ -167,9 +188,13 @@ int main(void)
     for (int round = 0; round < SHEETS; round++) {
         post_one(&sheets);
     }
+    for (int round = 0; round < REGISTERS; round++) {
+        enter_one(&registers);
+    }
     show("files", files);
     show("headings", headings);
     show("accounts", accounts);
     show("sheets", sheets);
+    show("registers", registers);
     return 0;
 }

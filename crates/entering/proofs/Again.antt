@@ -3,11 +3,12 @@ use Prim.Native.Nat.{ℕ, _+_, _/_, _≤_}
 use native.Mathlib.Omega.{arith}
 use mathlib.Core.Path.{_≡_, refl, sym, ap, _∙_, subst}
 use mathlib.Core.Bool.{Bool, true, false, cond, not, _&&_, _||_, false≢true}
-use mathlib.Core.List.{List, [], _∷_}
+use mathlib.Core.List.{List, [], _∷_, _++_}
 use mathlib.Core.Logic.{_⊎_, inl, inr}
 use lib.Dec.{eqb, leb, ltb}
-use lib.ListN.{length, take}
-use borrow.Author.Tests.{eqb-true, ltb-true, ltb-false, le-leb, le-ltb, not-true, not-false}
+use lib.ListN.{length, take, drop}
+use lib.Seq.{take-at}
+use borrow.Author.Tests.{eqb-true, eq-eqb, ltb-true, ltb-false, le-leb, le-ltb, not-true, not-false}
 use Rattle.laws.specs.Refusals.{first}
 use Rattle.days.specs.Days.{isReal, later, dayNumber}
 use Rattle.days.proofs.Order.{real-parts, later-number}
@@ -24,13 +25,15 @@ use Rattle.item_reader.specs.Slips.{slipsFrom}
 use Rattle.item_reader.specs.Accepted.{Fine, Each}
 use Rattle.item_reader.proofs.Accepted.{accepted}
 use Rattle.listing.specs.Checking.{isCode, isAccountingDay}
-use Rattle.register.specs.Register.{Range, Register, registerBytes, registerOf, rangeStands, allStand, inOrder, latestStands, wellFormed, isRegister}
+use Rattle.register.specs.Register.{Range, Register, sizeOf, registerBytes, registerOf, rangeStands, allStand, inOrder, latestStands, wellFormed, isRegister}
 use Rattle.register.specs.Entering.{Use, usedAt, used, kept, join, add, addAll, entered}
 use Rattle.register.specs.Spans.{Fits, Sound}
 use Rattle.register.proofs.Sets.{both, either, left, right, pair, order-strung, strung-order, all-sound, all-ordered}
+use Rattle.register.proofs.RoundTrip.{length-register}
 use Rattle.register.proofs.Formed.{Formed, formed, stand-sound, stands-again}
+use Rattle.entering.specs.declared.entering.Entered.the-variants.{Written}
 use Rattle.entering.specs.Keys.{Dated}
-use Rattle.entering.specs.Jobs.{usesOf, enterRefusals, newRegister}
+use Rattle.entering.specs.Jobs.{usesOf, enterRefusals, Enters, newRegister}
 use Rattle.entering.proofs.Uses.{uses-fit, kept-strung, kept-sound}
 use Rattle.laws.proofs.Refusals.{none-applies}
 use Rattle.entering.proofs.Tests.{is-formed}
@@ -186,6 +189,17 @@ entered-stands register file code day room e =
     real-day : (day : ℕ) → isAccountingDay day ≡ true → isReal day ≡ true
     real-day day r = both (isReal day) (leb 20000101 day && leb day 20991231) r .0
 
--- .. and so is a new one
+-- so the bytes that an answer says were written can be entered in again
+pub enter-again : (register file : List ℕ) (code day : ℕ) (before : List ℕ) (n : ℕ) (after : List ℕ) → Enters register file code day before (Written n) after → isRegister (take n after) ≡ true
+enter-again register file code day before n after E =
+    let g : Register = entered (registerOf register) day (usesOf file) in
+    let e : first (enterRefusals register file code day (length before)) ≡ 0 = sym (E .number) in
+    let z = eq-eqb (first (enterRefusals register file code day (length before))) 0 e in
+    let s : n ≡ sizeOf (length (g .ranges)) = E .written 0 ∙ ap (λ (b : Bool). cond b (sizeOf (length (g .ranges))) 0) z in
+    let t : after ≡ registerBytes g ++ drop (sizeOf (length (g .ranges))) before =
+    E .target ∙ ap (λ (b : Bool). cond b (registerBytes g ++ drop (sizeOf (length (g .ranges))) before) before) z in
+    rw (t, take-at (registerBytes g) (drop (sizeOf (length (g .ranges))) before) n (length-register g ∙ sym s)) (entered-stands register file code day (length before) e)
+
+-- and so can a new one
 pub blank-stands : (code : ℕ) → isCode code ≡ true → isRegister (registerBytes (newRegister code)) ≡ true
 blank-stands code e = stands-again (newRegister code) (omega arith) (pair (leb 1 code && leb code 9999) ((isReal 0 || true) && true) e (pair (isReal 0 || true) true (right (isReal 0) true refl) refl))

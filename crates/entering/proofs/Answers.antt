@@ -20,7 +20,8 @@ use Rattle.entering.specs.declared.entering.Entered.{Entered}
 use Rattle.entering.specs.declared.entering.Entered.the-variants.{Written, UsedAlready, TooMany, TooShort}
 use Rattle.entering.specs.Keys.{Kept}
 use Rattle.entering.specs.Merging.{paired, weave, hits, closed, Merges}
-use Rattle.entering.specs.Jobs.{enteredNumber, writtenOr, targetAfter, sizeAfter, Answers, closedUp, keysRefusals, keysRegister, EntersKeys}
+use Rattle.entering.specs.Jobs.{enteredNumber, writtenOr, targetAfter, sizeAfter, Answers}
+use Rattle.entering.specs.Steps.{closedUp, keysRefusals, keysRegister, EntersKeys}
 
 -- ---- an answer
 chosen : {A : Type 0} (k : ℕ) (x x′ y : A) → (k ≡ 0 → x ≡ x′) → cond (eqb k 0) x y ≡ cond (eqb k 0) x′ y
@@ -74,13 +75,13 @@ paired-back [] = refl
 paired-back (s ∷ ss) = ap (λ (l : List Span). s ∷ l) (paired-back ss)
 
 -- what a merge says of the spans whose ends it was lent
-pub record Merged-of (ss : List Span) (keys : List ℕ) (m : Merged) (xs ys : List ℕ) : Type 0 where
+pub record MergedOf (ss : List Span) (keys : List ℕ) (m : Merged) (xs ys : List ℕ) : Type 0 where
   pub clash : m .clash ≡ hits 0 (weave ss keys)
   pub count : m .clash ≡ false → m .count ≡ length (closedUp ss keys)
   pub firsts : m .clash ≡ false → m .count ≤ length xs → take (m .count) xs ≡ froms (closedUp ss keys)
   pub lasts : m .clash ≡ false → m .count ≤ length ys → take (m .count) ys ≡ tos (closedUp ss keys)
 
-pub merged-of : {ss : List Span} {k : ℕ} {starts ends : List ℕ} → Kept ss k starts ends → {keys : List ℕ} {m : Merged} {xs ys : List ℕ} → Merges keys (take k starts) (take k ends) m xs ys → Merged-of ss keys m xs ys
+pub merged-of : {ss : List Span} {k : ℕ} {starts ends : List ℕ} → Kept ss k starts ends → {keys : List ℕ} {m : Merged} {xs ys : List ℕ} → Merges keys (take k starts) (take k ends) m xs ys → MergedOf ss keys m xs ys
 merged-of {ss} {k} {starts} {ends} K {keys} {m} {xs} {ys} M =
     let M′ : Merges keys (froms ss) (tos ss) m xs ys = rw (K .starts-at, K .ends-at) at M in
     let e = paired-back ss in
@@ -118,7 +119,7 @@ tos-drop : (ss : List Span) → drop 1 (tos ss) ≡ tos (drop 1 ss)
 tos-drop [] = refl
 tos-drop (s ∷ ss) = refl
 
-module _ {ss : List Span} {keys : List ℕ} (code day : ℕ) (before : List ℕ) {m : Merged} {xs ys : List ℕ} (M : Merged-of ss keys m xs ys) where
+module _ {ss : List Span} {keys : List ℕ} (code day : ℕ) (before : List ℕ) {m : Merged} {xs ys : List ℕ} (M : MergedOf ss keys m xs ys) where
   pub keys-clash : m .clash ≡ true → EntersKeys ss keys code day before UsedAlready before
   keys-clash c = let e : hits 0 (weave ss keys) ≡ true = sym (M .clash) ∙ c in refused UsedAlready (rw e) (omega arith) (λ old. refl)
 

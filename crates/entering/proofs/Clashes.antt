@@ -10,7 +10,7 @@ use borrow.Author.Tests.{leb-true, leb-false, eqb-true, eq-eqb}
 use Rattle.sorting.specs.Sorting.{count, Same, Rises}
 use Rattle.register.specs.Register.{Range}
 use Rattle.register.specs.Entering.{Use, holds, standsIn, clash}
-use Rattle.register.specs.Spans.{Span, Strung, keyOf, keysOf, spansOf, Fit, Fits, Sound}
+use Rattle.register.specs.Spans.{Strung, keyOf, keysOf, spansOf, Fit, Fits, Sound}
 use Rattle.register.proofs.Sets.{both, either, agree, left, right, pair, holds-has, has-holds}
 use Rattle.register.proofs.Spans.{weaken}
 use Rattle.entering.specs.Merging.{one, weave, hits}
@@ -71,9 +71,6 @@ module _ (rs : List Range) (S : Sound rs) (O : Strung 2 (spansOf rs)) where
       go (inr q) ih = again (either (standsIn u us) (clash rs us) q) ih
 
   module _ (us : List Use) (ks : List ℕ) (F : Fits us) (R : Rises 2 ks) (E : Same (keysOf us) ks) where
-    row : List Span
-    row = weave (spansOf rs) ks
-
     pub clash-is : hits 0 (weave (spansOf rs) ks) ≡ clash rs us
     clash-is = agree (hits 0 (weave (spansOf rs) ks)) (clash rs us) to from
       where

@@ -29,7 +29,8 @@ use Rattle.laws.specs.Ascii.{ascii}
 use Rattle.entering.specs.declared.blanking.Blanked.the-variants.{Done, BadCode as BadBlank, TooShort as TooShortBlank}
 use Rattle.entering.specs.declared.entering.Entered.{Entered}
 use Rattle.entering.specs.declared.entering.Entered.the-variants.{Refused as RefusedBy, NotRegister, OtherCode, DayBefore, HasFaults}
-use Rattle.entering.specs.Jobs.{usesOf, usesRefusals, enterRefusals, EntersUses, Enters, newRegister, Blanks}
+use Rattle.entering.specs.Jobs.{usesOf, usesRefusals, enterRefusals, Enters, newRegister, Blanks}
+use Rattle.entering.specs.Steps.{EntersUses}
 use Rattle.entering.proofs.Answers.{refused, answers-as}
 use Rattle.laws.proofs.Refusals.{none-applies, first-here, first-past}
 

@@ -1,5 +1,5 @@
 -- Entering a file, and a new register (document 02, A2): the refusals in their order, the answers, and what the target holds after.
-use Prim.Native.Nat.{ℕ, _-_}
+use Prim.Native.Nat.{ℕ}
 use mathlib.Core.Path.{_≡_}
 use mathlib.Core.Bool.{cond, not}
 use mathlib.Core.List.{List, [], _∷_, _++_}
@@ -13,12 +13,10 @@ use Rattle.item_reader.specs.Slips.{slipsFrom}
 use Rattle.listing.specs.Checking.{isCode, checkRefusals, uncheckedNumber}
 use Rattle.register.specs.Register.{Register, version, mostOf, sizeOf, registerBytes, registerOf, isRegister}
 use Rattle.register.specs.Entering.{Use, used, kept, clash, entered}
-use Rattle.register.specs.Spans.{Span, froms, tos, rangesOf}
 use Rattle.entering.specs.declared.entering.Entered.{Entered}
 use Rattle.entering.specs.declared.entering.Entered.the-variants.{Written, Refused, NotRegister, OtherCode, DayBefore, HasFaults, UsedAlready, TooMany, TooShort}
 use Rattle.entering.specs.declared.blanking.Blanked.{Blanked}
 use Rattle.entering.specs.declared.blanking.Blanked.the-variants.{Done, BadCode, TooShort as TooShortBlank}
-use Rattle.entering.specs.Merging.{weave, hits, closed}
 
 -- the numbers that a file uses
 abbrev pub usesOf : List ℕ → List Use
@@ -78,25 +76,6 @@ pub record Answers (refusals : List Refusal) (g : Register) (before : List ℕ) 
   pub number : enteredNumber r ≡ first refusals
   pub written : (old : ℕ) → writtenOr r old ≡ sizeAfter (first refusals) g old
   pub target : after ≡ targetAfter (first refusals) g before
-
--- of keys in order and the spans that stay: the first of the spans closed up is that of 0
-module _ (ss : List Span) (keys : List ℕ) where
-  abbrev pub closedUp : List Span
-  closedUp = closed 0 0 (weave ss keys)
-
-  abbrev pub keysRefusals : ℕ → List Refusal
-  keysRefusals room =
-      (27 if hits 0 (weave ss keys)) ∷ (28 if ltb 65 (length closedUp)) ∷ (29 if ltb room (sizeOf (length closedUp - 1))) ∷ []
-
-  abbrev pub keysRegister : ℕ → ℕ → Register
-  keysRegister code day = record { code = code; latest = day; ranges = rangesOf (froms (drop 1 closedUp)) (tos (drop 1 closedUp)) }
-
-  abbrev pub EntersKeys : ℕ → ℕ → List ℕ → Entered → List ℕ → Type 0
-  EntersKeys code day before r after = Answers (keysRefusals (length before)) (keysRegister code day) before r after
-
--- of the numbers that an accepted file uses
-abbrev pub EntersUses : Register → List Use → ℕ → ℕ → List ℕ → Entered → List ℕ → Type 0
-EntersUses g us code day before r after = Answers (usesRefusals g us day (length before)) (record { code = code; latest = day; ranges = entered g day us .ranges }) before r after
 
 -- what entering a file answers, and the target after
 abbrev pub Enters : List ℕ → List ℕ → ℕ → ℕ → List ℕ → Entered → List ℕ → Type 0

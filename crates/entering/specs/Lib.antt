@@ -1,3 +1,4 @@
 pub mod Keys
 pub mod Merging
 pub mod Jobs
+pub mod Steps

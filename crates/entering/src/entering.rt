@@ -16,7 +16,8 @@ ghost use Rattle.register.specs.Register.{isRegister, registerOf};
 ghost use Rattle.register.specs.Entering.{used, kept};
 ghost use Rattle.register.specs.Spans.{spansOf};
 ghost use Rattle.entering.specs.Keys.{Dated};
-ghost use Rattle.entering.specs.Jobs.{enteredNumber, writtenOr, EntersKeys, EntersUses, Enters};
+ghost use Rattle.entering.specs.Jobs.{enteredNumber, writtenOr, Enters};
+ghost use Rattle.entering.specs.Steps.{EntersKeys, EntersUses};
 
 pub enum Entered {
     Written(usize),

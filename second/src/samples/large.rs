@@ -124,7 +124,7 @@ pub fn controls_only(bytes: usize) -> Sample {
 /// Blocks of one item each, every number once, `step` apart: ascending,
 /// descending, every other one first, or in any order.
 pub fn blocks_of_one(dice: &mut Dice, bytes: usize, order: u64, step: u32) -> Sample {
-    const LONGEST: usize = 160;
+    const LONGEST: usize = 155;
     let places = 0..(bytes / LONGEST) as u32;
     let mut numbers: Vec<u32> = places.map(|place| 1 + place * step).collect();
     match order {

@@ -37,7 +37,7 @@ pub fn all(files: u64) -> Vec<Group> {
         Group::listed("registers, days about the tenth", TRICKY.len() as u64, tenth_day),
         Group::random("registers, rows of files", files.div_ceil(60), row),
         Group::random("registers, thirty days", files.div_ceil(600), thirty_days),
-        Group::random("registers, 70,000 blocks in any order", 2, many_blocks),
+        Group::random("registers, blocks of one item in any order", 2, many_blocks),
     ]
 }
 

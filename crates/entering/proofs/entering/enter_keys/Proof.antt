@@ -3,7 +3,7 @@ use lib.Seq.{length-take-le}
 use Rattle.register.specs.Register.{registerOf}
 use Rattle.register.specs.Entering.{kept}
 use Rattle.register.specs.Spans.{spansOf}
-use Rattle.entering.proofs.Answers.{Merged-of, merged-of, kept-as, keys-clash, keys-some, keys-many, keys-short, keys-done}
+use Rattle.entering.proofs.Answers.{MergedOf, merged-of, kept-as, keys-clash, keys-some, keys-many, keys-short, keys-done}
 use native.Mathlib.Omega.{arith}
 use Rattle.entering.proofs.Tests.{register-size, register-few}
 use borrow.Author.Needs.{needs}
@@ -11,7 +11,7 @@ use Rattle.entering.proofs.entering.enter_keys.Statement.{statement}
 use Rattle.entering.proofs.entering.enter_keys.Tie as tie
 
 -- what was merged, of the register's own ranges
-merged : (c : tie.After-merge) → Merged-of
+merged : (c : tie.After-merge) → MergedOf
     (spansOf (kept (c .before .before .before .before .before .before .before .before .before .before .before .before .before .before .args .day) (registerOf (c .before .before .before .before .before .before .before .before .before .before .before .before .before .before .args .register .now) .ranges)))
     (c .before .before .before .before .before .before .before .before .before .before .before .before .before .before .args .keys .now)
     (c .merge .result)
