@@ -311,7 +311,8 @@ uint32_t certis_register_new(uint32_t code, uint8_t *target, size_t target_len);
  *   2   the day is not a real day from 20000101 to 20991231
  *   3   the file has more than 10,000,000 bytes, those after the 1A included
  *   5   there is no byte 1A in the file
- *   6   the first byte of the file is 1A
+ *   9   a byte stands after the first 1A
+ *   6   the file is the byte 1A alone
  *   23  the bytes are not a well-formed register
  *   24  its code is another
  *   25  the day is before its latest

@@ -18,7 +18,7 @@ use Rattle.item_reader.specs.Slips.{slipsFrom}
 use Rattle.listing.specs.declared.checking.Checked.{Checked}
 use Rattle.listing.specs.declared.checking.Checked.the-variants.{Total, Refused}
 use Rattle.listing.specs.declared.checking.Unchecked.{Unchecked}
-use Rattle.listing.specs.declared.checking.Unchecked.the-variants.{BadCode, BadDay, TooLong, UnequalRooms, NoMark, Leftovers, StartsWithMark}
+use Rattle.listing.proofs.Unique.{some-number}
 use Rattle.listing.specs.Checking.{checkRefusals, uncheckedNumber, checkedNumber, checkedOr, Totals}
 use Rattle.register.specs.Register.{isVersion, mostOf, countIn, sizeOf, headBytes, registerBytes, registerOf, hasLayout, wellFormed, isRegister}
 use Rattle.register.specs.Bytes.{bigAt}
@@ -59,15 +59,6 @@ module _ (s : List ℕ) (e : isRegister s ≡ true) where
       most false h = omega arith
 
 -- ---- entering
-some : (u : Unchecked) → 1 ≤ uncheckedNumber u
-some BadCode = omega arith
-some BadDay = omega arith
-some TooLong = omega arith
-some UnequalRooms = omega arith
-some NoMark = omega arith
-some Leftovers = omega arith
-some StartsWithMark = omega arith
-
 module _ (register file : List ℕ) (code day : ℕ) (before : List ℕ) where
   abbrev refusal : ℕ
   refusal = first (enterRefusals register file code day (length before))
@@ -83,8 +74,8 @@ module _ (register file : List ℕ) (code day : ℕ) (before : List ℕ) where
     pub refused-by : (u : Unchecked) → c ≡ Refused u → Enters register file code day before (RefusedBy u) before
     refused-by u e =
         refused (RefusedBy u)
-        (sym (first-here (checkRefusals file (input code day) 0 0) ((23 if not (isRegister register)) ∷ from-24) (uncheckedNumber u) (sym (sym (ap checkedNumber e) ∙ C .number)) (some u)))
-        (some u) (λ old. refl)
+        (sym (first-here (checkRefusals file (input code day) 0 0) ((23 if not (isRegister register)) ∷ from-24) (uncheckedNumber u) (sym (sym (ap checkedNumber e) ∙ C .number)) (some-number u)))
+        (some-number u) (λ old. refl)
 
     module _ (n : ℕ) (e : c ≡ Total n) where
       none : first (checkRefusals file (input code day) 0 0) ≡ 0

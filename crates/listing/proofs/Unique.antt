@@ -1,9 +1,11 @@
 -- Two answers of checking that meet its statement are equal, the lent slices included.
-use Prim.Native.Nat.{ℕ}
+use Prim.Native.Nat.{ℕ, _≤_}
+use native.Mathlib.Omega.{arith}
 use mathlib.Core.Path.{_≡_, refl, sym, ap, _∙_}
-use mathlib.Core.Bool.{Bool, false, cond}
+use mathlib.Core.Bool.{Bool, cond}
 use mathlib.Core.List.{List}
 use lib.Dec.{eqb}
+use borrow.Author.Tests.{ne-eqb}
 use Rattle.rules.specs.Terms.{Terms}
 use Rattle.listing.specs.declared.checking.Checked.{Checked}
 use Rattle.listing.specs.declared.checking.Checked.the-variants.{Total, Refused}
@@ -24,22 +26,25 @@ refusal-told NoMark = refl
 refusal-told Leftovers = refl
 refusal-told StartsWithMark = refl
 
+-- no refusal has the number 0
+pub some-number : (u : Unchecked) → 1 ≤ uncheckedNumber u
+some-number BadCode = omega arith
+some-number BadDay = omega arith
+some-number TooLong = omega arith
+some-number UnequalRooms = omega arith
+some-number NoMark = omega arith
+some-number Leftovers = omega arith
+some-number StartsWithMark = omega arith
+
 -- an answer by its number and its total
 abbrev answerOf : ℕ → ℕ → Checked
 answerOf k t = cond (eqb k 0) (Total t) (Refused (refusalOf k))
 
 told : (r : Checked) → answerOf (checkedNumber r) (checkedOr r 0) ≡ r
 told (Total t) = refl
-told (Refused u) = ap (λ (b : Bool). cond b (Total 0) (Refused (refusalOf (uncheckedNumber u)))) (some u) ∙ ap Refused (refusal-told u)
-  where
-    some : (u : Unchecked) → eqb (uncheckedNumber u) 0 ≡ false
-    some BadCode = refl
-    some BadDay = refl
-    some TooLong = refl
-    some UnequalRooms = refl
-    some NoMark = refl
-    some Leftovers = refl
-    some StartsWithMark = refl
+told (Refused u) =
+    ap (λ (b : Bool). cond b (Total 0) (Refused (refusalOf (uncheckedNumber u)))) (ne-eqb (uncheckedNumber u) 0 (λ e. omega (arith, e, some-number u)))
+    ∙ ap Refused (refusal-told u)
 
 pub check-unique : {file : List ℕ} {terms : Terms} {ls₀ rs₀ : List ℕ} {r r′ : Checked} {ls ls′ rs rs′ : List ℕ} → Checks file terms ls₀ rs₀ r ls rs → Checks file terms ls₀ rs₀ r′ ls′ rs′
     → (r ≡ r′) × (ls ≡ ls′) × (rs ≡ rs′)
