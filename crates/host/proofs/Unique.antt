@@ -12,7 +12,7 @@ use lib.IntN.{ℤ}
 use Rattle.outcomes.specs.Deriving.{outgoingKind, recipient}
 use Rattle.register.specs.Register.{registerOf}
 use Rattle.register.specs.Entering.{entered}
-use Rattle.entering.specs.Jobs.{usesOf, sizeAfter, targetAfter, newRegister}
+use Rattle.entering.specs.Jobs.{usesOf, sizeAfter}
 use Rattle.host.specs.Face.{storedAt, TotalAt, CheckedAt, ToldAt, DerivedAt, AccountAt, OpenedAt, PostedAt, BlankedAt, EnteredAt}
 
 pub total-unique : {file : List ℕ} {code day before r r′ after after′ : ℕ} → TotalAt file code day before r after → TotalAt file code day before r′ after′ → (r ≡ r′) × (after ≡ after′)
@@ -55,15 +55,13 @@ pub posted-unique : {codes : List ℕ} {before : List ℤ} {file : List ℕ} {co
 posted-unique C D = (C .number ∙ sym (D .number), C .turnovers ∙ sym (D .turnovers))
 
 pub blanked-unique : {code : ℕ} {before : List ℕ} {r r′ : ℕ} {after after′ : List ℕ} → BlankedAt code before r after → BlankedAt code before r′ after′ → (r ≡ r′) × (after ≡ after′)
-blanked-unique {code} {before} C D =
-    let e = C .number ∙ sym (D .number) in
-    (e, C .target ∙ ap (λ (k : ℕ). targetAfter k (newRegister code) before) e ∙ sym (D .target))
+blanked-unique C D = (C .number ∙ sym (D .number), C .target ∙ sym (D .target))
 
 pub entered-unique : {register file : List ℕ} {code day : ℕ} {before : List ℕ} {size₀ r r′ : ℕ} {after after′ : List ℕ} {size size′ : ℕ} → EnteredAt register file code day before size₀ r after size → EnteredAt register file code day before size₀ r′ after′ size′
     → (r ≡ r′) × (after ≡ after′) × (size ≡ size′)
-entered-unique {register} {file} {code} {day} {before} {size₀} C D =
+entered-unique {register} {file} {day = day} {size₀ = size₀} C D =
     let e = C .number ∙ sym (D .number) in (
       e,
-      C .target ∙ ap (λ (k : ℕ). targetAfter k (entered (registerOf register) day (usesOf file)) before) e ∙ sym (D .target),
+      C .target ∙ sym (D .target),
       C .written ∙ ap (λ (k : ℕ). sizeAfter k (entered (registerOf register) day (usesOf file)) size₀) e ∙ sym (D .written),
     )
