@@ -151,7 +151,7 @@ static void test_check_refusals(void)
     refuses("9: two end marks", 9, END END, 2, CODE, DAY);
     check_refuses("4 before 9", 4, END END, 2, CODE, DAY, 2, 3);
     refuses("6: the end mark alone", 6, END, 1, CODE, DAY);
-    refuses("6: the end mark first", 6, END "HD:11", 6, CODE, DAY);
+    refuses("9 before 6", 9, END "HD:11", 6, CODE, DAY);
 }
 
 static void test_long_files(void)

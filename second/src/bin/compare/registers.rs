@@ -7,7 +7,7 @@ use second::samples::draft::Draft;
 use second::samples::mutations::ALL as MUTATIONS;
 use second::samples::{Job, Sample, large};
 
-use crate::groups::Group;
+use crate::group::Group;
 use crate::judge::Judge;
 use crate::refusals::{CODES, DAYS, FILES};
 

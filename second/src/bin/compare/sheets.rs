@@ -8,7 +8,7 @@ use second::samples::mutations::ALL as MUTATIONS;
 use second::samples::{Job, Sample};
 use second::sheet::{self, LISTED, SIDES, TURNOVERS};
 
-use crate::groups::Group;
+use crate::group::Group;
 use crate::judge::Judge;
 use crate::refusals::{CODES, DAYS, FILES};
 
