@@ -11,7 +11,7 @@ use borrow.Author.Tests.{ltb-true, ltb-false, eqb-false, lt-ltb, le-ltb}
 use Rattle.laws.specs.Refusals.{first}
 use Rattle.days.specs.Days.{later}
 use Rattle.days.proofs.Order.{real-parts}
-use Rattle.text.specs.Forms.{fits}
+use Rattle.text.specs.Forms.{numbersFit}
 use Rattle.headings.specs.declared.Heading.{Heading}
 use Rattle.headings.specs.declared.Read.{Read}
 use Rattle.headings.specs.declared.Read.the-variants.{Reads, Unreadable}
@@ -41,7 +41,7 @@ use Rattle.entering.proofs.Answers.{answers-as}
 
 -- ---- a heading's number has seven digits
 seven : (h : Heading) → fitsHeading h ≡ true → h .number .0 < 10000000
-unfolding fitsHeading fits
+unfolding fitsHeading numbersFit
 seven h e =
     let a = both (ltb (h .kind) (10 ^ 2)) _ e in
     let b = both (ltb (h .day) (10 ^ 8)) _ (a .1) in

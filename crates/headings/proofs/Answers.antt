@@ -10,7 +10,7 @@ use Rattle.laws.specs.Lists.{put}
 use Rattle.laws.specs.Refusals.{first}
 use Rattle.text.specs.Forms.{template}
 use Rattle.text.specs.Strings.{Wrote}
-use Rattle.text.proofs.Layouts.{text-length}
+use Rattle.text.proofs.Pieces.{text-length}
 use Rattle.headings.specs.declared.Heading.{Heading}
 use Rattle.headings.specs.Reading.{layout}
 use Rattle.headings.specs.Writing.{parts, fitsHeading, headingText, writeRefusals, writtenTarget}

@@ -5,7 +5,7 @@ use mathlib.Core.List.{List}
 use Prim.Native.Nat.{ℕ}
 use Rattle.laws.specs.Refusals.{first}
 use Rattle.text.specs.Forms.{numbers}
-use Rattle.text.proofs.Layouts.{placed, placed-is}
+use Rattle.text.proofs.Pieces.{placed, placed-is}
 use Rattle.headings.specs.declared.Read.the-variants.{Reads, Unreadable}
 use Rattle.headings.specs.Reading.{layout, isHeading, headingFrom, headingOf, readRefusals}
 

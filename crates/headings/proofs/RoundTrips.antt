@@ -6,8 +6,8 @@ use Prim.Native.Nat.{ℕ, _≤_}
 use native.Mathlib.Omega.{arith}
 use lib.ListN.{length, take, drop}
 use lib.Seq.{take-at}
-use Rattle.text.specs.Forms.{template, numbers, fits, formText}
-use Rattle.text.proofs.Layouts.{form-length, text-numbers, fits-numbers, form-text, numbers-text}
+use Rattle.text.specs.Forms.{template, numbers, numbersFit, formText}
+use Rattle.text.proofs.Pieces.{form-length, text-numbers, fits-numbers, form-text, numbers-text}
 use Rattle.headings.specs.declared.Heading.{Heading}
 use Rattle.headings.specs.declared.Read.the-variants.{Reads, Unreadable}
 use Rattle.headings.specs.Reading.{layout, headingFrom, isHeading, headingOf}
@@ -51,7 +51,7 @@ module _ (s : List ℕ) (h : Heading) (e : headingOf s ≡ Reads h) where
   unfolding fitsHeading
   fits-read =
       let f = form s h e in
-      ap (λ (x : Heading). fits layout (parts x)) (sym (f .1)) ∙ ap (fits layout) (back s) ∙ fits-numbers layout s (f .0)
+      ap (λ (x : Heading). numbersFit layout (parts x)) (sym (f .1)) ∙ ap (numbersFit layout) (back s) ∙ fits-numbers layout s (f .0)
 
 -- the same on targets
 module _ (h : Heading) (t : List ℕ) (room : 54 ≤ length t) where

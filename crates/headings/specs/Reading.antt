@@ -6,7 +6,7 @@ use mathlib.Core.List.{List, [], _∷_}
 use lib.ListN.{getD}
 use Rattle.laws.specs.Ascii.{ascii}
 use Rattle.laws.specs.Refusals.{Refusal, _if_, first}
-use Rattle.text.specs.Forms.{Piece, lit, num, template, hasForm, numbers}
+use Rattle.text.specs.Forms.{Piece, fixed, padded, template, hasForm, numbers}
 use Rattle.headings.specs.declared.Heading.{Heading}
 use Rattle.headings.specs.declared.Read.{Read}
 use Rattle.headings.specs.declared.Read.the-variants.{Reads, Unreadable}
@@ -14,8 +14,8 @@ use Rattle.headings.specs.declared.Read.the-variants.{Reads, Unreadable}
 -- 'HD: type 2, day 8, first code 7, input number 7, second code 7, output number 7, third code 7, all fixed: 54 bytes'
 abbrev pub layout : List Piece
 layout =
-    lit (ascii "HD:") ∷ num 2 ∷ lit (ascii " ") ∷ num 8 ∷ lit (ascii " ") ∷ num 7 ∷ lit (ascii " ") ∷ num 7 ∷ lit (ascii " ")
-    ∷ num 7 ∷ lit (ascii " ") ∷ num 7 ∷ lit (ascii " ") ∷ num 7 ∷ []
+    fixed (ascii "HD:") ∷ padded 2 ∷ fixed (ascii " ") ∷ padded 8 ∷ fixed (ascii " ") ∷ padded 7 ∷ fixed (ascii " ") ∷ padded 7 ∷ fixed (ascii " ")
+    ∷ padded 7 ∷ fixed (ascii " ") ∷ padded 7 ∷ fixed (ascii " ") ∷ padded 7 ∷ []
 
 -- a heading of seven numbers in the order of the layout
 abbrev pub headingFrom : List ℕ → Heading

@@ -6,7 +6,7 @@ use mathlib.Core.List.{List, [], _∷_, _++_}
 use lib.ListN.{length, drop}
 use lib.Dec.{eqb, ltb}
 use Rattle.laws.specs.Refusals.{Refusal, _if_, first}
-use Rattle.text.specs.Forms.{fits, formText}
+use Rattle.text.specs.Forms.{numbersFit, formText}
 use Rattle.headings.specs.declared.Heading.{Heading}
 use Rattle.headings.specs.declared.writing.Written.{Written}
 use Rattle.headings.specs.declared.writing.Written.the-variants.{Done, TooLarge, TooShort}
@@ -19,7 +19,7 @@ parts h =
 
 -- each part fits its digits
 unfoldable pub fitsHeading : Heading → Bool
-fitsHeading h = fits layout (parts h)
+fitsHeading h = numbersFit layout (parts h)
 
 unfoldable pub headingText : Heading → List ℕ
 headingText h = formText layout (parts h)

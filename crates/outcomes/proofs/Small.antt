@@ -7,7 +7,7 @@ use lib.ListN.{getD}
 use lib.Dec.{ltb}
 use borrow.Author.Tests.{lt-ltb, ltb-true}
 use Rattle.laws.proofs.Every.{each-holds}
-use Rattle.text.specs.Forms.{fits}
+use Rattle.text.specs.Forms.{numbersFit}
 use Rattle.headings.specs.declared.Heading.{Heading}
 use Rattle.headings.specs.Writing.{fitsHeading}
 
@@ -26,7 +26,7 @@ tests h =
     ∷ ltb (h .output .0) 10000000 ∷ ltb (h .third .0) 10000000 ∷ []
 
 holds : (h : Heading) → fitsHeading h ≡ true → (k : ℕ) → getD (tests h) k true ≡ true
-unfolding fitsHeading fits
+unfolding fitsHeading numbersFit
 holds h e k = each-holds (tests h) e k
 
 pub small : (h : Heading) → fitsHeading h ≡ true → Small h
@@ -41,6 +41,6 @@ small h e = record {
 }
 
 pub fits-small : (h : Heading) → Small h → fitsHeading h ≡ true
-unfolding fitsHeading fits
+unfolding fitsHeading numbersFit
 fits-small h w =
     rw (lt-ltb (h .kind) 100 (w .kind), lt-ltb (h .day) 100000000 (w .day), lt-ltb (h .first .0) 10000000 (w .first), lt-ltb (h .number .0) 10000000 (w .number), lt-ltb (h .second .0) 10000000 (w .second), lt-ltb (h .output .0) 10000000 (w .output), lt-ltb (h .third .0) 10000000 (w .third))

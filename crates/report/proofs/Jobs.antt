@@ -8,7 +8,7 @@ use lib.Dec.{leb}
 use lib.ListN.{length, take, length-take}
 use borrow.Author.Tests.{leb-true, leb-false}
 use Rattle.text.specs.Forms.{template, numbers, partAt}
-use Rattle.text.proofs.Layouts.{form-length, placed, placed-is}
+use Rattle.text.proofs.Pieces.{form-length, placed, placed-is}
 use Rattle.report.specs.declared.job.Job.the-variants.{Of, NoJob}
 use Rattle.report.specs.Job.{jobLayout, isJobLine, jobLineOf, jobOf}
 

@@ -4,12 +4,12 @@ use mathlib.Core.Bool.{Bool, cond}
 use mathlib.Core.List.{List, [], _∷_}
 use lib.ListN.{getD, take}
 use Rattle.laws.specs.Ascii.{ascii}
-use Rattle.text.specs.Forms.{Piece, lit, num, template, hasForm, numbers}
+use Rattle.text.specs.Forms.{Piece, fixed, padded, template, hasForm, numbers}
 use Rattle.report.specs.declared.job.Job.{Job}
 use Rattle.report.specs.declared.job.Job.the-variants.{Of, NoJob}
 
 abbrev pub jobLayout : List Piece
-jobLayout = num 4 ∷ lit (ascii " ") ∷ num 8 ∷ lit (ascii "\n") ∷ []
+jobLayout = padded 4 ∷ fixed (ascii " ") ∷ padded 8 ∷ fixed (ascii "\n") ∷ []
 
 abbrev pub isJobLine : List ℕ → Bool
 isJobLine line = hasForm (template jobLayout) line

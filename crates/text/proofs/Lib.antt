@@ -5,6 +5,6 @@ pub mod Reading
 pub mod Writing
 pub mod Comparing
 pub mod Wrote
-pub mod Layouts
+pub mod Pieces
 pub mod Matching
 pub mod Bare

@@ -8,7 +8,7 @@ use native.Mathlib.Numerals.{add-one}
 use lib.ListN.{length, drop, getD, drop-of-length-le}
 use lib.Seq.{drop-cons}
 use Rattle.text.specs.Forms.{fitsByte, hasForm}
-use Rattle.text.proofs.Layouts.{form-length}
+use Rattle.text.proofs.Pieces.{form-length}
 
 pub unequal : (t s : List ℕ) → (length t ≡ length s → ⊥) → false ≡ hasForm t s
 unequal t s h = go (hasForm t s) refl

@@ -8,14 +8,14 @@ use Rattle.text.specs.Digits.{isDigit, value, digits}
 
 -- a layout is a list of pieces: bytes that stand there, and numbers of so many digits
 pub data Piece : Type 0 where
-  lit : List ℕ → Piece
-  num : ℕ → Piece
+  fixed : List ℕ → Piece
+  padded : ℕ → Piece
 
 -- a layout as a text, with 0 for each digit
 unfoldable pub template : List Piece → List ℕ
 template [] = []
-template (lit l ∷ ps) = l ++ template ps
-template (num n ∷ ps) = replicate n 48 ++ template ps
+template (fixed l ∷ ps) = l ++ template ps
+template (padded n ∷ ps) = replicate n 48 ++ template ps
 
 -- each byte of a template stands for itself, and 0 for any digit
 abbrev pub fitsByte : ℕ → ℕ → Bool
@@ -35,20 +35,20 @@ partAt s at n = value (take n (drop at s))
 -- the numbers of a text in a layout
 unfoldable pub numbers : List Piece → List ℕ → List ℕ
 numbers [] s = []
-numbers (lit l ∷ ps) s = numbers ps (drop (length l) s)
-numbers (num n ∷ ps) s = value (take n s) ∷ numbers ps (drop n s)
+numbers (fixed l ∷ ps) s = numbers ps (drop (length l) s)
+numbers (padded n ∷ ps) s = value (take n s) ∷ numbers ps (drop n s)
 
 -- there is a number for each place, and each fits its digits
-unfoldable pub fits : List Piece → List ℕ → Bool
-fits [] [] = true
-fits [] (v ∷ vs) = false
-fits (lit l ∷ ps) vs = fits ps vs
-fits (num n ∷ ps) [] = false
-fits (num n ∷ ps) (v ∷ vs) = ltb v (10 ^ n) && fits ps vs
+unfoldable pub numbersFit : List Piece → List ℕ → Bool
+numbersFit [] [] = true
+numbersFit [] (v ∷ vs) = false
+numbersFit (fixed l ∷ ps) vs = numbersFit ps vs
+numbersFit (padded n ∷ ps) [] = false
+numbersFit (padded n ∷ ps) (v ∷ vs) = ltb v (10 ^ n) && numbersFit ps vs
 
 -- the text of numbers in a layout
 unfoldable pub formText : List Piece → List ℕ → List ℕ
 formText [] vs = []
-formText (lit l ∷ ps) vs = l ++ formText ps vs
-formText (num n ∷ ps) [] = digits n 0 ++ formText ps []
-formText (num n ∷ ps) (v ∷ vs) = digits n v ++ formText ps vs
+formText (fixed l ∷ ps) vs = l ++ formText ps vs
+formText (padded n ∷ ps) [] = digits n 0 ++ formText ps []
+formText (padded n ∷ ps) (v ∷ vs) = digits n v ++ formText ps vs

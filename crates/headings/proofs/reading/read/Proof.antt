@@ -5,7 +5,7 @@ use mathlib.Core.List.{List}
 use native.Mathlib.Omega.{arith}
 use borrow.Author.Needs.{needs}
 use Rattle.text.specs.Forms.{template}
-use Rattle.text.proofs.Layouts.{ready}
+use Rattle.text.proofs.Pieces.{ready}
 use Rattle.headings.specs.Reading.{layout, isHeading}
 use Rattle.headings.proofs.Places.{found, lost}
 use Rattle.headings.proofs.reading.read.Statement.{statement}

@@ -5,7 +5,7 @@ use mathlib.Core.List.{List}
 use native.Mathlib.Omega.{arith}
 use borrow.Author.Needs.{needs}
 use Rattle.text.specs.Forms.{template}
-use Rattle.text.proofs.Layouts.{ready}
+use Rattle.text.proofs.Pieces.{ready}
 use Rattle.report.specs.Job.{jobLayout, isJobLine}
 use Rattle.report.proofs.Jobs.{found, lost}
 use Rattle.report.proofs.job.read_line.Statement.{statement}

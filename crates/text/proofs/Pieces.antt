@@ -9,7 +9,7 @@ use lib.Seq.{take-at, drop-at, drop-drop}
 use lib.Dec.{ltb, eqb}
 use borrow.Author.Tests.{le-leb, lt-ltb, ltb-true, eq-eqb, eqb-true, not-true}
 use Rattle.text.specs.Digits.{isDigit, allDigits, digits}
-use Rattle.text.specs.Forms.{Piece, lit, num, template, fitsByte, hasForm, partAt, numbers, fits, formText}
+use Rattle.text.specs.Forms.{Piece, fixed, padded, template, fitsByte, hasForm, partAt, numbers, numbersFit, formText}
 use Rattle.text.proofs.Widths.{length-digits, read-written, written-read, value-lt}
 
 and-parts : (a b : Bool) → (a && b) ≡ true → (a ≡ true) × (b ≡ true)
@@ -110,8 +110,8 @@ literal (t ∷ ts) (b ∷ bs) o e =
 -- the fixed bytes of a layout hold no 0, which its template would take for a digit
 abbrev pub plain : List Piece → Bool
 plain [] = true
-plain (lit l ∷ ps) = other l && plain ps
-plain (num n ∷ ps) = plain ps
+plain (fixed l ∷ ps) = other l && plain ps
+plain (padded n ∷ ps) = plain ps
 
 -- digits in a template: what their part of the text is
 digits-part : (n : ℕ) (us s : List ℕ) → hasForm (replicate n 48 ++ us) s ≡ true
@@ -125,43 +125,43 @@ pub text-numbers : (ps : List Piece) (s : List ℕ) → plain ps ≡ true → ha
 unfolding template hasForm formText numbers
 text-numbers [] [] p e = refl
 text-numbers [] (b ∷ bs) p e = absurd (false≢true e)
-text-numbers (lit l ∷ ps) s p e =
+text-numbers (fixed l ∷ ps) s p e =
     let q = and-parts (other l) (plain ps) p in
     let r = split l (template ps) s e in
     rw (text-numbers ps (drop (length l) s) (q .1) (r .1))
     (ap (λ (x : List ℕ). x ++ drop (length l) s) (sym (literal l (take (length l) s) (q .0) (r .0))) ∙ take-append-drop (length l) s)
-text-numbers (num n ∷ ps) s p e =
+text-numbers (padded n ∷ ps) s p e =
     let r = digits-part n (template ps) s e in
     rw (text-numbers ps (drop n s) p (r .2), rw (r .1) at (written-read (take n s) (r .0))) (take-append-drop n s)
 
 -- and its numbers fit
-pub fits-numbers : (ps : List Piece) (s : List ℕ) → hasForm (template ps) s ≡ true → fits ps (numbers ps s) ≡ true
-unfolding template fits numbers
+pub fits-numbers : (ps : List Piece) (s : List ℕ) → hasForm (template ps) s ≡ true → numbersFit ps (numbers ps s) ≡ true
+unfolding template numbersFit numbers
 fits-numbers [] s e = refl
-fits-numbers (lit l ∷ ps) s e = fits-numbers ps (drop (length l) s) (split l (template ps) s e .1)
-fits-numbers (num n ∷ ps) s e =
+fits-numbers (fixed l ∷ ps) s e = fits-numbers ps (drop (length l) s) (split l (template ps) s e .1)
+fits-numbers (padded n ∷ ps) s e =
     let r = digits-part n (template ps) s e in
     rw (lt-ltb _ _ (rw (r .1) at (value-lt (take n s) (r .0))), fits-numbers ps (drop n s) (r .2))
 
 -- reading what was written: the text of numbers that fit has the layout's form
-pub form-text : (ps : List Piece) (vs : List ℕ) → fits ps vs ≡ true → hasForm (template ps) (formText ps vs) ≡ true
-unfolding template hasForm formText fits
+pub form-text : (ps : List Piece) (vs : List ℕ) → numbersFit ps vs ≡ true → hasForm (template ps) (formText ps vs) ≡ true
+unfolding template hasForm formText numbersFit
 form-text [] vs e = refl
-form-text (lit l ∷ ps) vs e = join l (template ps) l (formText ps vs) (self l) (form-text ps vs e)
-form-text (num n ∷ ps) [] e = absurd (false≢true e)
-form-text (num n ∷ ps) (v ∷ vs) e =
-    let q = and-parts (ltb v (10 ^ n)) (fits ps vs) e in
+form-text (fixed l ∷ ps) vs e = join l (template ps) l (formText ps vs) (self l) (form-text ps vs e)
+form-text (padded n ∷ ps) [] e = absurd (false≢true e)
+form-text (padded n ∷ ps) (v ∷ vs) e =
+    let q = and-parts (ltb v (10 ^ n)) (numbersFit ps vs) e in
     join (replicate n 48) (template ps) (digits n v) (formText ps vs) (zeros-digits n v) (form-text ps vs (q .1))
 
 -- and those numbers
-pub numbers-text : (ps : List Piece) (vs : List ℕ) → fits ps vs ≡ true → numbers ps (formText ps vs) ≡ vs
-unfolding formText fits numbers
+pub numbers-text : (ps : List Piece) (vs : List ℕ) → numbersFit ps vs ≡ true → numbers ps (formText ps vs) ≡ vs
+unfolding formText numbersFit numbers
 numbers-text [] [] e = refl
 numbers-text [] (v ∷ vs) e = absurd (false≢true e)
-numbers-text (lit l ∷ ps) vs e = rw (drop-at l (formText ps vs) (length l) refl, numbers-text ps vs e)
-numbers-text (num n ∷ ps) [] e = absurd (false≢true e)
-numbers-text (num n ∷ ps) (v ∷ vs) e =
-    let q = and-parts (ltb v (10 ^ n)) (fits ps vs) e in
+numbers-text (fixed l ∷ ps) vs e = rw (drop-at l (formText ps vs) (length l) refl, numbers-text ps vs e)
+numbers-text (padded n ∷ ps) [] e = absurd (false≢true e)
+numbers-text (padded n ∷ ps) (v ∷ vs) e =
+    let q = and-parts (ltb v (10 ^ n)) (numbersFit ps vs) e in
     rw (take-at (digits n v) (formText ps vs) n (length-digits n v), drop-at (digits n v) (formText ps vs) n (length-digits n v), read-written n v (ltb-true _ _ (q .0)), numbers-text ps vs (q .1))
 
 together : (x y a b : List ℕ) → length x ≡ length y → length a ≡ length b → length (x ++ a) ≡ length (y ++ b)
@@ -174,9 +174,9 @@ as-long n v = length-digits n v ∙ sym (length-replicate {A = ℕ} n 48)
 pub text-length : (ps : List Piece) (vs : List ℕ) → length (formText ps vs) ≡ length (template ps)
 unfolding formText template
 text-length [] vs = refl
-text-length (lit l ∷ ps) vs = together l l (formText ps vs) (template ps) refl (text-length ps vs)
-text-length (num n ∷ ps) [] = together (digits n 0) (replicate n 48) (formText ps []) (template ps) (as-long n 0) (text-length ps [])
-text-length (num n ∷ ps) (v ∷ vs) = together (digits n v) (replicate n 48) (formText ps vs) (template ps) (as-long n v) (text-length ps vs)
+text-length (fixed l ∷ ps) vs = together l l (formText ps vs) (template ps) refl (text-length ps vs)
+text-length (padded n ∷ ps) [] = together (digits n 0) (replicate n 48) (formText ps []) (template ps) (as-long n 0) (text-length ps [])
+text-length (padded n ∷ ps) (v ∷ vs) = together (digits n v) (replicate n 48) (formText ps vs) (template ps) (as-long n v) (text-length ps vs)
 
 -- where a template has n zeros from a place on, a text in its form has a number to be read
 pub ready : (t s : List ℕ) (at n : ℕ) → hasForm t s ≡ true → t ≡ take at t ++ (replicate n 48 ++ drop (at + n) t) → length (take at t) ≡ at → n ≤ 9
@@ -189,12 +189,12 @@ ready t s at n m e l k =
 -- the numbers of a text in a layout that begins at place k, by their places
 abbrev pub placed : List Piece → ℕ → List ℕ → List ℕ
 placed [] k s = []
-placed (lit l ∷ ps) k s = placed ps (k + length l) s
-placed (num n ∷ ps) k s = partAt s k n ∷ placed ps (k + n) s
+placed (fixed l ∷ ps) k s = placed ps (k + length l) s
+placed (padded n ∷ ps) k s = partAt s k n ∷ placed ps (k + n) s
 
 -- `drop` at a numeral computes into its cases, where no rewriting finds it; this holds for every place, and then computes
 pub placed-is : (ps : List Piece) (k : ℕ) (s : List ℕ) → numbers ps (drop k s) ≡ placed ps k s
 unfolding numbers
 placed-is [] k s = refl
-placed-is (lit l ∷ ps) k s = rw drop-drop (placed-is ps (k + length l) s)
-placed-is (num n ∷ ps) k s = rw drop-drop (ap (λ (vs : List ℕ). partAt s k n ∷ vs) (placed-is ps (k + n) s))
+placed-is (fixed l ∷ ps) k s = rw drop-drop (placed-is ps (k + length l) s)
+placed-is (padded n ∷ ps) k s = rw drop-drop (ap (λ (vs : List ℕ). partAt s k n ∷ vs) (placed-is ps (k + n) s))
