@@ -9,7 +9,8 @@ use lib.Dec.{eqb, ltb}
 use lib.ListN.{length, getD, set}
 use borrow.Author.Tests.{eqb-true, eq-eqb, ne-eqb, ltb-true, ltb-false, le-ltb}
 use Rattle.laws.specs.Tests.{among, mark}
-use Rattle.days.specs.Days.{isReal, dayNumber, later, sum}
+use Rattle.laws.specs.Lists.{sum}
+use Rattle.days.specs.Days.{isReal, dayNumber, later}
 use Rattle.headings.specs.declared.Code.{Code}
 use Rattle.headings.specs.declared.Amount.{Amount}
 use Rattle.headings.specs.declared.ItemNo.{ItemNo}

@@ -10,7 +10,8 @@ use mathlib.Core.Logic.{_⊎_, inl, inr, ⊎-elim}
 use borrow.Author.Tests.{le-leb, ltb-true, ltb-false, eqb-true, eqb-false}
 use Rattle.laws.proofs.Entries.{at}
 use Rattle.laws.proofs.Every.{one-fails}
-use Rattle.days.specs.Days.{isLeap, row, sum, daysBefore, yearOf, monthOf, dateOf, isReal, realTests, monthLength}
+use Rattle.laws.specs.Lists.{sum}
+use Rattle.days.specs.Days.{isLeap, row, daysBefore, yearOf, monthOf, dateOf, isReal, realTests, monthLength}
 
 pub row-past : (b : Bool) (k : ℕ) → 12 ≤ k → getD (row b) k 0 ≡ 0
 unfolding row

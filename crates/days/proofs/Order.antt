@@ -13,7 +13,8 @@ use lib.Dec.{leb, ltb, eqb, leb→le}
 use borrow.Author.Tests.{leb-true, ltb-true, ltb-false, le-leb, lt-ltb, le-ltb, eqb-true, eqb-false}
 use Rattle.laws.proofs.Every.{each-holds}
 use Rattle.laws.proofs.Entries.{at}
-use Rattle.days.specs.Days.{isLeap, row, sum, daysBefore, dayNumber, yearOf, monthOf, dateOf, realTests, isReal, monthLength, later, next, on}
+use Rattle.laws.specs.Lists.{sum}
+use Rattle.days.specs.Days.{isLeap, row, daysBefore, dayNumber, yearOf, monthOf, dateOf, realTests, isReal, monthLength, later, next, on}
 use Rattle.days.proofs.Calendar.{sum-more, month-le}
 
 -- what the test of a real day says, part by part

@@ -4,6 +4,7 @@ use mathlib.Core.Bool.{Bool, true, false, not, cond, _&&_, _||_}
 use mathlib.Core.List.{List, [], _∷_}
 use lib.ListN.{getD, take}
 use lib.Dec.{leb, ltb, eqb}
+use Rattle.laws.specs.Lists.{sum}
 use Rattle.laws.specs.Tests.{every}
 
 abbrev pub yearOf : ℕ → ℕ
@@ -35,10 +36,6 @@ realTests n =
 
 unfoldable pub isReal : ℕ → Bool
 isReal n = every (realTests n)
-
-abbrev pub sum : List ℕ → ℕ
-sum [] = 0
-sum (x ∷ xs) = x + sum xs
 
 -- the days of the years 0 to y - 1
 abbrev pub daysBefore : ℕ → ℕ

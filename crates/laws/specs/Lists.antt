@@ -9,6 +9,11 @@ unfoldable pub anyOf : (ℕ → Bool) → List ℕ → Bool
 anyOf f [] = false
 anyOf f (x ∷ xs) = f x || anyOf f xs
 
+-- all of them together
+abbrev pub sum : List ℕ → ℕ
+sum [] = 0
+sum (x ∷ xs) = x + sum xs
+
 -- what a test answers at i, i + 1, .., n answers in all
 abbrev pub tabulate : (ℕ → Bool) → ℕ → ℕ → List Bool
 tabulate g i zero = []

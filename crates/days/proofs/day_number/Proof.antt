@@ -7,7 +7,8 @@ use Prim.Native.Nat.{_+_, _-_, _*_, _≤_}
 use mathlib.Core.Path.{_≡_, _∙_}
 use native.Mathlib.Nat.{add-right-comm}
 use lib.ListN.{take}
-use Rattle.days.specs.Days.{row, sum, dayNumber, monthOf}
+use Rattle.laws.specs.Lists.{sum}
+use Rattle.days.specs.Days.{row, dayNumber, monthOf}
 use Rattle.days.proofs.Calendar.{years, sum-more, month-le}
 
 abbrev Inv-loop : tie.InvT-loop
