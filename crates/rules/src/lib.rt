@@ -1,4 +1,4 @@
-// The rules of document 01: which faults a file of bytes has. No function stands here, and no order of discovery: this crate is the
+// The rules of documents 01 and 02: which faults a file has. No function stands here, and no order of discovery: this crate is the
 // statement of checking, to be read from top to bottom, and what a reader of it must believe. It stands on definitions alone: bytes and
 // digits (`text`), days (`days`), headings and their types (`headings`), kinds of lines and layouts of fields (`figures`, `fields`), and
 // how a file is cut (`lines`). Read, under `specs/`:
