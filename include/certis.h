@@ -63,7 +63,7 @@ enum certis_refusal {
     CERTIS_SHORT_REGISTER = 29 /* the target is too short for the register */
 };
 
-/* The rules of document 01, as checking lists them. */
+/* The rules of documents 01 and 02, as checking lists them. */
 enum certis_rule {
     CERTIS_RULE_CHARACTER = 1, /* a line: an inadmissible byte */
     CERTIS_RULE_KIND = 2,      /* none of the kinds of lines, or continues nothing */
@@ -86,9 +86,8 @@ enum certis_rule {
     CERTIS_RULE_NUMBERS = 19,  /* an input number out of order */
     CERTIS_RULE_PRIORITY = 20, /* another priority than the file's first */
     CERTIS_RULE_INTERVAL = 21, /* the 51's IN */
-    CERTIS_RULE_S9 = 22,       /* a 51 with an S9 */
-    CERTIS_RULE_S0 = 30,       /* the 51's S0; 31 to 38 are those of S1 to S8 */
-    CERTIS_RULE_S8 = 38
+    CERTIS_RULE_S0 = 30,       /* the 51's S0; 31 to 39 are those of S1 to S9 */
+    CERTIS_RULE_S9 = 39        /* 22 is no rule any more */
 };
 
 #ifdef __cplusplus
@@ -230,7 +229,7 @@ uint32_t certis_sheet_open(const uint32_t *codes, size_t codes_len,
  *                       on the second sheet
  *   33                  taken from the sender's debit and the other's credit,
  *                       on the second sheet
- *   44 51 55            nothing is posted, and nobody need be listed
+ *   44 51 55 96 97 98   nothing is posted, and nobody need be listed
  *
  * Over any row of postings on a new sheet, refused ones among them, the debits
  * of the first sheet together are the posted additions less the posted

@@ -184,6 +184,7 @@ static void test_long_files(void)
 #define ITEM_11 "HD:11 20240304 0000300 0000001 0000710 0000000 0000000"
 #define ITEM_32 "HD:32 20240304 0000300 0000001 0000710 0000000 0000000"
 #define ITEM_55 "HD:55 20240304 0000300 0000001 0000710 0000000 0000000"
+#define ITEM_96 "HD:96 20240304 0000300 0000001 0000710 0000000 0000000"
 #define KC_100 L("KC:100 20240304")
 
 static void test_both_sides(void)
@@ -195,6 +196,11 @@ static void test_both_sides(void)
     lists("byte 7E", BLOCK(ITEM_11, KC_100 L("AV:\x7E"), "S1:1 100"), 0, "");
     lists("byte 7F", BLOCK(ITEM_11, KC_100 L("AV:\x7F"), "S1:1 100"), 1, "3/1");
     lists("a 55 is in S5 and its 51 is not", BLOCK(ITEM_55, KC_100, "S5:1 100"), 0, "");
+    lists("a 96 is in S9, and its KC may be years ahead", BLOCK(ITEM_96, L("KC:100 20991231"), "S9:1 100"), 0, "");
+    lists("a 96 on a day that is not real", BLOCK(ITEM_96, L("KC:100 20230229"), "S9:1 100"), 1, "2/8");
+    lists("a wrong S9", BLOCK(ITEM_96, KC_100, "S9:1 101"), 1, "3/39");
+    lists("an S9 that does not read", BLOCK(ITEM_96, KC_100, "S9:x"), 1, "5/6");
+    lists("an S9 of nothing", BLOCK(ITEM_11, KC_100, "S1:1 100\r\nS9:0 0"), 0, "");
     lists("a 32 thirty days later", BLOCK(ITEM_32, L("KC:100000000000 20240403"), "S3:1 100000000000"), 0, "");
     lists("a 32 thirty-one days later", BLOCK(ITEM_32, L("KC:100 20240404"), "S3:1 100"), 1, "2/8");
     lists("a 32 over its amount", BLOCK(ITEM_32, L("KC:100000000001 20240304"), "S3:1 100000000001"), 1, "2/9");
@@ -235,6 +241,7 @@ static const char HEADING_35[] = "HD:35 20240304 0000990 0000001 0000300 0000000
 static const char HEADING_01[] = "HD:01 20240304 0000300 0000001 0000710 0000000 0000000";
 static const char HEADING_44[] = "HD:44 20240304 0000300 0000001 0000710 0000000 0000000";
 static const char HEADING_45[] = "HD:45 20240304 0000990 0000001 0000300 0000000 0000710";
+static const char HEADING_96[] = "HD:96 20240304 0000300 0000001 0000710 0000000 0000000";
 static const char HEADING_51[] = "HD:51 20240304 0000300 0000000 0000999 0000000 0000000";
 
 /* Whether the target is as it was but for the given number of lent bytes. */
@@ -312,6 +319,9 @@ static void test_bad_outcomes(void)
     derive_refuses("14: a 12, outcome 2", 14, HEADING_12, 2, 1, 42, HEADING);
     derive_refuses("14: a 35, outcome 5", 14, HEADING_35, 5, 1, 7, HEADING);
     derive_refuses("14: a 44, outcome 6", 14, HEADING_44, 6, 1, 9000001, HEADING);
+    derive_refuses("14: a 96, outcome 1", 14, HEADING_96, 1, 1, 7, HEADING);
+    derive_refuses("13: a 96, outcome 9", 13, HEADING_96, 9, 1, 7, HEADING);
+    derive_refuses("12: a third party's 96", 12, HEADING_96, 1, 2, 7, HEADING);
     derive_refuses("14 before 15", 14, HEADING_12, 2, 1, 0, HEADING);
     derive_refuses("15: number 0", 15, HEADING_12, 6, 1, 0, HEADING);
     derive_refuses("15: a 12, 5000001", 15, HEADING_12, 6, 1, 5000001, HEADING);

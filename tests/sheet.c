@@ -291,8 +291,10 @@ static void test_types(void)
     posts(37, parties, 820, (int64_t[]){ 0, -25, 0, 0, -25, 0, 0, 0 });
     posts(32, two, 0, (int64_t[]){ 0, 0, 0, 25, 0, 0, 25, 0 });
     posts(33, two, 0, (int64_t[]){ 0, 0, -25, 0, 0, 0, 0, -25 });
-    posts(44, NOBODY, 0, (int64_t[]){ 0, 0, 0, 0, 0, 0, 0, 0 });
-    posts(55, NOBODY, 0, (int64_t[]){ 0, 0, 0, 0, 0, 0, 0, 0 });
+    const unsigned silent[] = { 44, 55, 96, 97, 98 };
+    for (size_t i = 0; i < sizeof silent / sizeof *silent; i++) {
+        posts(silent[i], NOBODY, 0, (int64_t[]){ 0, 0, 0, 0, 0, 0, 0, 0 });
+    }
 }
 
 static void test_listed(void)

@@ -30,7 +30,6 @@ static const char *const RULES[] = {
     [19] = "The input number does not follow the one before it, or is zero where it may not be.",
     [20] = "The item is not of the same priority as the file's first item.",
     [21] = "The 51 has no IN, or its IN is not the first and last number of the block's items.",
-    [22] = "The 51 has an S9.",
     [30] = GROUP("0"),
     [31] = GROUP("1"),
     [32] = GROUP("2"),
@@ -40,6 +39,7 @@ static const char *const RULES[] = {
     [36] = GROUP("6"),
     [37] = GROUP("7"),
     [38] = GROUP("8"),
+    [39] = GROUP("9"),
 };
 
 static const char *const REFUSALS[] = {

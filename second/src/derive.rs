@@ -204,6 +204,18 @@ mod tests {
     }
 
     #[test]
+    fn no_entry_for_96_to_98() {
+        for kind in ["96", "97", "98"] {
+            let text = with_type(BILATERAL, kind);
+            for outcome in 1..=7 {
+                assert_eq!(derived(&text, outcome, 1), Err(14), "{kind}");
+            }
+            assert_eq!(derived(&text, 9, 1), Err(13), "{kind}");
+            assert_eq!(tell(text.as_bytes(), 1, THIRD_PARTY), Err(12), "{kind}");
+        }
+    }
+
+    #[test]
     fn standings() {
         let text = with_type(TRILATERAL, "45");
         assert_eq!(tell(text.as_bytes(), 5, THIRD_PARTY), Ok((5, 990)));

@@ -14,7 +14,7 @@ pub enum Reading {
     Account { good: bool },
     /// IN.
     Interval { first: u64, last: u64 },
-    /// S0 to S8.
+    /// S0 to S9.
     Sum { count: u64, sum: u64 },
     /// It reads, or is carried unread, and no rule asks for more.
     Other,
@@ -38,7 +38,7 @@ fn read_value(name: Name, value: &[u8]) -> Option<Reading> {
         b"KC" => amount(value),
         b"EC" | b"AK" | b"ZK" => symbol(value),
         b"IN" => interval(value),
-        [b'S', b'0'..=b'8'] => sum(value),
+        [b'S', b'0'..=b'9'] => sum(value),
         b"UD" | b"UK" => account(value),
         b"DI" | b"KI" | b"ZP" | b"AV" => text(value),
         _ => Some(Reading::Other),
@@ -47,7 +47,7 @@ fn read_value(name: Name, value: &[u8]) -> Option<Reading> {
 
 fn continuations_fit<'a>(name: Name, mut continuations: impl Iterator<Item = &'a [u8]>) -> bool {
     match &name {
-        b"EC" | b"AK" | b"ZK" | b"IN" | [b'S', b'0'..=b'8'] | b"UD" | b"UK" => {
+        b"EC" | b"AK" | b"ZK" | b"IN" | [b'S', b'0'..=b'9'] | b"UD" | b"UK" => {
             continuations.next().is_none()
         }
         b"DI" | b"KI" | b"ZP" | b"AV" => {
@@ -84,7 +84,7 @@ fn interval(value: &[u8]) -> Option<Reading> {
     rest.is_empty().then_some(reading)
 }
 
-/// S0 to S8: the count and the sum of a group.
+/// S0 to S9: the count and the sum of a group.
 fn sum(value: &[u8]) -> Option<Reading> {
     let (count, rest) = digits(value, 1, 7)?;
     let (sum, rest) = digits(space(rest)?, 1, 17)?;
@@ -162,7 +162,7 @@ mod tests {
         assert_eq!(alone(b"S6", "0 0"), Reading::Sum { count: 0, sum: 0 });
         let most = "9999999 99999999999999999";
         let reading = Reading::Sum { count: 9_999_999, sum: 99_999_999_999_999_999 };
-        assert_eq!(alone(b"S8", most), reading);
+        assert_eq!(alone(b"S9", most), reading);
         assert!(breaks(b"S8", "1 123456789012345678") && breaks(b"S0", "12345678 1"));
         assert_eq!(with(b"S1", "1 1", &[""]), Reading::Broken);
     }
@@ -196,7 +196,7 @@ mod tests {
 
     #[test]
     fn reading_12_unread_fields() {
-        assert_eq!(with(b"S9", "nonsense", &["any"; 9]), Reading::Other);
+        assert_eq!(with(b"SA", "nonsense", &["any"; 9]), Reading::Other);
         assert_eq!(alone(b"ID", ""), Reading::Other);
     }
 }

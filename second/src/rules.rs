@@ -178,7 +178,7 @@ fn rule15(file: &File, item: &Item, heading: &Heading) -> bool {
     types::is_payment(heading.kind) && file.first_field(item, b"KC").is_none()
 }
 
-// Blocks: rules 16 to 22 and 30 to 38.
+// Blocks: rules 16 to 21 and 30 to 39.
 
 fn judge_blocks(file: &File, faults: &mut Faults) {
     let file_class = class_of_file(file);
@@ -232,11 +232,10 @@ fn rule20(heading: &Heading, file_class: Option<bool>) -> bool {
     types::is_payment(heading.kind) && file_class != Some(types::is_priority(heading.kind))
 }
 
-/// Rules 21, 22 and 30 to 38, at the 51 that closes a block; `others` are the
+/// Rules 21 and 30 to 39, at the 51 that closes a block; `others` are the
 /// block's other readable headings.
 fn judge_control(file: &File, control: &Item, others: &[Readable], faults: &mut Faults) {
     faults.mark(control.line, 21, rule21(file, control, others));
-    faults.mark(control.line, 22, file.first_field(control, b"S9").is_some());
     for (group, total) in (0..).zip(totals(file, others)) {
         faults.mark(control.line, 30 + group, rule30(file, control, group, total));
     }
@@ -266,8 +265,8 @@ struct Total {
 
 /// Payments whose first KC reads, by the tens digit of their type. Amounts are
 /// added as they stand, those of 13 and 37 too.
-fn totals(file: &File, others: &[Readable]) -> [Total; 9] {
-    let mut totals = [Total::default(); 9];
+fn totals(file: &File, others: &[Readable]) -> [Total; 10] {
+    let mut totals = [Total::default(); 10];
     for (item, heading) in others.iter().filter(|other| types::is_payment(other.1.kind)) {
         let reading = file.first_field(item, b"KC").map(|field| field.reading);
         if let Some(Reading::Amount { amount, .. }) = reading {
@@ -279,7 +278,7 @@ fn totals(file: &File, others: &[Readable]) -> [Total; 9] {
     totals
 }
 
-/// Rules 30 to 38: the first Sd reads and isn't the total; absent means 0 and 0.
+/// Rules 30 to 39: the first Sd reads and isn't the total; absent means 0 and 0.
 fn rule30(file: &File, control: &Item, group: u32, total: Total) -> bool {
     let name = [b'S', b'0' + group as u8];
     match file.first_field(control, &name).map(|field| field.reading) {

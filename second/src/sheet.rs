@@ -264,7 +264,7 @@ mod tests {
         assert_eq!(posts(37, 300), Ok(vec![-25, 0, 0, 0, 0, -25, 0, 0]));
         assert_eq!(posts(32, 0), Ok(vec![0, 0, 0, 25, 0, 0, 25, 0]));
         assert_eq!(posts(33, 0), Ok(vec![0, 0, -25, 0, 0, 0, 0, -25]));
-        for kind in [44, 55] {
+        for kind in [44, 55, 96, 97, 98] {
             assert_eq!(posts(kind, 0), Ok(vec![0; 8]));
         }
     }
@@ -290,6 +290,7 @@ mod tests {
         assert_eq!(after(&[], &[300], &file(300, &[(33, 999, 0, 0)]), 300), Err(21));
         assert_eq!(after(&[], &[300], &file(300, &[(11, 10_300, 0, 1)]), 300), Err(21));
         assert_eq!(after(&[], &[], &file(300, &[(55, 710, 0, 1)]), 300), Ok(vec![]));
+        assert_eq!(after(&[], &[], &file(300, &[(98, 710, 0, 1)]), 300), Ok(vec![]));
     }
 
     #[test]

@@ -3,13 +3,13 @@
 /// The control item that closes a block.
 pub const CONTROL: u32 = 51;
 
-const INPUT: [u32; 14] = [1, 11, 12, 13, 14, 21, 32, 33, 35, 37, 44, 45, 51, 55];
+const INPUT: [u32; 17] = [1, 11, 12, 13, 14, 21, 32, 33, 35, 37, 44, 45, 51, 55, 96, 97, 98];
 
 pub fn is_input(kind: u32) -> bool {
     INPUT.contains(&kind)
 }
 
-/// The types that rules 8, 9, 15, 20 and 30 to 38 speak of.
+/// The types that rules 8, 9, 15, 20 and 30 to 39 speak of.
 pub fn is_payment(kind: u32) -> bool {
     is_input(kind) && kind != CONTROL
 }

@@ -35,8 +35,8 @@ use Rattle.rules.specs.BlockRules.{skips, unlike, spanWrong, misstated, statedI
 use Rattle.rules.specs.Spots.{ownTests, blockTests}
 use Rattle.blocks.specs.Model.{basisOf, breaks8, breaks11, ownMarks, breaks18, skipsTo, breaks20, breaks21, tellsCapped, misstatedCapped, groupBreaks, groupMarks, openMarks, closingMarks, countCap, sumCap}
 use Rattle.account.specs.Model.{plusAt, countsAfter, sumsAfter, kcBlock, headingBlock, touchedBlock, emptyBlock, readBlock, readMarks, closeAt, closeModel}
-use Rattle.account.specs.Summary.{priorityFirst, dayFirst, numberFirst, numberLast, nine, summary, marksBy}
-use Rattle.account.proofs.Nine.{cap-cap, get-nine, set-nine, same-nine}
+use Rattle.account.specs.Summary.{priorityFirst, dayFirst, numberFirst, numberLast, ten, summary, marksBy}
+use Rattle.account.proofs.Ten.{cap-cap, get-ten, set-ten, same-ten}
 
 -- ---- the accounting day, reckoned once; `same-eight` is what `breaks_eight` says
 not-past : (n days : ℕ) → ltb (n + days) n ≡ false
@@ -98,7 +98,7 @@ Within NoSum = Unit {0}
 Within BrokenSum = Unit {0}
 Within (Says c s) = (c < countCap) × (s .0 < sumCap)
 
--- each of the nine does
+-- each of the ten does
 abbrev pub AllWithin : Sums → Type 0
 AllWithin stated = (d : ℕ) → Within (statedIn (stated .groups) d)
 
@@ -162,45 +162,45 @@ module _ (cap a inc : ℕ) (μ : List ℕ → ℕ) (law : (ns : List ℕ) → μ
   abbrev will : ℕ → ℕ → ℕ
   will t d = min cap (μ (cond (eqb t d) (a ∷ amounts d is) (amounts d is)))
 
-  there : (t : ℕ) → t < 9 → will t t ≡ min cap (getD (nine was) t 0 + inc)
-  there t l = rw (eq-eqb t t refl, law (amounts t is), get-nine was t l) (sym (cap-cap cap (μ (amounts t is)) inc))
+  there : (t : ℕ) → t < 10 → will t t ≡ min cap (getD (ten was) t 0 + inc)
+  there t l = rw (eq-eqb t t refl, law (amounts t is), get-ten was t l) (sym (cap-cap cap (μ (amounts t is)) inc))
 
   elsewhere : (t d : ℕ) → (d ≡ t → ⊥) → was d ≡ will t d
   elsewhere t d h = rw (ne-eqb t d (λ e. h (sym e)))
 
-  plus-nine : (t : ℕ) → plusAt cap (nine was) t inc ≡ nine (will t)
+  plus-ten : (t : ℕ) → plusAt cap (ten was) t inc ≡ ten (will t)
   unfolding plusAt
-  plus-nine t = go (ltb t 9) refl
+  plus-ten t = go (ltb t 10) refl
     where
-      go : (p : Bool) → ltb t 9 ≡ p → cond p (set (nine was) t (min cap (getD (nine was) t 0 + inc))) (nine was) ≡ nine (will t)
-      go true e = set-nine was (will t) t _ (ltb-true t 9 e) (there t (ltb-true t 9 e)) (elsewhere t)
-      go false e = let h : 9 ≤ t = ltb-false t 9 e in same-nine was (will t) (λ d l. elsewhere t d (λ q. omega arith))
+      go : (p : Bool) → ltb t 10 ≡ p → cond p (set (ten was) t (min cap (getD (ten was) t 0 + inc))) (ten was) ≡ ten (will t)
+      go true e = set-ten was (will t) t _ (ltb-true t 10 e) (there t (ltb-true t 10 e)) (elsewhere t)
+      go false e = let h : 10 ≤ t = ltb-false t 10 e in same-ten was (will t) (λ d l. elsewhere t d (λ q. omega arith))
 
-  amount-nine : (t : ℕ) (p : Bool)
-      → cond p (plusAt cap (nine was) t inc) (nine was) ≡ nine (λ d. min cap (μ (cond (p && eqb t d) (a ∷ amounts d is) (amounts d is))))
-  amount-nine t true = plus-nine t
-  amount-nine t false = refl
+  amount-ten : (t : ℕ) (p : Bool)
+      → cond p (plusAt cap (ten was) t inc) (ten was) ≡ ten (λ d. min cap (μ (cond (p && eqb t d) (a ∷ amounts d is) (amounts d is))))
+  amount-ten t true = plus-ten t
+  amount-ten t false = refl
 
 same-counts : (is : List Digest) (k : ℕ) (kc : FirstKc)
-    → countsAfter (nine (λ d. min countCap (length (amounts d is)))) k kc
-    ≡ nine (λ d. min countCap (length (withAmount kc (isPayment k && eqb (groupOf k) d) (amounts d is))))
+    → countsAfter (ten (λ d. min countCap (length (amounts d is)))) k kc
+    ≡ ten (λ d. min countCap (length (withAmount kc (isPayment k && eqb (groupOf k) d) (amounts d is))))
 unfolding countsAfter
 same-counts is k NoKc = refl
 same-counts is k BrokenKc = refl
-same-counts is k (Pays a day) = amount-nine countCap (a .0) 1 length (λ ns. omega arith) is (groupOf k) (isPayment k)
+same-counts is k (Pays a day) = amount-ten countCap (a .0) 1 length (λ ns. omega arith) is (groupOf k) (isPayment k)
 
 same-sums : (is : List Digest) (k : ℕ) (kc : FirstKc)
-    → sumsAfter (nine (λ d. min sumCap (sum (amounts d is)))) k kc
-    ≡ nine (λ d. min sumCap (sum (withAmount kc (isPayment k && eqb (groupOf k) d) (amounts d is))))
+    → sumsAfter (ten (λ d. min sumCap (sum (amounts d is)))) k kc
+    ≡ ten (λ d. min sumCap (sum (withAmount kc (isPayment k && eqb (groupOf k) d) (amounts d is))))
 unfolding sumsAfter
 same-sums is k NoKc = refl
 same-sums is k BrokenKc = refl
-same-sums is k (Pays a day) = amount-nine sumCap (a .0) (a .0) sum (λ ns. omega arith) is (groupOf k) (isPayment k)
+same-sums is k (Pays a day) = amount-ten sumCap (a .0) (a .0) sum (λ ns. omega arith) is (groupOf k) (isPayment k)
 
 -- ---- the account after an item, and its marks
-module _ (terms : Terms) (above : List Digest) (kc : FirstKc) (span : FirstIn) (sums : Sums) (s9 : Bool) (within : AllWithin sums) where
+module _ (terms : Terms) (above : List Digest) (kc : FirstKc) (span : FirstIn) (sums : Sums) (within : AllWithin sums) where
   abbrev item : Read → Digest
-  item hd = record { head = hd; kc = kc; span = span; sums = sums; s9 = s9 }
+  item hd = record { head = hd; kc = kc; span = span; sums = sums }
 
   abbrev blk : List Digest
   blk = blockAbove above
@@ -247,7 +247,7 @@ module _ (terms : Terms) (above : List Digest) (kc : FirstKc) (span : FirstIn) (
       (omega arith)
 
   marks-closing : (d : ℕ) (f : Code) (n : ItemNo) (s : Code) (o : ItemNo) (t : Code)
-      → ownMarks (basisOf terms) (closing d f n s o t) kc + closingMarks (summary above) (closing d f n s o t) span s9 sums
+      → ownMarks (basisOf terms) (closing d f n s o t) kc + closingMarks (summary above) (closing d f n s o t) span sums
       ≡ marksBy terms above (item (Reads (closing d f n s o t))) (Reads (closing d f n s o t))
   unfolding closingMarks groupMarks groupBreaks ownTests blockTests summary isPayment isInput
   marks-closing d f n s o t =
@@ -266,6 +266,7 @@ module _ (terms : Terms) (above : List Digest) (kc : FirstKc) (span : FirstIn) (
         group 6,
         group 7,
         group 8,
+        group 9,
       )
       (omega arith)
     where
@@ -279,7 +280,7 @@ module _ (terms : Terms) (above : List Digest) (kc : FirstKc) (span : FirstIn) (
       closeAt (basisOf terms) (summary above) (item hd) hd
       ≡ record { block = summary (item hd ∷ above); marks = marksBy terms above (item hd) hd }
 
-  block-unreadable : (k : FirstKc) → touchedBlock (summary above) ≡ summary (record { head = Unreadable; kc = k; span = span; sums = sums; s9 = s9 } ∷ above)
+  block-unreadable : (k : FirstKc) → touchedBlock (summary above) ≡ summary (record { head = Unreadable; kc = k; span = span; sums = sums } ∷ above)
   unfolding touchedBlock summary
   block-unreadable NoKc = refl
   block-unreadable BrokenKc = refl
@@ -312,4 +313,4 @@ module _ (terms : Terms) (above : List Digest) (kc : FirstKc) (span : FirstIn) (
 -- the theorem: from the account of the items above, the step makes the account with the item, and the marks that the rules say
 pub account : (terms : Terms) (above : List Digest) (it : Digest) → AllWithin (it .sums)
     → closeModel (basisOf terms) (summary above) it ≡ record { block = summary (it ∷ above); marks = marksBy terms above it (it .head) }
-account terms above it within = holds terms above (it .kc) (it .span) (it .sums) (it .s9) within (it .head)
+account terms above it within = holds terms above (it .kc) (it .span) (it .sums) within (it .head)

@@ -1,2 +1,2 @@
-mod Nine
+mod Ten
 pub mod Accounting

@@ -17,7 +17,7 @@ use Rattle.blocks.specs.Model.{countCap, sumCap, ownMarks, openMarks, closingMa
 use Rattle.account.specs.declared.Accounted.{Accounted}
 
 unfoldable pub plusAt : ℕ → List ℕ → ℕ → ℕ → List ℕ
-plusAt cap xs d a = cond (ltb d 9) (set xs d (min cap (getD xs d 0 + a))) xs
+plusAt cap xs d a = cond (ltb d 10) (set xs d (min cap (getD xs d 0 + a))) xs
 
 -- an amount more
 unfoldable pub amountBlock : Block → ℕ → ℕ → Block
@@ -100,8 +100,8 @@ emptyBlock classed priority =
       day = 0;
       first = record { 0 = 0 };
       last = record { 0 = 0 };
-      counts = replicate 9 0;
-      sums = replicate 9 0;
+      counts = replicate 10 0;
+      sums = replicate 10 0;
     }
 
 unfoldable pub readBlock : Block → Heading → FirstKc → Block
@@ -109,7 +109,7 @@ readBlock b h kc = cond (isClosing (h .kind)) (emptyBlock (b .classed) (b .prior
 
 unfoldable pub readMarks : Basis → Block → Digest → Heading → ℕ
 readMarks j b it h =
-    ownMarks j h (it .kc) + cond (isClosing (h .kind)) (closingMarks b h (it .span) (it .s9) (it .sums)) (openMarks b h)
+    ownMarks j h (it .kc) + cond (isClosing (h .kind)) (closingMarks b h (it .span) (it .sums)) (openMarks b h)
 
 unfoldable pub closeAt : Basis → Block → Digest → Read → Accounted
 closeAt j b it (Reads h) = record { block = readBlock b h (it .kc); marks = readMarks j b it h }

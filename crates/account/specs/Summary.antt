@@ -33,8 +33,8 @@ numberLast [] = record { 0 = 0 }
 numberLast (h ∷ hs) = h .number
 
 -- an entry for each group
-abbrev pub nine : (ℕ → ℕ) → List ℕ
-nine f = f 0 ∷ f 1 ∷ f 2 ∷ f 3 ∷ f 4 ∷ f 5 ∷ f 6 ∷ f 7 ∷ f 8 ∷ []
+abbrev pub ten : (ℕ → ℕ) → List ℕ
+ten f = f 0 ∷ f 1 ∷ f 2 ∷ f 3 ∷ f 4 ∷ f 5 ∷ f 6 ∷ f 7 ∷ f 8 ∷ f 9 ∷ []
 
 -- of the types of the payments above, the items of the block above, and their readable headings
 abbrev pub blockOf : List ℕ → List Digest → List Heading → Block
@@ -47,15 +47,15 @@ blockOf ts is hs =
       day = dayFirst hs;
       first = numberFirst hs;
       last = numberLast hs;
-      counts = nine (λ d. min countCap (length (amounts d is)));
-      sums = nine (λ d. min sumCap (sum (amounts d is)));
+      counts = ten (λ d. min countCap (length (amounts d is)));
+      sums = ten (λ d. min sumCap (sum (amounts d is)));
     }
 
 -- the account after the items `above`
 unfoldable pub summary : List Digest → Block
 summary above = blockOf (payments (readable above)) (blockAbove above) (readable (blockAbove above))
 
--- the marks of 10 to 15, 17 to 22 and 30 to 38 at an item's heading, as one set: what the account is to give. 16 is not one: it needs the
+-- the marks of 10 to 15, 17 to 21 and 30 to 39 at an item's heading, as one set: what the account is to give. 16 is not one: it needs the
 -- items below
 abbrev pub marksBy : Terms → List Digest → Digest → Read → ℕ
 marksBy terms above it hd = setOf (ownTests terms it hd ++ blockTests above it hd)

@@ -45,7 +45,7 @@ fn with_amount(b: Block, kind: u32, amount: u64) -> Block
     ensures { λ r. ⌜ r ≡ amountBlock b kind amount ⌝ }
 {
     let d = (kind / 10) as usize;
-    if d < 9 {
+    if d < 10 {
         let mut next = b;
         next.counts[d] = capped(10000000, b.counts[d], 1);
         next.sums[d] = capped(100000000000000000, b.sums[d], amount);
@@ -129,8 +129,8 @@ fn no_block(classed: bool, priority: bool) -> Block
         day: 0,
         first: ItemNo(0),
         last: ItemNo(0),
-        counts: [0u64; 9],
-        sums: [0u64; 9],
+        counts: [0u64; 10],
+        sums: [0u64; 10],
     }
 }
 
@@ -145,14 +145,14 @@ fn read_block(b: Block, h: Heading, kc: FirstKc) -> Block
 }
 
 fn read_marks(basis: Basis, b: Block, it: Digest, h: Heading) -> u64
-    ensures { λ r. ⌜ (r ≡ readMarks basis b it h) × (r < 2 ^ 39) ⌝ }
+    ensures { λ r. ⌜ (r ≡ readMarks basis b it h) × (r < 2 ^ 40) ⌝ }
 {
     let kc = it.kc;
     let span = it.span;
     let stated = it.sums;
     let own = own_marks(basis, h, kc);
     if h.kind == 51 {
-        own + closing_marks(b, h, span, it.s9, stated)
+        own + closing_marks(b, h, span, stated)
     } else {
         own + open_marks(b, h)
     }
@@ -160,7 +160,7 @@ fn read_marks(basis: Basis, b: Block, it: Digest, h: Heading) -> u64
 
 // An item is closed, by value.
 pub fn close_item(b: Block, it: Digest, basis: Basis) -> Accounted
-    ensures { λ r. ⌜ (r ≡ closeModel basis b it) × (r .marks < 2 ^ 39) ⌝ }
+    ensures { λ r. ⌜ (r ≡ closeModel basis b it) × (r .marks < 2 ^ 40) ⌝ }
 {
     let head = it.head;
     let kc = it.kc;

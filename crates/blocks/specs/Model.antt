@@ -102,17 +102,16 @@ groupMarks counts sums groups =
     + mark 32 (groupBreaks counts sums groups 2) + mark 33 (groupBreaks counts sums groups 3)
     + mark 34 (groupBreaks counts sums groups 4) + mark 35 (groupBreaks counts sums groups 5)
     + mark 36 (groupBreaks counts sums groups 6) + mark 37 (groupBreaks counts sums groups 7)
-    + mark 38 (groupBreaks counts sums groups 8)
+    + mark 38 (groupBreaks counts sums groups 8) + mark 39 (groupBreaks counts sums groups 9)
 
 unfoldable pub openMarks : Block → Heading → ℕ
 openMarks b h =
     mark 18 (breaks18 (b .some) (b .day) (h .day)) + mark 19 (breaks19 (b .some) (b .last) (h .number))
     + mark 20 (breaks20 (b .classed) (b .priority) (h .kind))
 
-unfoldable pub closingMarks : Block → Heading → FirstIn → Bool → Sums → ℕ
-closingMarks b h span s9 stated =
+unfoldable pub closingMarks : Block → Heading → FirstIn → Sums → ℕ
+closingMarks b h span stated =
     mark 17 (not (b .any)) + mark 18 (breaks18 (b .some) (b .day) (h .day))
     + mark 19 (breaks19Closing (b .some) (b .last) (h .number))
     + mark 21 (breaks21 (b .some) (b .first) (b .last) span)
-    + mark 22 s9
     + groupMarks (b .counts) (b .sums) (stated .groups)

@@ -6,7 +6,6 @@ use crate::marks::MARK_18;
 use crate::marks::MARK_19;
 use crate::marks::MARK_20;
 use crate::marks::MARK_21;
-use crate::marks::MARK_22;
 use crate::marks::flag;
 use headings::Heading;
 use headings::ItemNo;
@@ -83,9 +82,9 @@ pub fn open_marks(b: Block, h: Heading) -> u64
         + flag(breaks_twenty(b.classed, b.priority, h.kind), MARK_20)
 }
 
-// The marks of 17 to 22 and 30 to 38 at a 51.
-pub fn closing_marks(b: Block, h: Heading, span: FirstIn, s9: bool, stated: Sums) -> u64
-    ensures { λ r. ⌜ (r ≡ closingMarks b h span s9 stated) × (r ≤ 2 ^ 39 - 2 ^ 16) ⌝ }
+// The marks of 17 to 21 and 30 to 39 at a 51.
+pub fn closing_marks(b: Block, h: Heading, span: FirstIn, stated: Sums) -> u64
+    ensures { λ r. ⌜ (r ≡ closingMarks b h span stated) × (r ≤ 2 ^ 40 - 2 ^ 16) ⌝ }
 {
     let counts = b.counts;
     let sums = b.sums;
@@ -94,6 +93,5 @@ pub fn closing_marks(b: Block, h: Heading, span: FirstIn, s9: bool, stated: Sums
         + flag(breaks_eighteen(b.some, b.day, h.day), MARK_18)
         + flag(breaks_nineteen_closing(b.some, b.last, h.number), MARK_19)
         + flag(breaks_twenty_one(b.some, b.first, b.last, span), MARK_21)
-        + flag(s9, MARK_22)
         + group_marks(counts, sums, groups)
 }

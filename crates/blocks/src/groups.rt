@@ -1,4 +1,4 @@
-// The nine groups: what a 51 states of each against what the account has.
+// The ten groups: what a 51 states of each against what the account has.
 use crate::marks::MARK_30;
 use crate::marks::MARK_31;
 use crate::marks::MARK_32;
@@ -8,6 +8,7 @@ use crate::marks::MARK_35;
 use crate::marks::MARK_36;
 use crate::marks::MARK_37;
 use crate::marks::MARK_38;
+use crate::marks::MARK_39;
 use crate::marks::flag;
 use rules::FirstSum;
 use rules::Sum;
@@ -32,8 +33,8 @@ fn misstates(count: u64, sum: u64, stated: FirstSum) -> bool
     }
 }
 
-fn group_breaks(counts: [u64; 9], sums: [u64; 9], groups: [Sum; 9], d: usize) -> bool
-    requires { ⌜ d < 9 ⌝ }
+fn group_breaks(counts: [u64; 10], sums: [u64; 10], groups: [Sum; 10], d: usize) -> bool
+    requires { ⌜ d < 10 ⌝ }
     ensures { λ r. ⌜ r ≡ groupBreaks counts sums groups d ⌝ }
 {
     let group = groups[d];
@@ -41,16 +42,16 @@ fn group_breaks(counts: [u64; 9], sums: [u64; 9], groups: [Sum; 9], d: usize) ->
     misstates(counts[d], sums[d], stated)
 }
 
-fn group_mark(counts: [u64; 9], sums: [u64; 9], groups: [Sum; 9], d: usize, mark: u64) -> u64
-    requires { ⌜ d < 9 ⌝ }
+fn group_mark(counts: [u64; 10], sums: [u64; 10], groups: [Sum; 10], d: usize, mark: u64) -> u64
+    requires { ⌜ d < 10 ⌝ }
     ensures { λ r. ⌜ (r ≡ cond (groupBreaks counts sums groups d) mark 0) × (r ≤ mark) ⌝ }
 {
     flag(group_breaks(counts, sums, groups, d), mark)
 }
 
-// The marks of 30 to 38.
-pub fn group_marks(counts: [u64; 9], sums: [u64; 9], groups: [Sum; 9]) -> u64
-    ensures { λ r. ⌜ (r ≡ groupMarks counts sums groups) × (r ≤ 2 ^ 39 - 2 ^ 30) ⌝ }
+// The marks of 30 to 39.
+pub fn group_marks(counts: [u64; 10], sums: [u64; 10], groups: [Sum; 10]) -> u64
+    ensures { λ r. ⌜ (r ≡ groupMarks counts sums groups) × (r ≤ 2 ^ 40 - 2 ^ 30) ⌝ }
 {
     group_mark(counts, sums, groups, 0, MARK_30)
         + group_mark(counts, sums, groups, 1, MARK_31)
@@ -61,6 +62,7 @@ pub fn group_marks(counts: [u64; 9], sums: [u64; 9], groups: [Sum; 9]) -> u64
         + group_mark(counts, sums, groups, 6, MARK_36)
         + group_mark(counts, sums, groups, 7, MARK_37)
         + group_mark(counts, sums, groups, 8, MARK_38)
+        + group_mark(counts, sums, groups, 9, MARK_39)
 }
 
 // The sum, up to the cap.

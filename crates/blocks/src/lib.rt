@@ -1,4 +1,4 @@
-// The rules at a heading (10 to 22 and 30 to 38, 16 left to the pass), and 8 and 9 at an item's first KC, as functions: those of blocks are
+// The rules at a heading (10 to 21 and 30 to 39, 16 left to the pass), and 8 and 9 at an item's first KC, as functions: those of blocks are
 // asked of the running account of the open block, and the theorem `account` says that this is only a way to compute them (the crate
 // `account` keeps it). Each promises its result by a definition of specs/Model.antt, for every input; counts and sums stop at a cap, so
 // nothing overflows.
@@ -30,6 +30,6 @@ pub struct Block {
     pub day: u32,
     pub first: ItemNo,
     pub last: ItemNo,
-    pub counts: [u64; 9],
-    pub sums: [u64; 9],
+    pub counts: [u64; 10],
+    pub sums: [u64; 10],
 }

@@ -46,8 +46,6 @@ pub const MARK_20: u64 = 1 << 20;
 
 pub const MARK_21: u64 = 1 << 21;
 
-pub const MARK_22: u64 = 1 << 22;
-
 pub const MARK_30: u64 = 1 << 30;
 
 pub const MARK_31: u64 = 1 << 31;
@@ -65,6 +63,8 @@ pub const MARK_36: u64 = 1 << 36;
 pub const MARK_37: u64 = 1 << 37;
 
 pub const MARK_38: u64 = 1 << 38;
+
+pub const MARK_39: u64 = 1 << 39;
 
 // A rule's mark, where the rule is broken.
 pub fn flag(broken: bool, mark: u64) -> u64

@@ -1,5 +1,5 @@
 // Runs items with faults of every kind through the account, and prints the rules that each item breaks, at its heading or at its
-// first KC. What is right stands in `stdout`, reasoned by hand from document 01. Submitter 300, accounting day 4 March 2024.
+// first KC. What is right stands in `stdout`, reasoned by hand from documents 01 and 02. Submitter 300, accounting day 4 March 2024.
 use blocks::Basis;
 use blocks::Block;
 use headings::Amount;
@@ -53,13 +53,13 @@ fn no_sums() -> Sums {
     Sums {
         groups: [Sum {
             stated: FirstSum::NoSum,
-        }; 9],
+        }; 10],
     }
 }
 
 fn with_sum(s: Sums, d: usize, stated: FirstSum) -> Sums {
     let mut next = s;
-    if d < 9 {
+    if d < 10 {
         next.groups[d] = Sum { stated: stated };
     }
     next
@@ -75,7 +75,6 @@ fn of_head(head: Read, kc: FirstKc) -> Digest {
         kc: kc,
         span: FirstIn::NoIn,
         sums: no_sums(),
-        s9: false,
     }
 }
 
@@ -88,13 +87,12 @@ fn payment(h: Heading) -> Digest {
     item(h, paid(100, 20240304))
 }
 
-fn closing(h: Heading, span: FirstIn, sums: Sums, s9: bool) -> Digest {
+fn closing(h: Heading, span: FirstIn, sums: Sums) -> Digest {
     Digest {
         head: Read::Reads(h),
         kc: paid(999, 20240304),
         span: span,
         sums: sums,
-        s9: s9,
     }
 }
 
@@ -125,7 +123,7 @@ fn kc_marks(basis: Basis, head: Read, kc: FirstKc) -> u64 {
 
 fn print_rules(marks: u64) {
     let mut left = marks;
-    for r in 0..39 {
+    for r in 0..40 {
         if left % 2 == 1 {
             io::write_all(1, b" ");
             io::print_decimal(1, r);
@@ -155,12 +153,7 @@ fn clean(basis: Basis, start: Block) -> Block {
     b = tell(basis, b, 3, of_head(Read::Unreadable, paid(7, 20240304)));
     b = tell(basis, b, 4, payment(with_parts(37, 3, 300, 710, 0, 555)));
     let sums = says(says(no_sums(), 1, 2, 15000), 3, 1, 100);
-    tell(
-        basis,
-        b,
-        5,
-        closing(heading(51, 0), runs(1, 3), sums, false),
-    )
+    tell(basis, b, 5, closing(heading(51, 0), runs(1, 3), sums))
 }
 
 // The rules of one heading, and 18 to 20 at headings that are no 51.
@@ -193,7 +186,7 @@ fn more_headings(basis: Basis, start: Block) -> Block {
         basis,
         b,
         22,
-        closing(heading(51, 3), FirstIn::BrokenIn, sums, true),
+        closing(heading(51, 3), FirstIn::BrokenIn, sums),
     )
 }
 
@@ -203,18 +196,13 @@ fn alone(basis: Basis, start: Block) -> Block {
         basis,
         start,
         23,
-        closing(heading(51, 7), FirstIn::NoIn, no_sums(), false),
+        closing(heading(51, 7), FirstIn::NoIn, no_sums()),
     );
     b = tell(basis, b, 24, of_head(Read::Unreadable, FirstKc::NoKc));
-    tell(
-        basis,
-        b,
-        25,
-        closing(heading(51, 5), runs(4, 9), no_sums(), false),
-    )
+    tell(basis, b, 25, closing(heading(51, 5), runs(4, 9), no_sums()))
 }
 
-// Each group, and a 51 that states all nine wrong.
+// Each group, and a 51 that states all ten wrong.
 fn groups(basis: Basis, start: Block) -> Block {
     let mut b = tell(basis, start, 26, payment(heading(1, 1)));
     b = tell(basis, b, 27, payment(heading(12, 2)));
@@ -222,13 +210,13 @@ fn groups(basis: Basis, start: Block) -> Block {
     b = tell(basis, b, 29, payment(heading(32, 4)));
     b = tell(basis, b, 30, payment(heading(44, 5)));
     b = tell(basis, b, 31, payment(heading(55, 6)));
-    let sums = says(says(says(no_sums(), 6, 1, 1), 7, 0, 1), 8, 1, 0);
-    tell(
-        basis,
-        b,
-        32,
-        closing(heading(51, 9), runs(1, 5), sums, false),
-    )
+    let sums = says(
+        says(says(says(no_sums(), 6, 1, 1), 7, 0, 1), 8, 1, 0),
+        9,
+        1,
+        0,
+    );
+    tell(basis, b, 32, closing(heading(51, 9), runs(1, 5), sums))
 }
 
 // Rules 8 and 9; a 51 of another day, whose own KC is no part of S5.
@@ -259,8 +247,22 @@ fn days_and_amounts(basis: Basis, start: Block) -> Block {
         basis,
         b,
         39,
-        closing(on_day(51, 0, 20240301), runs(1, 6), sums, false),
+        closing(on_day(51, 0, 20240301), runs(1, 6), sums),
     )
+}
+
+// Types 96, 97 and 98: any real day, two codes, and one group for the three.
+fn nineties(basis: Basis, start: Block) -> Block {
+    let mut b = tell(basis, start, 42, payment(heading(96, 4)));
+    b = tell(basis, b, 43, item(heading(97, 5), paid(5, 20991231)));
+    b = tell(
+        basis,
+        b,
+        44,
+        item(with_parts(98, 6, 300, 710, 0, 5), paid(5, 20230229)),
+    );
+    let sums = says(says(no_sums(), 1, 2, 200), 9, 3, 110);
+    tell(basis, b, 45, closing(heading(51, 0), runs(1, 6), sums))
 }
 
 fn main() {
@@ -272,5 +274,6 @@ fn main() {
     b = groups(basis, b);
     b = days_and_amounts(basis, b);
     b = tell(basis, b, 40, payment(heading(11, 1)));
-    tell(basis, b, 41, payment(heading(11, 3)));
+    b = tell(basis, b, 41, payment(heading(11, 3)));
+    nineties(basis, b);
 }

@@ -3,10 +3,31 @@ use mathlib.Core.Path.{_≡_, refl}
 use mathlib.Core.Bool.{true}
 use Rattle.laws.specs.Tests.{every}
 use Rattle.laws.specs.Lists.{anyOf}
-use Rattle.days.specs.Days.{isLeap, row, monthLength, isReal}
-use Rattle.lines.specs.Lines.{behindMark}
+use Rattle.text.specs.Characters.{isAdmissible}
+use Rattle.text.specs.Digits.{valueAfter, digits}
+use Rattle.text.specs.Strings.{begins}
+use Rattle.text.specs.Forms.{template, hasForm, numbers, formText}
+use Rattle.days.specs.Days.{isLeap, row, monthLength, isReal, dayNumber}
+use Rattle.headings.specs.ItemTypes.{isInput, isTrilateral, isPriority, isPayment}
+use Rattle.headings.specs.HeadRules.{rule10, rule13, rule14}
+use Rattle.headings.specs.Reading.{headingOf}
+use Rattle.headings.specs.Writing.{headingText}
+use Rattle.outcomes.specs.Outcomes.{outgoing, codes, inClass}
+use Rattle.outcomes.specs.Deriving.{barred, barredTo, turned, tellRefusals, outgoingKind, recipient, numberRefusals, deriveRefusals, derivedTarget}
+use Rattle.figures.specs.Layouts.{run, isEmpty, headIs, fits, part}
+use Rattle.figures.specs.Accounts.{weight, weighed, passes, accountHolds, accountOf}
+use Rattle.fields.specs.Kinds.{place, kindOf}
+use Rattle.fields.specs.Classes.{classOf, sumGroup}
+use Rattle.fields.specs.Readings.{textOf, readingOf}
+use Rattle.fields.specs.Tails.{takes, reads, saysOf}
+use Rattle.lines.specs.Lines.{behindMark, body, crlf, onto, lines}
+use Rattle.rules.specs.Faults.{faultsOf, faultsIn, faults}
+use Rattle.rules.specs.Rows.{sorted, rowsFrom}
+use Rattle.rules.specs.LineRules.{rule1}
+use Rattle.rules.specs.Said.{continuations, says, stands, continued, headOf, firstSaid, digest}
+use Rattle.rules.specs.Spots.{fieldTests, ownTests, blockTests, headTests, fieldSpot}
 use Rattle.cases.specs.Requested.{requested}
 
 pub every-requested : every requested ≡ true
-unfolding anyOf isLeap row monthLength isReal behindMark
+unfolding anyOf isAdmissible valueAfter digits isLeap row monthLength isReal dayNumber begins template hasForm numbers formText isInput isTrilateral isPriority isPayment rule10 rule13 rule14 headingOf headingText outgoing codes inClass barred barredTo turned tellRefusals outgoingKind recipient numberRefusals deriveRefusals derivedTarget run isEmpty headIs fits part place kindOf classOf sumGroup weight weighed passes accountHolds accountOf textOf readingOf takes reads saysOf body crlf onto lines faultsOf sorted rowsFrom rule1 continuations says stands fieldTests continued headOf firstSaid digest ownTests blockTests headTests fieldSpot faultsIn faults behindMark
 every-requested = refl

@@ -1,4 +1,4 @@
--- A file for each rule of document 01, with all its faults: the rule is broken, and no other is. In each the submitter is 300, and the
+-- A file for each rule of documents 01 and 02, with all its faults: the rule is broken, and no other is. In each the submitter is 300, and the
 -- accounting day 4 March 2024.
 use Prim.Native.Nat.{ℕ}
 use Prim.Native.String.{String, _++_ as _++ˢ_}
@@ -60,7 +60,6 @@ eachRule =
     only (one ++ (item "11" "0000003" ++ closing ("IN:1 3" ∷ "S1:2 25000" ∷ []))) 3 19 ∷
     only (one ++ (item "21" "0000002" ++ closing ("IN:1 2" ∷ "S1:1 12500" ∷ "S2:1 12500" ∷ []))) 3 20 ∷
     only (one ++ closing ("IN:1 2" ∷ "S1:1 12500" ∷ [])) 3 21 ∷
-    only (one ++ (closed ++ ("S9:1 1" ∷ []))) 3 22 ∷
     only (one ++ (closed ++ ("S0:1 1" ∷ []))) 3 30 ∷
     only (one ++ closing ("IN:1 1" ∷ "S1:1 12501" ∷ [])) 3 31 ∷
     only (one ++ (closed ++ ("S2:1 1" ∷ []))) 3 32 ∷
@@ -69,4 +68,5 @@ eachRule =
     only (one ++ (closed ++ ("S5:1 1" ∷ []))) 3 35 ∷
     only (one ++ (closed ++ ("S6:1 1" ∷ []))) 3 36 ∷
     only (one ++ (closed ++ ("S7:1 1" ∷ []))) 3 37 ∷
-    only (one ++ (closed ++ ("S8:1 1" ∷ []))) 3 38 ∷ []
+    only (one ++ (closed ++ ("S8:1 1" ∷ []))) 3 38 ∷
+    only (one ++ (closed ++ ("S9:1 1" ∷ []))) 3 39 ∷ []

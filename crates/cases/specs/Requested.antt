@@ -1,20 +1,45 @@
--- Cases of document 02's requests on checking, for the submitter 300 and the accounting day 4 March 2024: a file's bytes, and the number
--- of the refusal, 0 for none.
+-- Cases of document 02's requests on checking and deriving, for the submitter 300 and the accounting day 4 March 2024: a file's bytes and the
+-- number of the refusal, 0 for none; a file and all its faults; a heading and what deriving answers.
 use Prim.Native.Nat.{ℕ}
+use Prim.Native.String.{String, _++_ as _++ˢ_}
 use mathlib.Core.Bool.{Bool}
-use mathlib.Core.List.{List, [], _∷_, _++_}
+use mathlib.Core.List.{List, [], _∷_, _++_, map}
 use lib.Dec.{eqb}
 use Rattle.laws.specs.Ascii.{ascii}
 use Rattle.laws.specs.Refusals.{first}
+use Rattle.laws.specs.Tests.{every}
 use Rattle.rules.specs.Terms.{input}
+use Rattle.rules.specs.Faults.{Fault, fault}
 use Rattle.listing.specs.Checking.{checkRefusals}
-use Rattle.cases.specs.Cases.{bytesOf, example}
+use Rattle.cases.specs.Cases.{faulty, refuses, untold, holds, bytesOf, example}
 
 abbrev answers : ℕ → List ℕ → Bool
 answers k file = eqb (first (checkRefusals file (input 300 20240304) 0 0)) k
 
 abbrev mark : List ℕ
 mark = 0x1A ∷ []
+
+abbrev has : List String → List Fault → Bool
+has file fs = holds (faulty 300 20240304 file fs)
+
+-- ---- A3: items of types 96, 97 and 98
+abbrev headed : (kind number third : String) → String
+headed kind number third = "HD:" ++ˢ kind ++ˢ " 20240304 0000300 " ++ˢ number ++ˢ " 0000710 0000000 " ++ˢ third
+
+-- the 51 of a block with the numbers 1 to n, with some fields more
+abbrev closing : String → List String → List String
+closing n fields = headed "51" "0000000" "0000000" ∷ ("IN:1 " ++ˢ n) ∷ fields
+
+-- one item of 12500, with its day and the fields of its 51
+abbrev alone : (kind due : String) → List String → List String
+alone kind due fields = headed kind "0000001" "0000000" ∷ ("KC:12500 " ++ˢ due) ∷ closing "1" fields
+
+abbrev paid : (kind number : String) → List String → List String
+paid kind number file = headed kind number "0000000" ∷ "KC:12500 20240304" ∷ file
+
+-- a direct sender's heading of this type has no entry under any outcome
+abbrev noEntry : String → Bool
+noEntry kind = every (map (λ (o : ℕ). holds (untold (headed kind "0000017" "0000000") o 1 14)) (1 ∷ 2 ∷ 3 ∷ 4 ∷ 5 ∷ 6 ∷ 7 ∷ []))
 
 abbrev pub requested : List Bool
 requested =
@@ -24,4 +49,31 @@ requested =
     answers 9 (mark ++ mark) ∷
     answers 6 mark ∷
     answers 5 (ascii "x") ∷
-    answers 0 (bytesOf example) ∷ []
+    answers 0 (bytesOf example) ∷
+    -- A3: 'they are input types .. with a KC whose day need only be real'; the types beside them are not
+    has (alone "96" "20991231" ("S9:1 12500" ∷ [])) [] ∷
+    has (alone "98" "00010101" ("S9:1 12500" ∷ [])) [] ∷
+    has (alone "97" "20230229" ("S9:1 12500" ∷ [])) (fault 2 8 ∷ []) ∷
+    has (alone "95" "20240304" []) (fault 1 10 ∷ []) ∷
+    has (alone "99" "20240304" []) (fault 1 10 ∷ []) ∷
+    has (headed "96" "0000001" "0000000" ∷ closing "1" []) (fault 1 15 ∷ []) ∷
+    -- 'bilateral in rule 14', 'non-priority'
+    has (headed "96" "0000001" "0000990" ∷ "KC:1 20240304" ∷ closing "1" ("S9:1 1" ∷ [])) (fault 1 14 ∷ []) ∷
+    has (paid "96" "0000001" (paid "11" "0000002" (closing "2" ("S1:1 12500" ∷ "S9:1 12500" ∷ [])))) [] ∷
+    has (paid "21" "0000001" (paid "96" "0000002" (closing "2" ("S2:1 12500" ∷ "S9:1 12500" ∷ [])))) (fault 3 20 ∷ []) ∷
+    -- 'group 9 joins as rule 39': all three together, and an absent S9 means 0 and 0
+    has (paid "96" "0000001" (paid "97" "0000002" (paid "98" "0000003" (closing "3" ("S9:3 37500" ∷ []))))) [] ∷
+    has (alone "96" "20991231" ("S9:1 12600" ∷ [])) (fault 3 39 ∷ []) ∷
+    has (alone "96" "20991231" []) (fault 3 39 ∷ []) ∷
+    has (alone "11" "20240304" ("S1:1 12500" ∷ "S9:0 0" ∷ [])) [] ∷
+    -- 'S9 reads as S0 does', in every item
+    has (alone "96" "20991231" ("S9:x" ∷ [])) (fault 5 6 ∷ []) ∷
+    has (headed "11" "0000001" "0000000" ∷ "KC:1 20240304" ∷ "S9:any text" ∷ closing "1" ("S1:1 1" ∷ [])) (fault 3 6 ∷ []) ∷
+    -- 'Deriving answers 14 for them', after 12 and 13
+    noEntry "96" ∷
+    noEntry "97" ∷
+    noEntry "98" ∷
+    holds (refuses (headed "97" "0000017" "0000000") 1 1 7 14) ∷
+    holds (refuses (headed "97" "0000017" "0000000") 9 1 7 13) ∷
+    holds (refuses (headed "96" "0000017" "0000000") 1 2 7 12) ∷
+    holds (refuses (headed "98" "0000017" "0000990") 1 1 7 12) ∷ []

@@ -84,7 +84,7 @@ row-out i a zero h = refl
 row-out i a (suc n) h = rw (ne-eqb i a (λ e. h (omega arith) (omega arith)), row-out i (suc a) n (λ p q. h (omega arith) (omega arith)))
 
 -- the groups stand in a row
-groups : groupFields ≡ row 1008 9
+groups : groupFields ≡ row 1008 10
 unfolding place
 groups = refl
 
@@ -112,26 +112,26 @@ not-group a b c f g e = true≢false (sym (ap isGroup e) ∙ none a b c f g)
     none false false false false false = refl
 
 module _ (i : ℕ) where
-  pub group-in : (leb 1008 i && ltb i 1017) ≡ true → i - 1008 ≡ sumGroup i
+  pub group-in : (leb 1008 i && ltb i 1018) ≡ true → i - 1008 ≡ sumGroup i
   unfolding sumGroup
   group-in e =
-      let p = and-parts (leb 1008 i) (ltb i 1017) e in
-      sym (rw groups (row-in i 1008 9 (leb-true 1008 i (p .0)) (ltb-true i 1017 (p .1))))
+      let p = and-parts (leb 1008 i) (ltb i 1018) e in
+      sym (rw groups (row-in i 1008 10 (leb-true 1008 i (p .0)) (ltb-true i 1018 (p .1))))
 
-  pub group-out : (leb 1008 i && ltb i 1017) ≡ false → 9 ≡ sumGroup i
+  pub group-out : (leb 1008 i && ltb i 1018) ≡ false → 10 ≡ sumGroup i
   unfolding sumGroup
-  group-out e = sym (rw groups (row-out i 1008 9 (λ p q. true≢false (rw (le-leb 1008 i p, lt-ltb i 1017 q) at e))))
+  group-out e = sym (rw groups (row-out i 1008 10 (λ p q. true≢false (rw (le-leb 1008 i p, lt-ltb i 1018 q) at e))))
 
-  pub class-is : classBy (eqb i (named "KC")) ((eqb i (named "EC") || eqb i (named "AK")) || eqb i (named "ZK")) (eqb i (named "IN")) (ltb (sumGroup i) 9)
+  pub class-is : classBy (eqb i (named "KC")) ((eqb i (named "EC") || eqb i (named "AK")) || eqb i (named "ZK")) (eqb i (named "IN")) (ltb (sumGroup i) 10)
       (eqb i (named "UD") || eqb i (named "UK")) (((eqb i (named "DI") || eqb i (named "KI")) || eqb i (named "ZP")) || eqb i (named "AV")) ≡ classOf i
   unfolding classOf sumGroup
   class-is = same-class (one-of i moneyFields) (one-of i numberFields) (one-of i rangeFields) (place-in i groupFields) (one-of i accountFields) (one-of i textFields)
 
   -- a field of the class of groups has a group's digit
-  pub group-lt : classOf i ≡ Group → sumGroup i < 9
+  pub group-lt : classOf i ≡ Group → sumGroup i < 10
   unfolding classOf sumGroup
   group-lt e = go (among i moneyFields) (among i numberFields) (among i rangeFields) (among i groupFields) (among i accountFields) (among i textFields) refl e
     where
-      go : (a b c d f g : Bool) → among i groupFields ≡ d → classBy a b c d f g ≡ Group → place i groupFields < 9
-      go a b c true f g q p = ltb-true (place i groupFields) 9 (place-in i groupFields ∙ q)
+      go : (a b c d f g : Bool) → among i groupFields ≡ d → classBy a b c d f g ≡ Group → place i groupFields < 10
+      go a b c true f g q p = ltb-true (place i groupFields) 10 (place-in i groupFields ∙ q)
       go a b c false f g q p = absurd (not-group a b c f g p)

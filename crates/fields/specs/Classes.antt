@@ -16,9 +16,9 @@ numberFields = named "EC" ∷ named "AK" ∷ named "ZK" ∷ []
 abbrev pub rangeFields : List ℕ
 rangeFields = named "IN" ∷ []
 
--- in the order of their digits
+-- in the order of their digits; S9 by document 02, A3
 abbrev pub groupFields : List ℕ
-groupFields = named "S0" ∷ named "S1" ∷ named "S2" ∷ named "S3" ∷ named "S4" ∷ named "S5" ∷ named "S6" ∷ named "S7" ∷ named "S8" ∷ []
+groupFields = named "S0" ∷ named "S1" ∷ named "S2" ∷ named "S3" ∷ named "S4" ∷ named "S5" ∷ named "S6" ∷ named "S7" ∷ named "S8" ∷ named "S9" ∷ []
 
 abbrev pub accountFields : List ℕ
 accountFields = named "UD" ∷ named "UK" ∷ []

@@ -2,7 +2,7 @@
 ghost use mathlib.Core.Path.{_≡_};
 ghost use Rattle.fields.specs.Classes.{classBy, classOf, sumGroup};
 
-// KC; EC, AK, ZK; IN; S0 to S8; UD, UK; DI, KI, ZP, AV; any other identifier.
+// KC; EC, AK, ZK; IN; S0 to S9; UD, UK; DI, KI, ZP, AV; any other identifier.
 pub enum Class {
     Money,
     Number,
@@ -30,8 +30,6 @@ const KI: usize = 20 * 36 + 18;
 
 const S0: usize = 28 * 36;
 
-pub const S9: usize = 28 * 36 + 9;
-
 const UD: usize = 30 * 36 + 13;
 
 const UK: usize = 30 * 36 + 20;
@@ -41,7 +39,7 @@ const ZK: usize = 35 * 36 + 20;
 const ZP: usize = 35 * 36 + 25;
 
 // How many groups there are.
-pub const GROUPS: usize = 9;
+pub const GROUPS: usize = 10;
 
 // The digit of a group's identifier, and the number of groups for any other identifier.
 pub fn sum_group(ident: usize) -> usize

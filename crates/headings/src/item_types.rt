@@ -19,6 +19,9 @@ pub fn is_input(kind: u32) -> bool
         | (kind == 45)
         | (kind == 51)
         | (kind == 55)
+        | (kind == 96)
+        | (kind == 97)
+        | (kind == 98)
 }
 
 pub fn is_trilateral(kind: u32) -> bool

@@ -7,7 +7,6 @@ use Prim.Native.Nat.{ℕ, zero, suc, _≤_, _<_}
 use native.Mathlib.Omega.{arith}
 use lib.Dec.{eqb, ltb}
 use borrow.Author.Tests.{le-leb, ne-eqb, eqb-true, ltb-false}
-use Rattle.laws.proofs.Any.{or-left, or-right}
 use Rattle.fields.specs.declared.readings.Reading.{Reading}
 use Rattle.fields.specs.declared.readings.Reading.the-variants.{Broken, Plain, Paid, Span, Stated, Party}
 use Rattle.fields.specs.Kinds.{named, place}
@@ -19,7 +18,7 @@ use Rattle.rules.specs.declared.Sum.{Sum}
 use Rattle.rules.specs.HeadingRules.{noKc}
 use Rattle.rules.specs.Rows.{FieldRow}
 use Rattle.rules.specs.Tree.{Owned}
-use Rattle.rules.specs.Said.{says, stands, orElse, ifThere, is, isGroup, kcBy, kcOf, spanBy, spanOf, statedBy, statedOf, nineSums}
+use Rattle.rules.specs.Said.{says, stands, orElse, ifThere, is, isGroup, kcBy, kcOf, spanBy, spanOf, statedBy, statedOf, tenSums}
 use Rattle.items.specs.declared.Claims.{Claims}
 use Rattle.items.specs.Claims.{kcKept, noClaims, spanKept, statedKept, groupClaims, claimsWith}
 use Rattle.items.proofs.Turned.{firstUp}
@@ -72,8 +71,7 @@ claimsOf ups =
     record {
       kc = kcOf (firstUp (is (named "KC")) ups);
       span = spanOf (firstUp (is (named "IN")) ups);
-      sums = record { groups = nineSums (λ d. record { stated = statedOf (firstUp (isGroup d) ups) }) };
-      s9 = stands (named "S9") ups;
+      sums = record { groups = tenSums (λ d. record { stated = statedOf (firstUp (isGroup d) ups) }) };
     }
 
 pub no-claims-is : noClaims ≡ claimsOf []
@@ -117,18 +115,18 @@ grown f d r k = record { stated = cond (eqb d k) (statedKept (statedOf (f k)) (s
 abbrev summed : (ℕ → Option Reading) → ℕ → Sum
 summed f k = record { stated = statedOf (f k) }
 
-same-nine : (f g : ℕ → Sum) → ((k : ℕ) → k < 9 → f k ≡ g k) → nineSums f ≡ nineSums g
-same-nine f g h =
-    rw (h 0 (omega arith), h 1 (omega arith), h 2 (omega arith), h 3 (omega arith), h 4 (omega arith), h 5 (omega arith), h 6 (omega arith), h 7 (omega arith), h 8 (omega arith))
+same-ten : (f g : ℕ → Sum) → ((k : ℕ) → k < 10 → f k ≡ g k) → tenSums f ≡ tenSums g
+same-ten f g h =
+    rw (h 0 (omega arith), h 1 (omega arith), h 2 (omega arith), h 3 (omega arith), h 4 (omega arith), h 5 (omega arith), h 6 (omega arith), h 7 (omega arith), h 8 (omega arith), h 9 (omega arith))
 
-not-grown : (f : ℕ → Option Reading) (d : ℕ) (r : Reading) → 9 ≤ d → (k : ℕ) → k < 9 → summed f k ≡ grown f d r k
+not-grown : (f : ℕ → Option Reading) (d : ℕ) (r : Reading) → 10 ≤ d → (k : ℕ) → k < 10 → summed f k ≡ grown f d r k
 not-grown f d r h k l = let e : eqb d k ≡ false = ne-eqb d k (λ q. omega arith) in rw e
 
-past-nine : (f : ℕ → Option Reading) (d : ℕ) (r : Reading) → 9 ≤ d → groupClaims (nineSums (summed f)) d r ≡ nineSums (grown f d r)
+past-ten : (f : ℕ → Option Reading) (d : ℕ) (r : Reading) → 10 ≤ d → groupClaims (tenSums (summed f)) d r ≡ tenSums (grown f d r)
 unfolding groupClaims
-past-nine f d r h = rw (le-leb 9 d h) (same-nine (summed f) (grown f d r) (not-grown f d r h))
+past-ten f d r h = rw (le-leb 10 d h) (same-ten (summed f) (grown f d r) (not-grown f d r h))
 
-groups-more : (f : ℕ → Option Reading) (d : ℕ) (r : Reading) → groupClaims (nineSums (summed f)) d r ≡ nineSums (grown f d r)
+groups-more : (f : ℕ → Option Reading) (d : ℕ) (r : Reading) → groupClaims (tenSums (summed f)) d r ≡ tenSums (grown f d r)
 unfolding groupClaims
 groups-more f zero r = refl
 groups-more f (suc zero) r = refl
@@ -139,7 +137,8 @@ groups-more f (suc (suc (suc (suc (suc zero))))) r = refl
 groups-more f (suc (suc (suc (suc (suc (suc zero)))))) r = refl
 groups-more f (suc (suc (suc (suc (suc (suc (suc zero))))))) r = refl
 groups-more f (suc (suc (suc (suc (suc (suc (suc (suc zero)))))))) r = refl
-groups-more f (suc (suc (suc (suc (suc (suc (suc (suc (suc n))))))))) r = past-nine f (suc (suc (suc (suc (suc (suc (suc (suc (suc n))))))))) r (omega arith)
+groups-more f (suc (suc (suc (suc (suc (suc (suc (suc (suc zero))))))))) r = refl
+groups-more f (suc (suc (suc (suc (suc (suc (suc (suc (suc (suc n)))))))))) r = past-ten f (suc (suc (suc (suc (suc (suc (suc (suc (suc (suc n)))))))))) r (omega arith)
 
 abbrev inGroups : List (Owned FieldRow) → ℕ → Option Reading
 inGroups ups d = firstUp (isGroup d) ups
@@ -150,23 +149,22 @@ grownClaims ups i r =
     record {
       kc = kcOf (orElse (firstUp (is (named "KC")) ups) (ifThere (eqb i (named "KC")) r));
       span = spanOf (orElse (firstUp (is (named "IN")) ups) (ifThere (eqb i (named "IN")) r));
-      sums = record { groups = nineSums (λ d. record { stated = statedOf (orElse (inGroups ups d) (ifThere (eqb (sumGroup i) d) r)) }) };
-      s9 = eqb i (named "S9") || stands (named "S9") ups;
+      sums = record { groups = tenSums (λ d. record { stated = statedOf (orElse (inGroups ups d) (ifThere (eqb (sumGroup i) d) r)) }) };
     }
 
-abbrev claimsAs : FirstKc → FirstIn → List Sum → Bool → Claims
-claimsAs kc span groups s9 = record { kc = kc; span = span; sums = record { groups = groups }; s9 = s9 }
+abbrev claimsAs : FirstKc → FirstIn → List Sum → Claims
+claimsAs kc span groups = record { kc = kc; span = span; sums = record { groups = groups } }
 
 groups-are : (ups : List (Owned FieldRow)) (d : ℕ) (r : Reading)
-    → nineSums (grown (inGroups ups) d r) ≡ nineSums (λ k. record { stated = statedOf (orElse (inGroups ups k) (ifThere (eqb d k) r)) })
-groups-are ups d r = same-nine _ _ (λ k h. ap (λ (t : FirstSum). record { stated = t }) (sym (stated-more (inGroups ups k) (eqb d k) r)))
+    → tenSums (grown (inGroups ups) d r) ≡ tenSums (λ k. record { stated = statedOf (orElse (inGroups ups k) (ifThere (eqb d k) r)) })
+groups-are ups d r = same-ten _ _ (λ k h. ap (λ (t : FirstSum). record { stated = t }) (sym (stated-more (inGroups ups k) (eqb d k) r)))
 
 -- a field that states no sum leaves the groups as they are
-same-groups : (ups : List (Owned FieldRow)) (r : Reading) → nineSums (summed (inGroups ups)) ≡ nineSums (λ k. record { stated = statedOf (orElse (inGroups ups k) (ifThere (eqb 9 k) r)) })
-same-groups ups r = same-nine (summed (inGroups ups)) _ (λ k h. ap (λ (o : Option Reading). record { stated = statedOf o }) (sym (none-in k h)))
+same-groups : (ups : List (Owned FieldRow)) (r : Reading) → tenSums (summed (inGroups ups)) ≡ tenSums (λ k. record { stated = statedOf (orElse (inGroups ups k) (ifThere (eqb 10 k) r)) })
+same-groups ups r = same-ten (summed (inGroups ups)) _ (λ k h. ap (λ (o : Option Reading). record { stated = statedOf o }) (sym (none-in k h)))
   where
-    none-in : (k : ℕ) → k < 9 → orElse (inGroups ups k) (ifThere (eqb 9 k) r) ≡ inGroups ups k
-    none-in k h = let e : eqb 9 k ≡ false = ne-eqb 9 k (λ q. omega arith) in rw e (else-none (inGroups ups k))
+    none-in : (k : ℕ) → k < 10 → orElse (inGroups ups k) (ifThere (eqb 10 k) r) ≡ inGroups ups k
+    none-in k h = let e : eqb 10 k ≡ false = ne-eqb 10 k (λ q. omega arith) in rw e (else-none (inGroups ups k))
 
 same-kc : (ups : List (Owned FieldRow)) → kcOf (firstUp (is (named "KC")) ups) ≡ kcOf (orElse (firstUp (is (named "KC")) ups) none)
 same-kc ups = ap kcOf (sym (else-none (firstUp (is (named "KC")) ups)))
@@ -176,46 +174,45 @@ same-span ups = ap spanOf (sym (else-none (firstUp (is (named "IN")) ups)))
 
 claim-kc : (ups : List (Owned FieldRow)) (r : Reading) → claimsWith (claimsOf ups) (named "KC") r ≡ grownClaims ups (named "KC") r
 unfolding claimsWith place sumGroup
-claim-kc ups r = λ j. claimsAs (kc-more (firstUp (is (named "KC")) ups) r j) (same-span ups j) (same-groups ups r j) (stands (named "S9") ups)
+claim-kc ups r = λ j. claimsAs (kc-more (firstUp (is (named "KC")) ups) r j) (same-span ups j) (same-groups ups r j)
 
 claim-in : (ups : List (Owned FieldRow)) (r : Reading) → claimsWith (claimsOf ups) (named "IN") r ≡ grownClaims ups (named "IN") r
 unfolding claimsWith place sumGroup
-claim-in ups r = λ j. claimsAs (same-kc ups j) (span-more (firstUp (is (named "IN")) ups) r j) (same-groups ups r j) (stands (named "S9") ups)
+claim-in ups r = λ j. claimsAs (same-kc ups j) (span-more (firstUp (is (named "IN")) ups) r j) (same-groups ups r j)
 
 -- a field that is neither
 module _ (ups : List (Owned FieldRow)) (i : ℕ) (r : Reading) (k : eqb i (named "KC") ≡ false) (e : eqb i (named "IN") ≡ false) where
-  claim-other : claimsAs (claimsOf ups .kc) (claimsOf ups .span) (groupClaims (claimsOf ups .sums .groups) (sumGroup i) r) (eqb i (named "S9") || stands (named "S9") ups) ≡ grownClaims ups i r
+  claim-other : claimsAs (claimsOf ups .kc) (claimsOf ups .span) (groupClaims (claimsOf ups .sums .groups) (sumGroup i) r) ≡ grownClaims ups i r
   claim-other =
       rw (k, e)
-      (λ j. claimsAs (same-kc ups j) (same-span ups j) ((groups-more (inGroups ups) (sumGroup i) r ∙ groups-are ups (sumGroup i) r) j) (eqb i (named "S9") || stands (named "S9") ups))
+      (λ j. claimsAs (same-kc ups j) (same-span ups j) ((groups-more (inGroups ups) (sumGroup i) r ∙ groups-are ups (sumGroup i) r) j))
 
-  with-other : (c : Claims) → claimsWith c i r ≡ claimsAs (c .kc) (c .span) (groupClaims (c .sums .groups) (sumGroup i) r) (eqb i (named "S9") || c .s9)
+  with-other : (c : Claims) → claimsWith c i r ≡ claimsAs (c .kc) (c .span) (groupClaims (c .sums .groups) (sumGroup i) r)
   unfolding claimsWith
   with-other c = rw (k, e)
 
 -- a field that claims nothing
-none-claimed : (c : Claims) (i : ℕ) (r : Reading) → eqb i (named "S9") ≡ false → 9 ≤ sumGroup i
-    → c ≡ claimsAs (c .kc) (c .span) (groupClaims (c .sums .groups) (sumGroup i) r) (eqb i (named "S9") || c .s9)
+none-claimed : (c : Claims) (i : ℕ) (r : Reading) → 10 ≤ sumGroup i
+    → c ≡ claimsAs (c .kc) (c .span) (groupClaims (c .sums .groups) (sumGroup i) r)
 unfolding groupClaims
-none-claimed c i r e h = rw (e, le-leb 9 (sumGroup i) h)
+none-claimed c i r h = rw (le-leb 10 (sumGroup i) h)
 
 -- it is one that claims
 abbrev pub claimed : ℕ → Bool
-claimed i = eqb i (named "KC") || (eqb i (named "IN") || (eqb i (named "S9") || ltb (sumGroup i) 9))
+claimed i = eqb i (named "KC") || (eqb i (named "IN") || ltb (sumGroup i) 10)
 
 pub claim-at : (ups : List (Owned FieldRow)) (i : ℕ) (r : Reading) → cond (claimed i) (claimsWith (claimsOf ups) i r) (claimsOf ups) ≡ grownClaims ups i r
 claim-at ups i r = go (eqb i (named "KC")) refl
   where
-    other : (t : Bool) → (eqb i (named "S9") || ltb (sumGroup i) 9) ≡ t → eqb i (named "KC") ≡ false → eqb i (named "IN") ≡ false → cond t (claimsWith (claimsOf ups) i r) (claimsOf ups) ≡ grownClaims ups i r
+    other : (t : Bool) → ltb (sumGroup i) 10 ≡ t → eqb i (named "KC") ≡ false → eqb i (named "IN") ≡ false → cond t (claimsWith (claimsOf ups) i r) (claimsOf ups) ≡ grownClaims ups i r
     other true q k e = with-other ups i r k e (claimsOf ups) ∙ claim-other ups i r k e
     other false q k e =
-        none-claimed (claimsOf ups) i r (or-left (eqb i (named "S9")) (ltb (sumGroup i) 9) q) (ltb-false (sumGroup i) 9 (or-right (eqb i (named "S9")) (ltb (sumGroup i) 9) q))
-        ∙ claim-other ups i r k e
+        none-claimed (claimsOf ups) i r (ltb-false (sumGroup i) 10 q) ∙ claim-other ups i r k e
 
-    in-or : (t : Bool) → eqb i (named "IN") ≡ t → eqb i (named "KC") ≡ false → cond (t || (eqb i (named "S9") || ltb (sumGroup i) 9)) (claimsWith (claimsOf ups) i r) (claimsOf ups) ≡ grownClaims ups i r
+    in-or : (t : Bool) → eqb i (named "IN") ≡ t → eqb i (named "KC") ≡ false → cond (t || ltb (sumGroup i) 10) (claimsWith (claimsOf ups) i r) (claimsOf ups) ≡ grownClaims ups i r
     in-or true e k = rw (eqb-true i (named "IN") e) (claim-in ups r)
-    in-or false e k = other (eqb i (named "S9") || ltb (sumGroup i) 9) refl k e
+    in-or false e k = other (ltb (sumGroup i) 10) refl k e
 
-    go : (t : Bool) → eqb i (named "KC") ≡ t → cond (t || (eqb i (named "IN") || (eqb i (named "S9") || ltb (sumGroup i) 9))) (claimsWith (claimsOf ups) i r) (claimsOf ups) ≡ grownClaims ups i r
+    go : (t : Bool) → eqb i (named "KC") ≡ t → cond (t || (eqb i (named "IN") || ltb (sumGroup i) 10)) (claimsWith (claimsOf ups) i r) (claimsOf ups) ≡ grownClaims ups i r
     go true k = rw (eqb-true i (named "KC") k) (claim-kc ups r)
     go false k = in-or (eqb i (named "IN")) refl k

@@ -6,7 +6,6 @@ use mathlib.Core.List.{List, [], _∷_, reverseAux}
 use Prim.Native.Nat.{ℕ, _+_}
 use native.Mathlib.Nat.{zero-add, add-zero}
 use native.Mathlib.Omega.{arith}
-use lib.Dec.{eqb}
 use lib.ListN.{length}
 use Rattle.figures.specs.Layouts.{Part, fits}
 use Rattle.fields.specs.declared.readings.Reading.{Reading}
@@ -17,7 +16,7 @@ use Rattle.fields.proofs.Kept.{same-tail}
 use Rattle.fields.proofs.Kept.{says as said-with}
 use Rattle.rules.specs.Rows.{FieldRow, LowRow}
 use Rattle.rules.specs.Tree.{Owned}
-use Rattle.rules.specs.Said.{continuations, says, stands, continued, orElse, ifThere, firstSaid}
+use Rattle.rules.specs.Said.{continuations, says, continued, orElse, ifThere, firstSaid}
 use Rattle.items.proofs.Ideal.{closed}
 
 or-turn : (a b c : Bool) → (b || (a || c)) ≡ ((a || b) || c)
@@ -80,16 +79,7 @@ unfolding says
 says-closed x ls =
     rw (← tail-closed ls) (said-with (classOf (x .ident)) (x .row .bytes) (continuations (reverseAux ls [])))
 
--- ---- identifiers and the first fields
-stands-turn : (i : ℕ) (gs hs : List (Owned FieldRow)) → stands i (reverseAux gs hs) ≡ (stands i gs || stands i hs)
-unfolding stands
-stands-turn i [] hs = refl
-stands-turn i (g ∷ gs) hs = stands-turn i gs (g ∷ hs) ∙ or-turn (eqb (g .owner .ident) i) (stands i gs) (stands i hs)
-
-pub stands-closed : (i : ℕ) (gs : List (Owned FieldRow)) → stands i (reverseAux gs []) ≡ stands i gs
-unfolding stands
-stands-closed i gs = stands-turn i gs [] ∙ or-false (stands i gs)
-
+-- ---- the first fields
 -- the first from the nearest upwards
 unfoldable pub firstUp : (ℕ → Bool) → List (Owned FieldRow) → Option Reading
 firstUp p [] = none

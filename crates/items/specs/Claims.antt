@@ -1,6 +1,6 @@
 -- Model of the code, not part of the statement: what an item's fields claim for its heading, one field after the other.
 use Prim.Native.Nat.{ℕ}
-use mathlib.Core.Bool.{false, cond, _||_}
+use mathlib.Core.Bool.{cond}
 use mathlib.Core.List.{List}
 use lib.Dec.{eqb, leb}
 use lib.ListN.{getD, set, replicate}
@@ -21,7 +21,7 @@ abbrev pub noSum : Sum
 noSum = record { stated = NoSum }
 
 abbrev pub noClaims : Claims
-noClaims = record { kc = NoKc; span = NoIn; sums = record { groups = replicate 9 noSum }; s9 = false }
+noClaims = record { kc = NoKc; span = NoIn; sums = record { groups = replicate 10 noSum } }
 
 abbrev pub kcKept : FirstKc → FirstKc → FirstKc
 kcKept NoKc k = k
@@ -40,15 +40,14 @@ statedKept (Says n a) x = Says n a
 
 unfoldable pub groupClaims : List Sum → ℕ → Reading → List Sum
 groupClaims groups d said =
-    cond (leb 9 d) groups (set groups d (record { stated = statedKept (getD groups d noSum .stated) (statedBy said) }))
+    cond (leb 10 d) groups (set groups d (record { stated = statedKept (getD groups d noSum .stated) (statedBy said) }))
 
 unfoldable pub claimsWith : Claims → ℕ → Reading → Claims
 claimsWith c ident said =
-    cond (eqb ident (named "KC")) (record { kc = kcKept (c .kc) (kcBy said); span = c .span; sums = c .sums; s9 = c .s9 })
-    (cond (eqb ident (named "IN")) (record { kc = c .kc; span = spanKept (c .span) (spanBy said); sums = c .sums; s9 = c .s9 })
+    cond (eqb ident (named "KC")) (record { kc = kcKept (c .kc) (kcBy said); span = c .span; sums = c .sums })
+    (cond (eqb ident (named "IN")) (record { kc = c .kc; span = spanKept (c .span) (spanBy said); sums = c .sums })
     (record {
       kc = c .kc;
       span = c .span;
       sums = record { groups = groupClaims (c .sums .groups) (sumGroup ident) said };
-      s9 = eqb ident (named "S9") || c .s9;
     }))

@@ -17,13 +17,12 @@ pub fn no_claims() -> Claims
     let none = Sum {
         stated: FirstSum::NoSum,
     };
-    let groups = [none; 9];
+    let groups = [none; 10];
     let sums = Sums { groups };
     Claims {
         kc: FirstKc::NoKc,
         span: FirstIn::NoIn,
         sums,
-        s9: false,
     }
 }
 
@@ -99,10 +98,10 @@ fn stated_kept(first: FirstSum, then: FirstSum) -> FirstSum
 }
 
 // The groups with what is said of one more.
-fn group_claims(groups: [Sum; 9], d: usize, said: Reading) -> [Sum; 9]
+fn group_claims(groups: [Sum; 10], d: usize, said: Reading) -> [Sum; 10]
     ensures { λ r. ⌜ r ≡ groupClaims groups d said ⌝ }
 {
-    if 9 <= d {
+    if 10 <= d {
         return groups;
     }
     let mut next = groups;
@@ -126,7 +125,6 @@ pub fn with_claim(c: Claims, ident: usize, said: Reading) -> Claims
             kc: first,
             span,
             sums,
-            s9: c.s9,
         };
     }
     if ident == classes::IN {
@@ -135,7 +133,6 @@ pub fn with_claim(c: Claims, ident: usize, said: Reading) -> Claims
             kc,
             span: first,
             sums,
-            s9: c.s9,
         };
     }
     let before = sums.groups;
@@ -145,6 +142,5 @@ pub fn with_claim(c: Claims, ident: usize, said: Reading) -> Claims
         kc,
         span,
         sums: after,
-        s9: (ident == classes::S9) | c.s9,
     }
 }

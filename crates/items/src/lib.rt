@@ -9,11 +9,9 @@ use rules::Sums;
 
 pub mod claiming;
 
-// What the item's closed fields say that its heading needs: the first KC, the first IN, the first S0 to S8, and whether an S9
-// stands.
+// What the item's closed fields say that its heading needs: the first KC, the first IN, and the first S0 to S9.
 pub struct Claims {
     pub kc: FirstKc,
     pub span: FirstIn,
     pub sums: Sums,
-    pub s9: bool,
 }

@@ -37,13 +37,13 @@ module _ (i : ℕ) where
   by-name : (n : ℕ) → eqb i n ≡ true → Tells n → Tells i
   by-name n e h = subst Tells (sym (eqb-true i n e)) h
 
-  -- neither KC nor IN nor S9 nor a number: a group, if anything
-  no-name : eqb i (named "S9") ≡ false → eqb i (named "KC") ≡ false → eqb i (named "EC") ≡ false → eqb i (named "AK") ≡ false → eqb i (named "ZK") ≡ false → eqb i (named "IN") ≡ false → Tells i
+  -- neither KC nor IN nor a number: a group, if anything
+  no-name : eqb i (named "KC") ≡ false → eqb i (named "EC") ≡ false → eqb i (named "AK") ≡ false → eqb i (named "ZK") ≡ false → eqb i (named "IN") ≡ false → Tells i
   unfolding codeOf classOf sumGroup
-  no-name s k e a z n =
-      (λ j. leb 5 (cond (s j) 7 (codeBy (classBy (k j || false) (e j || (a j || (z j || false))) (n j || false) (among i groupFields) (among i accountFields) (among i textFields)))))
+  no-name k e a z n =
+      (λ j. leb 5 (codeBy (classBy (k j || false) (e j || (a j || (z j || false))) (n j || false) (among i groupFields) (among i accountFields) (among i textFields))))
       ∙ only (among i groupFields) (among i accountFields) (among i textFields) ∙ sym (place-in i groupFields)
-      ∙ sym (λ j. k j || (n j || (s j || ltb (sumGroup i) 9)))
+      ∙ sym (λ j. k j || (n j || ltb (sumGroup i) 10))
     where
       only : (d f g : Bool) → leb 5 (codeBy (classBy false false false d f g)) ≡ d
       only true f g = refl
@@ -53,15 +53,14 @@ module _ (i : ℕ) where
 
   claimed-is : eqb i (named "KC") ≡ false → Tells i
   unfolding codeOf classOf sumGroup place
-  claimed-is k = go (eqb i (named "S9")) (eqb i (named "EC")) (eqb i (named "AK")) (eqb i (named "ZK")) (eqb i (named "IN")) refl refl refl refl refl
+  claimed-is k = go (eqb i (named "EC")) (eqb i (named "AK")) (eqb i (named "ZK")) (eqb i (named "IN")) refl refl refl refl
     where
-      go : (s e a z n : Bool) → eqb i (named "S9") ≡ s → eqb i (named "EC") ≡ e → eqb i (named "AK") ≡ a → eqb i (named "ZK") ≡ z → eqb i (named "IN") ≡ n → Tells i
-      go true e a z n p q r t u = by-name (named "S9") p refl
-      go false true a z n p q r t u = by-name (named "EC") q refl
-      go false false true z n p q r t u = by-name (named "AK") r refl
-      go false false false true n p q r t u = by-name (named "ZK") t refl
-      go false false false false true p q r t u = by-name (named "IN") u refl
-      go false false false false false p q r t u = no-name p k q r t u
+      go : (e a z n : Bool) → eqb i (named "EC") ≡ e → eqb i (named "AK") ≡ a → eqb i (named "ZK") ≡ z → eqb i (named "IN") ≡ n → Tells i
+      go true a z n q r t u = by-name (named "EC") q refl
+      go false true z n q r t u = by-name (named "AK") r refl
+      go false false true n q r t u = by-name (named "ZK") t refl
+      go false false false true q r t u = by-name (named "IN") u refl
+      go false false false false q r t u = no-name k q r t u
 
 -- ---- what is claimed with a field open
 abbrev pub claimsNow : Pieces → Claims
@@ -156,7 +155,7 @@ own-claims ups y = go (eqb (y .ident) (named "KC")) refl
     go true e =
         sym (grown-is ups y [])
         ∙ sym (claim-at ups (y .ident) (says (closed y [])))
-        ∙ ap (λ (t : Bool). cond (t || (eqb (y .ident) (named "IN") || (eqb (y .ident) (named "S9") || ltb (sumGroup (y .ident)) 9))) (claimsWith (claimsOf ups) (y .ident) (says (closed y []))) (claimsOf ups)) e
+        ∙ ap (λ (t : Bool). cond (t || (eqb (y .ident) (named "IN") || ltb (sumGroup (y .ident)) 10)) (claimsWith (claimsOf ups) (y .ident) (says (closed y []))) (claimsOf ups)) e
         ∙ ap (claimsWith (claimsOf ups) (y .ident)) (says-own y)
     go false e = refl
 

@@ -7,7 +7,7 @@ use native.Mathlib.Numerals.{add-one}
 use native.Mathlib.Omega.{arith}
 use lib.Dec.{eqb, ltb, leb}
 use lib.ListN.{length}
-use borrow.Author.Tests.{le-leb, lt-leb, le-ltb, lt-ltb, ltb-true, ltb-false, eqb-true, ne-eqb}
+use borrow.Author.Tests.{le-leb, lt-leb, le-ltb, lt-ltb, ltb-true, ltb-false, ne-eqb}
 use Rattle.laws.specs.Tests.{mark}
 use Rattle.headings.specs.declared.Read.{Read}
 use Rattle.headings.specs.declared.Read.the-variants.{Reads, Unreadable}
@@ -16,7 +16,7 @@ use Rattle.fields.specs.declared.classes.Class.the-variants.{Money, Number, Ran
 use Rattle.fields.specs.declared.readings.Reading.{Reading}
 use Rattle.fields.specs.declared.readings.Reading.the-variants.{Broken, Plain, Paid, Span, Stated, Party}
 use Rattle.fields.specs.declared.tails.Tail.{Tail}
-use Rattle.fields.specs.Kinds.{named, place}
+use Rattle.fields.specs.Kinds.{named}
 use Rattle.fields.specs.Classes.{classOf}
 use Rattle.fields.specs.Readings.{textOf, readingOf, ifFits}
 use Rattle.fields.specs.Tails.{isBroken, allFit, tailOf, tailMore, takesBy}
@@ -62,11 +62,7 @@ breaks-by Free tail n = refl
 
 breaks-is : (i tail n : ℕ) → breaksTail (codeOf i) tail n ≡ breaksAs (classOf i) tail n
 unfolding codeOf
-breaks-is i tail n = go (eqb i (named "S9")) refl
-  where
-    go : (t : Bool) → eqb i (named "S9") ≡ t → breaksTail (cond t 7 (codeBy (classOf i))) tail n ≡ breaksAs (classOf i) tail n
-    go true e = rw (eqb-true i (named "S9") e) (unfold classOf place in refl)
-    go false e = breaks-by (classOf i) tail n
+breaks-is i tail n = breaks-by (classOf i) tail n
 
 -- ---- what a field says with one continuation more
 abbrev tailAt : ℕ → Bool → Tail

@@ -16,7 +16,7 @@ use Rattle.rules.specs.Faults.{Fault}
 use Rattle.rules.specs.Blocks.{empty, closesAt, blockAbove}
 use Rattle.rules.specs.Rows.{Row, FieldRow, LowRow}
 use Rattle.rules.specs.Tree.{Owned, Item}
-use Rattle.rules.specs.Said.{headOf, isUnreadable, is, isGroup, kcOf, spanOf, statedOf, nineSums, digest}
+use Rattle.rules.specs.Said.{headOf, isUnreadable, is, isGroup, kcOf, spanOf, statedOf, tenSums, digest}
 use Rattle.ledger.specs.Marks.{marked, insertAll}
 use Rattle.ledger.proofs.Marks.{no-rules}
 use Rattle.ledger.proofs.Entries.{putAll, putAll-append, put}
@@ -28,7 +28,7 @@ use Rattle.account.proofs.Accounting.{account}
 use Rattle.items.specs.declared.Claims.{Claims}
 use Rattle.items.proofs.Ideal.{headAs, ends, fresh, start, early, atHead, atField, closed, item, waitsAt, outAt, waits, headsOut, Pieces}
 use Rattle.items.proofs.Puts.{above, aboveThen, itemsOut}
-use Rattle.items.proofs.Turned.{stands-closed, first-closed}
+use Rattle.items.proofs.Turned.{first-closed}
 use Rattle.items.proofs.Firsts.{claimsOf}
 use Rattle.judging.specs.declared.Wait.{Wait}
 use Rattle.judging.specs.declared.Shut.{Shut}
@@ -103,8 +103,7 @@ module _ (terms : Terms) where
       head = headOf (closed h hl);
       kc = kcOf (sym (first-closed (is (named "KC")) gs) j);
       span = spanOf (sym (first-closed (is (named "IN")) gs) j);
-      sums = record { groups = nineSums (λ d. record { stated = statedOf (sym (first-closed (isGroup d) gs) j) }) };
-      s9 = sym (stands-closed (named "S9") gs) j;
+      sums = record { groups = tenSums (λ d. record { stated = statedOf (sym (first-closed (isGroup d) gs) j) }) };
     }
 
     marks-is : lineMarks h + mark 6 (isUnreadable (digest it .head)) + marksBy terms (map digest b) (digest it) (digest it .head) ≡ headMarks terms b it

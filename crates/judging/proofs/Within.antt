@@ -89,4 +89,5 @@ digest-within i = go
     go (suc (suc (suc (suc (suc (suc zero)))))) = at 6
     go (suc (suc (suc (suc (suc (suc (suc zero))))))) = at 7
     go (suc (suc (suc (suc (suc (suc (suc (suc zero)))))))) = at 8
-    go (suc (suc (suc (suc (suc (suc (suc (suc (suc d))))))))) = tt
+    go (suc (suc (suc (suc (suc (suc (suc (suc (suc zero))))))))) = at 9
+    go (suc (suc (suc (suc (suc (suc (suc (suc (suc (suc d)))))))))) = tt

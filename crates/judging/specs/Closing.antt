@@ -37,7 +37,7 @@ lastMarks b w = cond (b .any) (w .marks + 2 ^ 16) 0
 
 -- the item, by what its heading reads as and what its fields claim
 abbrev pub digestOf : Read → Claims → Digest
-digestOf r c = record { head = r; kc = c .kc; span = c .span; sums = c .sums; s9 = c .s9 }
+digestOf r c = record { head = r; kc = c .kc; span = c .span; sums = c .sums }
 
 -- it closes: its heading stands at the line n (0: none), has the marks m of its line and reads as r
 unfoldable pub closeAs : Basis → Block → Wait → ℕ → ℕ → Read → Claims → Shut

@@ -35,9 +35,9 @@ codeBy Text = 4
 codeBy Range = 5
 codeBy Group = 6
 
--- that of an identifier; an S9 has any text, but is claimed
+-- that of an identifier
 unfoldable pub codeOf : ℕ → ℕ
-codeOf i = cond (eqb i (named "S9")) 7 (codeBy (classOf i))
+codeOf i = codeBy (classOf i)
 
 -- a field of a class may not go on with so many continuations, the last of so many bytes
 abbrev pub breaksTail : ℕ → ℕ → ℕ → Bool

@@ -41,14 +41,13 @@ fn digest_of(head: Read, claims: Claims) -> Digest
         kc,
         span,
         sums,
-        s9: claims.s9,
     }
 }
 
 // All marks of the open heading but 16, from those of its line and those that the account gives.
 fn head_marks(own: u64, read: Read, marks: u64) -> u64
-    requires { ⌜ (marks < 2 ^ 39) × (own ≤ 18) ⌝ }
-    ensures { λ r. ⌜ (r ≡ own + mark 6 (isUnreadable read) + marks) × (r < 2 ^ 40) ⌝ }
+    requires { ⌜ (marks < 2 ^ 40) × (own ≤ 18) ⌝ }
+    ensures { λ r. ⌜ (r ≡ own + mark 6 (isUnreadable read) + marks) × (r < 2 ^ 41) ⌝ }
 {
     own + flag(is_unreadable(read), MARK_6) + marks
 }
@@ -63,8 +62,8 @@ pub fn close_item(
     read: Read,
     claims: Claims,
 ) -> Shut
-    requires { ⌜ (w .marks < 2 ^ 40) × (own ≤ 18) ⌝ }
-    ensures { λ r. ⌜ (r ≡ closeAs basis b w no own read claims) × (r .wait .marks < 2 ^ 40) × (r .told < 2 ^ 40) × (r .marks < 2 ^ 40) ⌝ }
+    requires { ⌜ (w .marks < 2 ^ 41) × (own ≤ 18) ⌝ }
+    ensures { λ r. ⌜ (r ≡ closeAs basis b w no own read claims) × (r .wait .marks < 2 ^ 41) × (r .told < 2 ^ 41) × (r .marks < 2 ^ 41) ⌝ }
 {
     if no == 0 {
         return Shut {
@@ -106,8 +105,8 @@ pub fn close_item(
 
 // At the file's end the one who waits has 16.
 pub fn last_marks(b: Block, w: Wait) -> u64
-    requires { ⌜ w .marks < 2 ^ 40 ⌝ }
-    ensures { λ r. ⌜ (r ≡ lastMarks b w) × (r < 2 ^ 41) ⌝ }
+    requires { ⌜ w .marks < 2 ^ 41 ⌝ }
+    ensures { λ r. ⌜ (r ≡ lastMarks b w) × (r < 2 ^ 42) ⌝ }
 {
     flag(b.any, w.marks + MARK_16)
 }

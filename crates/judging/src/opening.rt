@@ -21,7 +21,6 @@ ghost use mathlib.Core.Path.{_≡_};
 ghost use mathlib.Core.Bool.{cond, not};
 ghost use Prim.Native.Nat.{_≤_, _<_, _^_};
 ghost use lib.Dec.{eqb};
-ghost use Rattle.fields.specs.Classes.{classOf};
 ghost use Rattle.fields.specs.Readings.{ifFits};
 ghost use Rattle.rules.specs.Said.{isUnreadable};
 ghost use Rattle.items.specs.Claims.{claimsWith};
@@ -113,7 +112,8 @@ pub fn low_marks(own: u64, since: u32, no: u32, continues: bool) -> u64
     own + flag(((since == 0) & (no == 0)) | !continues, MARK_2) + flag(since == 0, MARK_3)
 }
 
-fn code_by(class: Class) -> u8
+// The number of a class.
+pub fn code_of(class: Class) -> u8
     ensures { λ r. ⌜ r ≡ codeBy class ⌝ }
 {
     match class {
@@ -125,17 +125,6 @@ fn code_by(class: Class) -> u8
         Class::Range => 5,
         Class::Group => 6,
     }
-}
-
-// The number of the class of an identifier.
-pub fn code_of(ident: usize, class: Class) -> u8
-    requires { ⌜ class ≡ classOf ident ⌝ }
-    ensures { λ r. ⌜ r ≡ codeOf ident ⌝ }
-{
-    if ident == classes::S9 {
-        return 7;
-    }
-    code_by(class)
 }
 
 // 6 to 9; 8 and 9 only where it is the item's first KC, and the heading reads.

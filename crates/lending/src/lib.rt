@@ -13,7 +13,7 @@ ghost use Rattle.account.specs.Model.{closeModel};
 
 // The account is lent: it is taken out, brought up to date by value, and stored back.
 pub fn step(b: &mut Block, it: Digest, basis: Basis) -> u64
-    ensures { λ r. ⌜ (now (b .exit) ≡ closeModel basis (now (b .entry)) it .block) × (r ≡ closeModel basis (now (b .entry)) it .marks) × (r < 2 ^ 39) ⌝ }
+    ensures { λ r. ⌜ (now (b .exit) ≡ closeModel basis (now (b .entry)) it .block) × (r ≡ closeModel basis (now (b .entry)) it .marks) × (r < 2 ^ 40) ⌝ }
 {
     let c = close_item(*b, it, basis);
     *b = c.block;
@@ -22,7 +22,7 @@ pub fn step(b: &mut Block, it: Digest, basis: Basis) -> u64
 
 // The lending of a local account. Its parameters and its result are plain, so its callers need no walk.
 pub fn advance(b: Block, it: Digest, basis: Basis) -> Accounted
-    ensures { λ r. ⌜ (r ≡ closeModel basis b it) × (r .marks < 2 ^ 39) ⌝ }
+    ensures { λ r. ⌜ (r ≡ closeModel basis b it) × (r .marks < 2 ^ 40) ⌝ }
 {
     let mut own = b;
     let marks = step(&mut own, it, basis);

@@ -1,4 +1,4 @@
-// Prints document 01's table of outcomes as deriving gives it: for each input type and outcome the outgoing type and the codes,
+// Prints the table of outcomes as deriving gives it (documents 01 and 02): for each input type and outcome the outgoing type and the codes,
 // from the codes 1 2 0 (or 1 2 3 for a trilateral type), or the refusal; first for a direct sender, then for a third party. Then what
 // telling answers for 45, and each of the refusals 11 to 17.
 use headings::Code;
@@ -142,11 +142,15 @@ fn main() {
     print_row(37, 1, 3);
     print_row(45, 1, 3);
     print_row(51, 1, 0);
+    print_row(96, 1, 0);
+    print_row(97, 1, 0);
+    print_row(98, 1, 0);
     io::write_all(1, b"by a third party\n");
     print_row(35, 2, 3);
     print_row(37, 2, 3);
     print_row(45, 2, 3);
     print_row(11, 2, 0);
+    print_row(96, 2, 0);
     print_told(45, 4, 1, 3);
     print_told(45, 5, 1, 3);
     print_told(45, 6, 1, 3);

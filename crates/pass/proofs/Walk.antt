@@ -159,7 +159,7 @@ module _ (terms : Terms) (s ls₀ rs₀ : List ℕ) where
     pub means : Means terms pieces n o since top (readAs reads h) cl p b w stood
     pub book : Book all ls₀ rs₀ g ls rs
     pub small : g .total ≤ 256 * n
-    pub calm : w .marks < 2 ^ 40
+    pub calm : w .marks < 2 ^ 41
     pub tail-few : o .tail ≤ n
     pub top-few : top ≤ 18
     pub rest : run terms put pieces all (rowsFrom (suc n) (lines (drop at s))) ≡ faultsIn terms s
@@ -230,7 +230,7 @@ module _ {terms : Terms} {s ls₀ rs₀ : List ℕ} {j : Basis} {ls rs stood : L
     walk-on : (z : Sorted) → sorted row ≡ z → (xs : List Fault) → putAll put (out terms (W .pieces) z) (W .all) ≡ insertAll xs (W .all)
         → {o′ : Open} {p′ : Pend} {since′ top′ : ℕ} {reads′ : Bool} {h′ : Heading} {cl′ : Claims} {b′ : Block} {w′ : Wait} {stood′ : List ℕ}
         → Means terms (push (W .pieces) z) (suc n) o′ since′ top′ (readAs reads′ h′) cl′ p′ b′ w′ stood′
-        → {g′ : Ledger} {ls′ rs′ : List ℕ} → Entered xs g ls rs g′ ls′ rs′ → length xs ≤ 192 → w′ .marks < 2 ^ 40 → o′ .tail ≤ suc n → top′ ≤ 18
+        → {g′ : Ledger} {ls′ rs′ : List ℕ} → Entered xs g ls rs g′ ls′ rs′ → length xs ≤ 192 → w′ .marks < 2 ^ 41 → o′ .tail ≤ suc n → top′ ≤ 18
         → Walking terms s ls₀ rs₀ j ls′ rs′ stood′ g′ o′ p′ since′ top′ reads′ h′ cl′ b′ w′ (f .next) (n + 1)
     unfolding rowsFrom
     walk-on z ez xs eo {o′} {p′} {since′} {top′} {reads′} {h′} {cl′} {b′} {w′} {stood′} M {g′} {ls′} {rs′} E few calm tail top =
@@ -311,7 +311,7 @@ module _ {terms : Terms} {s ls₀ rs₀ : List ℕ} {j : Basis} {ls rs stood : L
       pub walk-head : x ≡ HeadingLine → {r : Read} → r ≡ headingOf (span at (f .end) s)
           → {o′ : Open} → o′ ≡ noOpen → {h′ : Heading} → h′ ≡ headingIn r h → {reads′ : Bool} → reads′ ≡ not (isUnreadable r) → {cl′ : Claims} → cl′ ≡ noClaims
           → {b′ : Block} → b′ ≡ closeAs j b w since top (readAs reads h) (closeClaims cl o p) .block
-          → {w′ : Wait} → w′ ≡ closeAs j b w since top (readAs reads h) (closeClaims cl o p) .wait → w′ .marks < 2 ^ 40
+          → {w′ : Wait} → w′ ≡ closeAs j b w since top (readAs reads h) (closeClaims cl o p) .wait → w′ .marks < 2 ^ 41
           → {g′ : Ledger} {ls′ rs′ : List ℕ} → Entered (marked (o .no) (o .marks) ++ closeFaults j b w since top (readAs reads h) (closeClaims cl o p)) g ls rs g′ ls′ rs′
           → Walking terms s ls₀ rs₀ j ls′ rs′ stood g′ o′ p (n + 1) own reads′ h′ cl′ b′ w′ (f .next) (n + 1)
       walk-head e {r} er {o′} eo′ {h′} eh {reads′} ed {cl′} ec {b′} eb {w′} ew calm E =

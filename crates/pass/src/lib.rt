@@ -72,9 +72,9 @@ fn shut_item(
     w: Wait,
 ) -> Closed
     requires { ⌜ Ready (g .kept) (now lines) (now rules) ⌝ }
-    requires { ⌜ (g .total < 2 ^ 62) × (w .marks < 2 ^ 40) × (own ≤ 18) ⌝ }
+    requires { ⌜ (g .total < 2 ^ 62) × (w .marks < 2 ^ 41) × (own ≤ 18) ⌝ }
     ensures { λ r. ⌜ Entered (closeFaults basis b w no own read claims) g (now (lines .entry)) (now (rules .entry)) (r .ledger) (now (lines .exit)) (now (rules .exit)) ⌝ }
-    ensures { λ r. ⌜ (r .block ≡ closeAs basis b w no own read claims .block) × (r .wait ≡ closeAs basis b w no own read claims .wait) × (r .wait .marks < 2 ^ 40) ⌝ }
+    ensures { λ r. ⌜ (r .block ≡ closeAs basis b w no own read claims .block) × (r .wait ≡ closeAs basis b w no own read claims .wait) × (r .wait .marks < 2 ^ 41) ⌝ }
 {
     let c = closing::close_item(basis, b, w, no, own, read, claims);
     let block = c.block;
@@ -105,9 +105,9 @@ fn shut_all(
     w: Wait,
 ) -> Closed
     requires { ⌜ Ready (g .kept) (now lines) (now rules) ⌝ }
-    requires { ⌜ (g .total < 2 ^ 61) × (w .marks < 2 ^ 40) × (own ≤ 18) ⌝ }
+    requires { ⌜ (g .total < 2 ^ 61) × (w .marks < 2 ^ 41) × (own ≤ 18) ⌝ }
     ensures { λ r. ⌜ Entered (marked (o .no) (o .marks) ++ closeFaults basis b w no own (readAs reads h) (closeClaims claims o p)) g (now (lines .entry)) (now (rules .entry)) (r .ledger) (now (lines .exit)) (now (rules .exit)) ⌝ }
-    ensures { λ r. ⌜ (r .block ≡ closeAs basis b w no own (readAs reads h) (closeClaims claims o p) .block) × (r .wait ≡ closeAs basis b w no own (readAs reads h) (closeClaims claims o p) .wait) × (r .wait .marks < 2 ^ 40) ⌝ }
+    ensures { λ r. ⌜ (r .block ≡ closeAs basis b w no own (readAs reads h) (closeClaims claims o p) .block) × (r .wait ≡ closeAs basis b w no own (readAs reads h) (closeClaims claims o p) .wait) × (r .wait .marks < 2 ^ 41) ⌝ }
 {
     let g1 = ledger::enter(lines, rules, g, o.no, o.marks);
     let all = opening::claims_after(claims, o, p);
@@ -132,7 +132,7 @@ fn shut_file(
     w: Wait,
 ) -> Ledger
     requires { ⌜ Ready (g .kept) (now lines) (now rules) ⌝ }
-    requires { ⌜ (g .total < 2 ^ 61) × (w .marks < 2 ^ 40) × (own ≤ 18) ⌝ }
+    requires { ⌜ (g .total < 2 ^ 61) × (w .marks < 2 ^ 41) × (own ≤ 18) ⌝ }
     ensures { λ r. ⌜ Entered ((marked (o .no) (o .marks) ++ closeFaults basis b w no own (readAs reads h) (closeClaims claims o p)) ++ marked (closeAs basis b w no own (readAs reads h) (closeClaims claims o p) .wait .line) (lastMarks (closeAs basis b w no own (readAs reads h) (closeClaims claims o p) .block) (closeAs basis b w no own (readAs reads h) (closeClaims claims o p) .wait))) g (now (lines .entry)) (now (rules .entry)) r (now (lines .exit)) (now (rules .exit)) ⌝ }
 {
     let t = shut_all(
@@ -243,7 +243,7 @@ pub fn enter_faults(s: &[u8], code: u32, day: u32, lines: &mut [u32], rules: &mu
                 }
                 let stands = again(&mut stood, ident, n, since);
                 let class = classes::class_of(ident);
-                let number = opening::code_of(ident, class);
+                let number = opening::code_of(class);
                 let said = readings::read_field(class, &s[from..end]);
                 let kc = claims.kc;
                 open = opening::field_open(

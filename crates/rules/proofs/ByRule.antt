@@ -66,7 +66,7 @@ module _ (terms : Terms) (file : List ℕ) where
         at-heading 16 (rule16At above i below) (List·Memᴰ·tail (List·Memᴰ·tail (List·Memᴰ·tail
         (Memᴰ·append-right (ownTests terms (digest i) (headOf (i .head))) (List·Memᴰ·head refl)))))
 
-    -- 10 to 15, and 17 to 22 and 30 to 38, at one that reads as h
+    -- 10 to 15, and 17 to 21 and 30 to 39, at one that reads as h
     module _ (h : Heading) (e : headOf (i .head) ≡ Reads h) where
       pub at-readable : (r : ℕ) (b : Bool)
           → List·Memᴰ (r if b) (ownTests terms (digest i) (Reads h)) ⊎ List·Memᴰ (r if b) (blockTests (map digest above) (digest i) (Reads h))

@@ -2,7 +2,6 @@
 -- and a 13 of 2500 has two items and 15000 in group 1.
 use Prim.Native.Nat.{ℕ}
 use mathlib.Core.Path.{_≡_, refl}
-use mathlib.Core.Bool.{false}
 use mathlib.Core.List.{List, [], _∷_, _++_}
 use Rattle.days.specs.Days.{isReal, isLeap, row, monthLength, dayNumber}
 use Rattle.headings.specs.declared.Read.the-variants.{Reads}
@@ -37,8 +36,7 @@ item kind number kc span c s =
       });
       kc = kc;
       span = span;
-      sums = record { groups = noSum ∷ record { stated = Says c (record { 0 = s }) } ∷ noSum ∷ noSum ∷ noSum ∷ noSum ∷ noSum ∷ noSum ∷ noSum ∷ [] };
-      s9 = false;
+      sums = record { groups = noSum ∷ record { stated = Says c (record { 0 = s }) } ∷ noSum ∷ noSum ∷ noSum ∷ noSum ∷ noSum ∷ noSum ∷ noSum ∷ noSum ∷ [] };
     }
 
 abbrev payment : (kind number amount : ℕ) → Digest

@@ -1,4 +1,4 @@
--- The rules of blocks, 16 to 22 and 30 to 38, said over the items above a heading, nearest first, and for 16 those below it.
+-- The rules of blocks, 16 to 21 and 30 to 39, said over the items above a heading, nearest first, and for 16 those below it.
 -- No running account is named here.
 use Prim.Native.Nat.{ℕ, _+_}
 use mathlib.Core.Bool.{Bool, true, false, cond, not, _&&_, _||_}
@@ -60,10 +60,6 @@ spanWrong (g ∷ gs) (Runs a b) = not (eqb (a .0) (oldest g gs .number .0) && eq
 abbrev pub rule21 : List Digest → Heading → FirstIn → Bool
 rule21 above h span = isClosing (h .kind) && spanWrong (readable (blockAbove above)) span
 
--- '22: a 51 with an S9'
-abbrev pub rule22 : Heading → Bool → Bool
-rule22 h s9 = isClosing (h .kind) && s9
-
 -- what reads and isn't the count n and the sum t; absent means 0 and 0. 'A true sum of 10^17 or more equals no Sd': it has 17 digits
 -- (`large-sum`, `large-count` of `account`)
 abbrev pub misstated : ℕ → ℕ → FirstSum → Bool
@@ -75,7 +71,7 @@ abbrev pub statedIn : List Sum → ℕ → FirstSum
 statedIn groups d = getD groups d (record { stated = NoSum }) .stated
 
 -- '30 to 38: for group d = 0 to 8, a 51 whose first Sd reads (absent means 0 and 0) and isn't the count and sum over the block's items of
--- input type other than 51 with tens digit d and a first KC that reads': here 30 + d
+-- input type other than 51 with tens digit d and a first KC that reads': here 30 + d; 'group 9 joins as rule 39' (document 02, A3)
 abbrev pub rule30 : ℕ → List Digest → Heading → Sums → Bool
 rule30 d above h stated =
     isClosing (h .kind)

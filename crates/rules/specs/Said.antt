@@ -113,8 +113,8 @@ statedOf none = NoSum
 statedOf (some r) = statedBy r
 
 -- one for each group
-abbrev pub nineSums : (ℕ → Sum) → List Sum
-nineSums f = f 0 ∷ f 1 ∷ f 2 ∷ f 3 ∷ f 4 ∷ f 5 ∷ f 6 ∷ f 7 ∷ f 8 ∷ []
+abbrev pub tenSums : (ℕ → Sum) → List Sum
+tenSums f = f 0 ∷ f 1 ∷ f 2 ∷ f 3 ∷ f 4 ∷ f 5 ∷ f 6 ∷ f 7 ∷ f 8 ∷ f 9 ∷ []
 
 -- an item, as the rules at headings see it
 unfoldable pub digest : Item → Digest
@@ -123,6 +123,5 @@ digest i =
       head = headOf (i .head);
       kc = kcOf (firstSaid (is (named "KC")) (i .fields));
       span = spanOf (firstSaid (is (named "IN")) (i .fields));
-      sums = record { groups = nineSums (λ d. record { stated = statedOf (firstSaid (isGroup d) (i .fields)) }) };
-      s9 = stands (named "S9") (i .fields);
+      sums = record { groups = tenSums (λ d. record { stated = statedOf (firstSaid (isGroup d) (i .fields)) }) };
     }

@@ -17,7 +17,7 @@ use Rattle.rules.specs.Tests.{Test, _if_, Spot}
 use Rattle.rules.specs.LineRules.{Place, nowhere, prelude, inside, rule1, rule2, rule3, rule4}
 use Rattle.rules.specs.FieldRules.{rule5, rule6, rule7, rule8At, rule9At}
 use Rattle.rules.specs.HeadingRules.{rule6At, rule11, rule12, rule15}
-use Rattle.rules.specs.BlockRules.{rule16, rule17, rule18, rule19, rule20, rule21, rule22, rule30}
+use Rattle.rules.specs.BlockRules.{rule16, rule17, rule18, rule19, rule20, rule21, rule30}
 
 -- ---- the tests at a line
 -- at a continuation, or a line of no kind
@@ -57,7 +57,7 @@ ownTests terms it (Reads h) =
     (14 if rule14 h) ∷
     (15 if rule15 h (it .kc)) ∷ []
 
--- 17 to 22 and 30 to 38, by the items above: these 'concern readable headings'
+-- 17 to 21 and 30 to 39, by the items above: these 'concern readable headings'
 unfoldable pub blockTests : List Digest → Digest → Read → List Test
 blockTests above it Unreadable = []
 blockTests above it (Reads h) =
@@ -66,7 +66,6 @@ blockTests above it (Reads h) =
     (19 if rule19 above h) ∷
     (20 if rule20 above h) ∷
     (21 if rule21 above h (it .span)) ∷
-    (22 if rule22 h (it .s9)) ∷
     (30 if rule30 0 above h (it .sums)) ∷
     (31 if rule30 1 above h (it .sums)) ∷
     (32 if rule30 2 above h (it .sums)) ∷
@@ -75,7 +74,8 @@ blockTests above it (Reads h) =
     (35 if rule30 5 above h (it .sums)) ∷
     (36 if rule30 6 above h (it .sums)) ∷
     (37 if rule30 7 above h (it .sums)) ∷
-    (38 if rule30 8 above h (it .sums)) ∷ []
+    (38 if rule30 8 above h (it .sums)) ∷
+    (39 if rule30 9 above h (it .sums)) ∷ []
 
 -- 16, at any heading, by the items above and below
 abbrev pub rule16At : List Item → Item → List Item → Bool

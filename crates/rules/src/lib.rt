@@ -1,4 +1,4 @@
-// The rules of document 01: which faults a file of bytes has. No function stands here, and no order of discovery: this crate is the
+// The rules of documents 01 and 02: which faults a file has. No function stands here, and no order of discovery: this crate is the
 // statement of checking, to be read from top to bottom, and what a reader of it must believe. It stands on definitions alone: bytes and
 // digits (`text`), days (`days`), headings and their types (`headings`), kinds of lines and layouts of fields (`figures`, `fields`), and
 // how a file is cut (`lines`). Read, under `specs/`:
@@ -12,7 +12,7 @@
 //   LineRules     rules 1 to 4
 //   FieldRules    rules 5 to 9
 //   HeadingRules  rule 6 at a heading, and 11, 12 and 15 (10, 13 and 14, by which deriving refuses too, are `headings`' HeadRules)
-//   BlockRules    rules 16 to 22 and 30 to 38
+//   BlockRules    rules 16 to 21 and 30 to 39
 //   Spots         which rules are tested at which line, and all lines of a file in their order
 //   Faults        the list: the broken tests of each line, by line and then by rule; and what two lent slices hold of it
 //   Demand        what is demanded of the list
@@ -49,16 +49,15 @@ pub struct Sum {
     pub stated: FirstSum,
 }
 
-// The first S0 to S8 of an item. Only a 51 is asked for them.
+// The first S0 to S9 of an item. Only a 51 is asked for them.
 pub struct Sums {
-    pub groups: [Sum; 9],
+    pub groups: [Sum; 10],
 }
 
-// An item, as the rules at headings see it; `s9` says whether an S9 stands in it.
+// An item, as the rules at headings see it.
 pub struct Digest {
     pub head: Read,
     pub kc: FirstKc,
     pub span: FirstIn,
     pub sums: Sums,
-    pub s9: bool,
 }

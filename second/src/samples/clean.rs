@@ -7,7 +7,7 @@ use crate::characters::is_admissible;
 use crate::heading::Heading;
 
 pub const PRIORITY: [u32; 4] = [1, 21, 44, 45];
-pub const ORDINARY: [u32; 9] = [11, 12, 13, 14, 32, 33, 35, 37, 55];
+pub const ORDINARY: [u32; 12] = [11, 12, 13, 14, 32, 33, 35, 37, 55, 96, 97, 98];
 
 const LARGEST_NUMBER: u32 = 9_999_999;
 /// The largest amount of one item.
@@ -21,7 +21,7 @@ const LONGEST_ITEM: usize = 4_000;
 type Lines = Vec<Vec<u8>>;
 
 /// Count and sum of each group.
-type Sums = [(u64, u64); 6];
+type Sums = [(u64, u64); 10];
 
 /// A few blocks of a few items.
 pub fn small(dice: &mut Dice) -> Draft {
@@ -128,7 +128,7 @@ impl<'d> Author<'d> {
             // In an ordinary item these only have to read.
             fields.push(vec![b"IN:7 3".to_vec()]);
             fields.push(vec![b"S3:0000001 00000000000000001".to_vec()]);
-            fields.push(vec![b"S9: any text".to_vec()]);
+            fields.push(vec![b"S9:1 7".to_vec()]);
         }
         self.write_item(heading, fields);
     }
@@ -182,7 +182,7 @@ impl<'d> Author<'d> {
     fn amount_day(&mut self, kind: u32) -> u32 {
         let latest = match kind {
             32 | 33 => calendar::shift(self.draft.day, 30),
-            44 | 55 => 99991231,
+            44 | 55 | 96..=98 => 99991231,
             _ => self.draft.day,
         };
         match self.dice.below(4) {
@@ -295,8 +295,7 @@ impl<'d> Author<'d> {
         let first = self.padded(first.into(), 7);
         let last = self.padded(last.into(), 7);
         let mut fields = vec![vec![format!("IN:{first} {last}").into_bytes()]];
-        for group in 0..9 {
-            let (count, sum) = sums.get(group).copied().unwrap_or_default();
+        for (group, &(count, sum)) in sums.iter().enumerate() {
             if count > 0 || self.dice.once_in(6) {
                 let (count, sum) = (self.padded(count, 7), self.padded(sum, 17));
                 fields.push(vec![format!("S{group}:{count} {sum}").into_bytes()]);

@@ -44,7 +44,7 @@ fn line(dice: &mut Dice) -> Vec<u8> {
 }
 
 fn heading(dice: &mut Dice) -> Vec<u8> {
-    let kind = dice.pick(&[1, 11, 11, 13, 32, 35, 37, 44, 45, 51, 51, 51, 55, 99]);
+    let kind = dice.pick(&[1, 11, 11, 13, 32, 35, 37, 44, 45, 51, 51, 51, 55, 96, 99]);
     let mut heading = Draft::new(CODE, DAY).good_heading(kind, dice.below(4) as u32);
     if dice.once_in(4) {
         heading.day = day(dice);

@@ -76,10 +76,13 @@ fn reading_11_layouts_hold_in_every_item() {
 
 #[test]
 fn reading_12_s9() {
-    assert_eq!(closed(&[&head(11, 1), KC, "S9:x", "   y", "S9:"]), [(5, 5)]);
+    assert_eq!(closed(&[&head(11, 1), KC, "S9:x", "S9:1 1"]), [(3, 6), (4, 5)]);
     let control = head(51, 0);
-    let lines = [&head(11, 1), KC, &control, "IN:1 1", "S1:1 1", "S9:", "S9:"];
-    assert_eq!(faults(&lines), [(3, 22), (7, 5)]);
+    let with = |field| faults(&[&head(11, 1), KC, &control, "IN:1 1", "S1:1 1", field]);
+    assert_eq!(with("S9:0 0"), []);
+    assert_eq!(with("S9:0 1"), [(3, 39)]);
+    assert_eq!(with("S9:1 0"), [(3, 39)]);
+    assert_eq!(with("S9:"), [(6, 6)]);
 }
 
 #[test]
@@ -120,13 +123,28 @@ fn reading_16_every_account() {
 }
 
 #[test]
-fn reading_17_days_of_44_and_55() {
-    for kind in [44, 55] {
+fn reading_17_days_that_need_only_be_real() {
+    for kind in [44, 55, 96, 97, 98] {
         assert_eq!(rules_at(&faults(&[&head(kind, 1), "KC:1 99991231"]), 2), []);
         assert_eq!(rules_at(&faults(&[&head(kind, 1), "KC:1 20230229"]), 2), [8]);
         assert_eq!(rules_at(&faults(&[&head(kind, 1), "KC:1 00001231"]), 2), [8]);
         assert_eq!(rules_at(&faults(&[&head(kind, 1), "KC:1 00010101"]), 2), []);
     }
+}
+
+#[test]
+fn reading_a3_types_96_to_98() {
+    let row = [&head(96, 1), KC, &head(97, 2), KC, &head(98, 3), KC, &head(51, 0), "IN:1 3"];
+    assert_eq!(faults(&[&row[..], &["S9:3 3"]].concat()), []);
+    assert_eq!(faults(&row), [(7, 39)]);
+    for kind in 90..=99 {
+        let expected: &[u32] = if (96..=98).contains(&kind) { &[16] } else { &[10, 16] };
+        assert_eq!(rules_at(&faults(&[&head(kind, 1), KC]), 1), expected);
+    }
+    assert_eq!(rules_at(&faults(&[&head(96, 1)]), 1), [15, 16]);
+    assert_eq!(rules_at(&faults(&[&head_with(97, 1, 6, "0000990"), KC]), 1), [14, 16]);
+    assert_eq!(rules_at(&faults(&[&head(21, 1), KC, &head(98, 2), KC]), 3), [20]);
+    assert_eq!(rules_at(&faults(&[&head(11, 1), KC, &head(98, 2), KC]), 3), []);
 }
 
 #[test]

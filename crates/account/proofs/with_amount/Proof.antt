@@ -41,11 +41,11 @@ element-write-next-2 c = search needs
 
 returns : tie.Need-returns
 unfolding amountBlock plusAt
-returns c = simp (c .capped2 .ensures, c .before .before .capped .ensures, lt-ltb (c .before .before .before .before .before .args .kind / 10) 9 (omega arith))
+returns c = simp (c .capped2 .ensures, c .before .before .capped .ensures, lt-ltb (c .before .before .before .before .before .args .kind / 10) 10 (omega arith))
 
 returns-2 : tie.Need-returns-2
 unfolding amountBlock plusAt
-returns-2 c = simp (le-ltb (c .before .args .kind / 10) 9 (omega arith))
+returns-2 c = simp (le-ltb (c .before .args .kind / 10) 10 (omega arith))
 
 pub with-amount-spec : {M : Type 1} → statement M
 with-amount-spec =

@@ -67,7 +67,7 @@ stayed = (stay-none (λ _. TB.the-row) yes, (stay-none (λ _. TI.the-row) yes, (
 
 -- what `step` ensures, at the record z that it leaves and the marks r
 abbrev Ensures : Block → Digest → Basis → Block → ℕ → Type 0
-Ensures h i j z r = (z ≡ closeModel j h i .block) × (r ≡ closeModel j h i .marks) × (r < 2 ^ 39)
+Ensures h i j z r = (z ≡ closeModel j h i .block) × (r ≡ closeModel j h i .marks) × (r < 2 ^ 40)
 
 module _ {M : Type 1} (𝓤 : URA M) (H : Heap 𝓤) (A : Atoms 𝓤) (at-mem : Memory → SProp 𝓤) (run : Routine → Fun 𝓤) where
   abbrev Step : Contract 𝓤

@@ -74,7 +74,7 @@ marks-fit r is = LL.owed TC.the-type TC′.the-laws r _ is .1 .0 .1
 
 -- what `close_item` ensures
 abbrev Closes : Block → Digest → Basis → Accounted → Type 0
-Closes h i j r = (r ≡ closeModel j h i) × (r .marks < 2 ^ 39)
+Closes h i j r = (r ≡ closeModel j h i) × (r .marks < 2 ^ 40)
 
 module _ {M : Type 1} (𝓤 : URA M) (H : Heap 𝓤) (A : Atoms 𝓤) (at-mem : Memory → SProp 𝓤) (run : Routine → Fun 𝓤) where
   -- the contract that the proof cites

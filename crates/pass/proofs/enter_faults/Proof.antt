@@ -9,7 +9,7 @@ use Rattle.fields.specs.Readings.{textOf, readingOf}
 use Rattle.lines.specs.Reading.{span, IsNext}
 use Rattle.lines.proofs.Reading.{is-next}
 use Rattle.rules.specs.Terms.{input}
-use Rattle.judging.specs.Opening.{lowOpen, closeClaims}
+use Rattle.judging.specs.Opening.{codeBy, codeOf, lowOpen, closeClaims}
 use Rattle.judging.proofs.Sets.{lineMarks}
 use Rattle.pass.proofs.Walk.{Walking, own-at, claims-closed, claims-kept, own-took, own-left, span-long, ident-few, walk-start, walk-ready, walk-room, walk-tail, walk-other, walk-more, walk-field, walk-head, walk-end}
 use Rattle.pass.proofs.enter_faults.Statement.{statement}
@@ -220,6 +220,11 @@ class-of-requires c κs = search needs
 code-of-requires : tie.Need-code-of-requires Inv-loop μ-loop
 code-of-requires c κs = search needs
 
+-- the number of its class
+number-is : (c : tie.After-code-of Inv-loop μ-loop) → c .code-of .result ≡ codeOf (c .before .before .before .before .before .before .before .before .before .before .before .before .before .before .x .given .0 .0)
+unfolding codeOf
+number-is c = c .code-of .ensures ∙ ap codeBy (c .before .class-of .ensures)
+
 sub-read-field : tie.Need-sub-read-field Inv-loop μ-loop
 sub-read-field c =
     let found = next (c .before .before .before .before .before .before .before .before .before .before .before .before .before .before .before .before .before .before .before .before .before .before) in
@@ -239,13 +244,13 @@ read-field-requires : tie.Need-read-field-requires Inv-loop μ-loop
 read-field-requires c κs = search needs
 
 field-open-requires : tie.Need-field-open-requires Inv-loop μ-loop
-field-open-requires c κs = search needs
+field-open-requires c κs = (number-is (c .before .before), c .before .before .before .before .before .before .before .before .before .before .before .before .before .before .before .before .before .before .before .before .line-marks .ensures .1)
 
 claim-own-requires : tie.Need-claim-own-requires Inv-loop μ-loop
 claim-own-requires c κs = search needs
 
 keep-own-requires : tie.Need-keep-own-requires Inv-loop μ-loop
-keep-own-requires c κs = search needs
+keep-own-requires c κs = number-is (c .before .before .before .before .before)
 
 loop-less-3 : tie.Need-loop-less-3 Inv-loop μ-loop
 loop-less-3 c =
@@ -257,7 +262,7 @@ loop-again-3 c =
     let at-loop = c .before .before .before .before .before .before .before .before .before .before .before .before .before .before .before .before .before .before .before .before .before .before .before .before .before .before .before .before .before .before in
     let asked = c .before .before .before .before .before .before .before .before .again .ensures in
     let said = c .before .before .before .before .read-field .ensures ∙ ap (λ (k : Class). readingOf k (textOf (span (c .before .before .before .before .before .before .before .before .before .before .before .before .before .before .before .before .before .before .before .before .before .before .before .before .before .before .before .before .before .before .loop .at) (c .before .before .before .before .before .before .before .before .before .before .before .before .before .before .before .before .before .before .before .before .before .before .before .before .before .before .before .before .line-from .result .end) (c .before .before .before .before .before .before .before .before .before .before .before .before .before .before .before .before .before .before .before .before .before .before .before .before .before .before .before .before .before .before .before .before .before .before .before .before .before .before .before .before .before .before .before .before .args .s .now)))) (c .before .before .before .before .before .before .before .class-of .ensures) in
-    let own = own-took (at-loop .loop .since) (c .before .before .before .before .before .before .before .before .before .before .before .before .before .before .before .before .before .before .before .before .x .given .0 .0) (c .before .before .before .before .before .before .code-of .result) (c .before .before .before .before .read-field .result) (c .before .before .before .before .before .before .code-of .ensures) (c .before .before .if2 .taken) (c .before .before .before .before .before .before .before .before .before .before .if1 .claims) (c .before .claim-own .result) (at-loop .loop .pend) (c .keep-own .result) (c .before .claim-own .ensures) (c .keep-own .ensures) in
+    let own = own-took (at-loop .loop .since) (c .before .before .before .before .before .before .before .before .before .before .before .before .before .before .before .before .before .before .before .before .x .given .0 .0) (c .before .before .before .before .before .before .code-of .result) (c .before .before .before .before .read-field .result) (number-is (c .before .before .before .before .before .before)) (c .before .before .if2 .taken) (c .before .before .before .before .before .before .before .before .before .before .if1 .claims) (c .before .claim-own .result) (at-loop .loop .pend) (c .keep-own .result) (c .before .claim-own .ensures) (c .keep-own .ensures) in
     walk-field (c .before .before .before .before .before .before .before .before .before .before .before .before .before .before .before .before .before .before .before .before .before .before .before .before .before .before .before .before .before .before .loop .inv) (next (c .before .before .before .before .before .before .before .before .before .before .before .before .before .before .before .before .before .before .before .before .before .before .before .before .before .before .before .before)) (c .before .before .before .before .before .before .before .before .before .before .before .before .before .before .before .before .before .before .before .before .before .before .kind-of .ensures) (own-is (c .before .before .before .before .before .before .before .before .before .before .before .before .before .before .before .before .before .before .before .before .before .before .before .before)) (c .before .before .before .before .before .before .before .before .before .before .before .before .before .before .before .before .before .before .before .before .x .given .0 .0) (c .before .before .before .before .before .before .before .before .before .before .before .before .before .before .before .before .before .before .before .before .x .given .1) (claims-joined (c .before .before .before .before .before .before .before .before .before .before)) (asked .0) said (c .before .before .before .field-open .ensures) (own .0) (own .1) (asked .1) (c .before .before .before .before .before .before .before .before .before .before .before .before .before .before .before .before .enter2 .ensures .0)
 
 loop-less-4 : tie.Need-loop-less-4 Inv-loop μ-loop
@@ -270,7 +275,7 @@ loop-again-4 c =
     let at-loop = c .before .before .before .before .before .before .before .before .before .before .before .before .before .before .before .before .before .before .before .before .before .before .before .before .before .before .before .before in
     let asked = c .before .before .before .before .before .before .again .ensures in
     let said = c .before .before .read-field .ensures ∙ ap (λ (k : Class). readingOf k (textOf (span (c .before .before .before .before .before .before .before .before .before .before .before .before .before .before .before .before .before .before .before .before .before .before .before .before .before .before .before .before .loop .at) (c .before .before .before .before .before .before .before .before .before .before .before .before .before .before .before .before .before .before .before .before .before .before .before .before .before .before .line-from .result .end) (c .before .before .before .before .before .before .before .before .before .before .before .before .before .before .before .before .before .before .before .before .before .before .before .before .before .before .before .before .before .before .before .before .before .before .before .before .before .before .before .before .before .before .args .s .now)))) (c .before .before .before .before .before .class-of .ensures) in
-    let own = own-left (at-loop .loop .since) (c .before .before .before .before .before .before .before .before .before .before .before .before .before .before .before .before .before .before .x .given .0 .0) (c .before .before .before .before .code-of .result) (c .before .before .read-field .result) (c .before .before .before .before .code-of .ensures) (c .if2 .left) (c .before .before .before .before .before .before .before .before .if1 .claims) (at-loop .loop .pend) in
+    let own = own-left (at-loop .loop .since) (c .before .before .before .before .before .before .before .before .before .before .before .before .before .before .before .before .before .before .x .given .0 .0) (c .before .before .before .before .code-of .result) (c .before .before .read-field .result) (number-is (c .before .before .before .before)) (c .if2 .left) (c .before .before .before .before .before .before .before .before .if1 .claims) (at-loop .loop .pend) in
     walk-field (c .before .before .before .before .before .before .before .before .before .before .before .before .before .before .before .before .before .before .before .before .before .before .before .before .before .before .before .before .loop .inv) (next (c .before .before .before .before .before .before .before .before .before .before .before .before .before .before .before .before .before .before .before .before .before .before .before .before .before .before)) (c .before .before .before .before .before .before .before .before .before .before .before .before .before .before .before .before .before .before .before .before .kind-of .ensures) (own-is (c .before .before .before .before .before .before .before .before .before .before .before .before .before .before .before .before .before .before .before .before .before .before)) (c .before .before .before .before .before .before .before .before .before .before .before .before .before .before .before .before .before .before .x .given .0 .0) (c .before .before .before .before .before .before .before .before .before .before .before .before .before .before .before .before .before .before .x .given .1) (claims-joined (c .before .before .before .before .before .before .before .before)) (asked .0) said (c .before .field-open .ensures) (own .0) (own .1) (asked .1) (c .before .before .before .before .before .before .before .before .before .before .before .before .before .before .enter2 .ensures .0)
 
 enum-told-3 : tie.Need-enum-told-3 Inv-loop μ-loop

@@ -107,7 +107,7 @@ fn lengths(judge: &mut Judge, _: &mut Dice, length: u64) {
 fn random_heading(judge: &mut Judge, dice: &mut Dice, _: u64) {
     let code = |dice: &mut Dice| dice.pick(&[0, 1, 300, 9_999, 10_000, 9_999_999]);
     let any = |dice: &mut Dice| dice.below(10_000_000) as u32;
-    let kinds = [1, 11, 12, 13, 14, 21, 32, 33, 35, 37, 44, 45, 51, 55];
+    let kinds = [1, 11, 12, 13, 14, 21, 32, 33, 35, 37, 44, 45, 51, 55, 96, 97, 98];
     let heading = Heading {
         kind: if dice.once_in(8) { dice.below(100) as u32 } else { dice.pick(&kinds) },
         day: dice.below(100_000_000) as u32,

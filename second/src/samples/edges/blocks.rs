@@ -228,7 +228,7 @@ fn write_amounts(draft: &mut Draft, total: u64) -> u32 {
 fn classes() -> Vec<Sample> {
     let mut samples = Vec::new();
     for first in 0..100 {
-        for second in [1, 11, 21, 32, 44, 45, 51, 55, 99] {
+        for second in [1, 11, 21, 32, 44, 45, 51, 55, 96, 99] {
             for unreadable in [false, true] {
                 let mut draft = draft();
                 draft.heading(draft.good_heading(first, 1));

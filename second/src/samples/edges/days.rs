@@ -36,7 +36,7 @@ fn around_accounting_days() -> Edge {
 fn limits() -> Vec<(u32, i32)> {
     let today = [1, 11, 12, 13, 14, 21, 35, 37, 45].map(|kind| [(kind, 0), (kind, 1)]);
     let a_month = [32, 33].map(|kind| [(kind, 30), (kind, 31)]);
-    let any = [44, 55].map(|kind| [(kind, 31), (kind, -400)]);
+    let any = [44, 55, 96, 97, 98].map(|kind| [(kind, 31), (kind, -400)]);
     [today.concat(), a_month.concat(), any.concat()].concat()
 }
 

@@ -1,4 +1,4 @@
-//! Damage to blocks and to what their 51 says: rules 16 to 22 and 30 to 38.
+//! Damage to blocks and to what their 51 says: rules 16 to 21 and 30 to 39.
 
 use super::tools::{
     DAY, KIND, NUMBER, any_line, any_place, is_control, is_heading, item_end, other_digit, set,
@@ -68,7 +68,7 @@ pub(super) fn swapped_headings(draft: &mut Draft, dice: &mut Dice) {
 }
 
 pub(super) fn other_class(draft: &mut Draft, dice: &mut Dice) {
-    let kind = dice.pick(&[1, 21, 44, 45, 11, 32, 37, 55]);
+    let kind = dice.pick(&[1, 21, 44, 45, 11, 32, 37, 55, 96, 98]);
     let wanted = |line: &[u8]| is_heading(line) && !is_control(line);
     if let Some(line) = any_line(draft, dice, wanted) {
         set(line, KIND, kind);
@@ -98,15 +98,7 @@ pub(super) fn broken_interval(draft: &mut Draft, dice: &mut Dice) {
     }
 }
 
-pub(super) fn s9_in_control(draft: &mut Draft, dice: &mut Dice) {
-    if let Some(place) = any_place(draft, dice, is_control) {
-        let end = item_end(draft, place);
-        let to = dice.range(place as u64 + 1, end as u64) as usize;
-        draft.lines.insert(to, dice.pick(&["S9:0 0", "S9:", "S9:x"]).as_bytes().to_vec());
-    }
-}
-
-// Sums: rules 30 to 38.
+// Sums: rules 30 to 39.
 
 pub(super) fn any_sum<const GROUP: u8>(draft: &mut Draft, dice: &mut Dice) {
     let name = [b'S', b'0' + GROUP, b':'];

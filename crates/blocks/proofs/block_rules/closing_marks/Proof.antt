@@ -34,21 +34,15 @@ flag-requires-4 c κs = search needs
 add-result-3 : tie.Need-add-result-3
 add-result-3 c = search needs
 
-flag-requires-5 : tie.Need-flag-requires-5
-flag-requires-5 c κs = search needs
+group-marks-requires : tie.Need-group-marks-requires
+group-marks-requires c κs = search needs
 
 add-result-4 : tie.Need-add-result-4
 add-result-4 c = search needs
 
-group-marks-requires : tie.Need-group-marks-requires
-group-marks-requires c κs = search needs
-
-add-result-5 : tie.Need-add-result-5
-add-result-5 c = search needs
-
 returns : tie.Need-returns
 unfolding closingMarks
-returns c = (simp (c .group-marks .ensures .0, c .before .flag5 .ensures .0, c .before .before .flag4 .ensures .0, c .before .before .before .breaks-twenty-one .ensures, c .before .before .before .before .flag3 .ensures .0, c .before .before .before .before .before .breaks-nineteen-closing .ensures, c .before .before .before .before .before .before .flag2 .ensures .0, c .before .before .before .before .before .before .before .breaks-eighteen .ensures, c .before .before .before .before .before .before .before .before .flag .ensures .0), omega arith)
+returns c = (simp (c .group-marks .ensures .0, c .before .flag4 .ensures .0, c .before .before .breaks-twenty-one .ensures, c .before .before .before .flag3 .ensures .0, c .before .before .before .before .breaks-nineteen-closing .ensures, c .before .before .before .before .before .flag2 .ensures .0, c .before .before .before .before .before .before .breaks-eighteen .ensures, c .before .before .before .before .before .before .before .flag .ensures .0), omega arith)
 
 pub closing-marks-spec : {M : Type 1} → statement M
 closing-marks-spec =
@@ -64,8 +58,6 @@ closing-marks-spec =
     breaks-twenty-one-requires
     flag-requires-4
     add-result-3
-    flag-requires-5
-    add-result-4
     group-marks-requires
-    add-result-5
+    add-result-4
     returns)

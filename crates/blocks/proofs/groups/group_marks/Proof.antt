@@ -55,9 +55,15 @@ group-mark-requires-9 c κs = search needs
 add-result-8 : tie.Need-add-result-8
 add-result-8 c = search needs
 
+group-mark-requires-10 : tie.Need-group-mark-requires-10
+group-mark-requires-10 c κs = search needs
+
+add-result-9 : tie.Need-add-result-9
+add-result-9 c = search needs
+
 returns : tie.Need-returns
 unfolding groupMarks
-returns c = (simp (c .before .before .before .before .before .before .before .before .group-mark .ensures .0, c .before .before .before .before .before .before .before .group-mark2 .ensures .0, c .before .before .before .before .before .before .group-mark3 .ensures .0, c .before .before .before .before .before .group-mark4 .ensures .0, c .before .before .before .before .group-mark5 .ensures .0, c .before .before .before .group-mark6 .ensures .0, c .before .before .group-mark7 .ensures .0, c .before .group-mark8 .ensures .0, c .group-mark9 .ensures .0), omega arith)
+returns c = (simp (c .before .before .before .before .before .before .before .before .before .group-mark .ensures .0, c .before .before .before .before .before .before .before .before .group-mark2 .ensures .0, c .before .before .before .before .before .before .before .group-mark3 .ensures .0, c .before .before .before .before .before .before .group-mark4 .ensures .0, c .before .before .before .before .before .group-mark5 .ensures .0, c .before .before .before .before .group-mark6 .ensures .0, c .before .before .before .group-mark7 .ensures .0, c .before .before .group-mark8 .ensures .0, c .before .group-mark9 .ensures .0, c .group-mark10 .ensures .0), omega arith)
 
 pub group-marks-spec : {M : Type 1} → statement M
 group-marks-spec =
@@ -80,4 +86,6 @@ group-marks-spec =
     add-result-7
     group-mark-requires-9
     add-result-8
+    group-mark-requires-10
+    add-result-9
     returns)

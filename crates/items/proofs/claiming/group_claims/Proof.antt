@@ -6,7 +6,7 @@ use Rattle.items.proofs.claiming.group_claims.Tie as tie
 
 returns : tie.Need-returns
 unfolding groupClaims
-returns c = rw (le-leb 9 _ (c .if1 .taken))
+returns c = rw (le-leb 10 _ (c .if1 .taken))
 
 mul-old : tie.Need-mul-old
 mul-old c = search needs
@@ -28,7 +28,7 @@ array-set-from-next c = search needs
 
 returns-2 : tie.Need-returns-2
 unfolding groupClaims
-returns-2 c = rw (lt-leb 9 _ (c .before .before .before .if1 .left), c .stated-kept .ensures, c .before .stated-by .ensures)
+returns-2 c = rw (lt-leb 10 _ (c .before .before .before .if1 .left), c .stated-kept .ensures, c .before .stated-by .ensures)
 
 pub group-claims-spec : {M : Type 1} → statement M
 group-claims-spec =

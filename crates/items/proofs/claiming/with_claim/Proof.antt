@@ -33,7 +33,7 @@ group-claims-requires c κs = search needs
 
 returns-3 : tie.Need-returns-3
 unfolding claimsWith place
-returns-3 c = rw (ne-eqb _ 732 (c .before .before .before .before .before .if1 .left), ne-eqb _ 671 (c .before .before .before .before .if2 .left), c .before .group-claims .ensures, c .before .before .sum-group .ensures)
+returns-3 c = rw (ne-eqb _ 732 (c .before .before .before .before .if1 .left), ne-eqb _ 671 (c .before .before .before .if2 .left), c .group-claims .ensures, c .before .sum-group .ensures)
 
 pub with-claim-spec : {M : Type 1} → statement M
 with-claim-spec =

@@ -5,9 +5,9 @@ use mathlib.Core.List.{List, [], _∷_}
 use native.Mathlib.Nat.{add-zero, suc-add, add-suc}
 use native.Mathlib.Omega.{arith}
 use lib.ListN.{getD, set}
-use Rattle.account.specs.Summary.{nine}
+use Rattle.account.specs.Summary.{ten}
 
--- f at i, i + 1, .., n in all; `nine f` is `from f 0 9`
+-- f at i, i + 1, .., n in all; `ten f` is `from f 0 10`
 abbrev from : (ℕ → ℕ) → ℕ → ℕ → List ℕ
 from f i zero = []
 from f i (suc n) = f i ∷ from f (suc i) n
@@ -34,16 +34,16 @@ from-set f g v i (suc n) (suc k) l e h =
     let rest = from-set f g v (suc i) n k (omega arith) (ap g s ∙ e) (λ d q. h d (λ z. q (z ∙ sym s))) in
     rw (h i (λ q. omega arith), rest)
 
-pub get-nine : (f : ℕ → ℕ) (k : ℕ) → k < 9 → getD (nine f) k 0 ≡ f k
-get-nine f k l = from-get f 0 9 k l ∙ ap f (omega arith)
+pub get-ten : (f : ℕ → ℕ) (k : ℕ) → k < 10 → getD (ten f) k 0 ≡ f k
+get-ten f k l = from-get f 0 10 k l ∙ ap f (omega arith)
 
-pub set-nine : (f g : ℕ → ℕ) (k v : ℕ) → k < 9 → g k ≡ v → ((d : ℕ) → (d ≡ k → ⊥) → f d ≡ g d) → set (nine f) k v ≡ nine g
-set-nine f g k v l e h =
+pub set-ten : (f g : ℕ → ℕ) (k v : ℕ) → k < 10 → g k ≡ v → ((d : ℕ) → (d ≡ k → ⊥) → f d ≡ g d) → set (ten f) k v ≡ ten g
+set-ten f g k v l e h =
     let z : 0 + k ≡ k = omega arith in
-    from-set f g v 0 9 k l (ap g z ∙ e) (λ d q. h d (λ w. q (w ∙ sym z)))
+    from-set f g v 0 10 k l (ap g z ∙ e) (λ d q. h d (λ w. q (w ∙ sym z)))
 
-pub same-nine : (f g : ℕ → ℕ) → ((d : ℕ) → d < 9 → f d ≡ g d) → nine f ≡ nine g
-same-nine f g h = from-same f g 0 9 (λ d l u. h d (omega arith))
+pub same-ten : (f g : ℕ → ℕ) → ((d : ℕ) → d < 10 → f d ≡ g d) → ten f ≡ ten g
+same-ten f g h = from-same f g 0 10 (λ d l u. h d (omega arith))
 
 -- a cap on the way changes nothing
 pub cap-cap : (c x y : ℕ) → min c (min c x + y) ≡ min c (x + y)
