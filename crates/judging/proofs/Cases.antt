@@ -3,6 +3,7 @@ use mathlib.Core.Path.{_≡_, refl, sym, ap, _∙_}
 use mathlib.Core.Bool.{Bool, true, false, cond, not, _&&_}
 use Prim.Native.Nat.{ℕ, _+_}
 use native.Mathlib.Nat.{zero-add}
+use native.Mathlib.Omega.{arith}
 use lib.Dec.{eqb}
 use Rattle.laws.specs.Tests.{mark}
 use Rattle.headings.specs.declared.Heading.{Heading}
@@ -83,10 +84,10 @@ module _ (j : Basis) where
 
   pub marks-party : (halves : Halves) (first : Bool) (r : Read) → halvesMarks halves ≡ saidMarks j first r (Party halves)
   unfolding kcMarks saidMarks
-  marks-party halves true (Reads h) = sym (zero-add _)
-  marks-party halves true Unreadable = sym (zero-add _)
-  marks-party halves false (Reads h) = sym (zero-add _)
-  marks-party halves false Unreadable = sym (zero-add _)
+  marks-party halves true (Reads h) = omega arith
+  marks-party halves true Unreadable = omega arith
+  marks-party halves false (Reads h) = omega arith
+  marks-party halves false Unreadable = omega arith
 
   pub marks-paid : (h : Heading) (a : Amount) (d : ℕ) (first reads : Bool)
       → mark 8 ((first && reads) && breaks8 j (h .kind) d) + mark 9 ((first && reads) && rule9 (h .kind) (a .0)) ≡ saidMarks j first (readAs reads h) (Paid a d)

@@ -56,7 +56,7 @@ returns-5 : tie.Need-returns-5
 returns-5 c = (rw (c .enum-told4 .given .1) (marks-stated _ _ _ _ _), omega arith)
 
 returns-6 : tie.Need-returns-6
-returns-6 c = (rw (c .before .said2 .given .1, c .halves-marks .ensures .0) (marks-party _ _ _ _), c .halves-marks .ensures .1)
+returns-6 c = (rw (c .before .before .said2 .given .1, c .halves-marks .ensures .0) (marks-party _ _ _ _), c .halves-marks .ensures .1)
 
 pub said-marks-spec : {M : Type 1} → statement M
 said-marks-spec =
