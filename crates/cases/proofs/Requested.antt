@@ -3,10 +3,28 @@ use mathlib.Core.Path.{_≡_, refl}
 use mathlib.Core.Bool.{true}
 use Rattle.laws.specs.Tests.{every}
 use Rattle.laws.specs.Lists.{anyOf}
-use Rattle.days.specs.Days.{isLeap, row, monthLength, isReal}
-use Rattle.lines.specs.Lines.{behindMark}
+use Rattle.text.specs.Characters.{isAdmissible}
+use Rattle.text.specs.Digits.{valueAfter, digits}
+use Rattle.text.specs.Strings.{begins}
+use Rattle.text.specs.Forms.{template, hasForm, numbers}
+use Rattle.days.specs.Days.{isLeap, row, monthLength, isReal, dayNumber}
+use Rattle.headings.specs.ItemTypes.{isInput, isTrilateral, isPriority, isPayment}
+use Rattle.headings.specs.HeadRules.{rule10, rule13, rule14}
+use Rattle.headings.specs.Reading.{headingOf}
+use Rattle.figures.specs.Layouts.{run, isEmpty, headIs, fits, part}
+use Rattle.figures.specs.Accounts.{weight, weighed, passes, halvesOf, accountOf}
+use Rattle.fields.specs.Kinds.{place, kindOf}
+use Rattle.fields.specs.Classes.{classOf, sumGroup}
+use Rattle.fields.specs.Readings.{textOf, readingOf}
+use Rattle.fields.specs.Tails.{allFit, takes, reads, saysOf}
+use Rattle.lines.specs.Lines.{body, behindMark, crlf, onto, lines}
+use Rattle.rules.specs.Faults.{faultsOf, faultsIn, faults}
+use Rattle.rules.specs.Rows.{sorted, rowsFrom}
+use Rattle.rules.specs.LineRules.{rule1}
+use Rattle.rules.specs.Said.{continuations, says, stands, continued, headOf, firstSaid, digest}
+use Rattle.rules.specs.Spots.{lowTests, fieldTests, looseTests, ownTests, blockTests, headTests, lowSpot, fieldSpot}
 use Rattle.cases.specs.Requested.{requested}
 
 pub every-requested : every requested ≡ true
-unfolding anyOf isLeap row monthLength isReal behindMark
+unfolding anyOf isAdmissible valueAfter digits isLeap row monthLength isReal dayNumber begins template hasForm numbers isInput isTrilateral isPriority isPayment rule10 rule13 rule14 headingOf run isEmpty headIs fits part place kindOf classOf sumGroup weight weighed passes halvesOf accountOf textOf readingOf allFit takes reads saysOf body crlf onto lines faultsOf sorted rowsFrom rule1 continuations says stands fieldTests continued headOf firstSaid digest ownTests blockTests headTests fieldSpot faultsIn faults lowTests looseTests lowSpot behindMark
 every-requested = refl

@@ -56,13 +56,6 @@ fn store_size(at: &mut usize, done: bool, size: usize)
     }
 }
 
-// 1 for yes, 0 for no.
-fn one_if(yes: bool) -> u32
-    ensures { λ r. ⌜ r ≡ cond yes 1 0 ⌝ }
-{
-    if yes { 1 } else { 0 }
-}
-
 #[no_mangle]
 pub extern "C" fn certis_total(file: &[u8], code: u32, day: u32, total: &mut u64) -> u32
     ensures { λ r. ⌜ TotalAt (now (file .entry)) code day (now (total .entry)) r (now (total .exit)) ⌝ }
@@ -117,13 +110,18 @@ pub extern "C" fn certis_derive(
 }
 
 #[no_mangle]
-pub extern "C" fn certis_account(prefix: &[u8], number: &[u8], good: &mut u32) -> u32
-    ensures { λ r. ⌜ AccountAt (now (prefix .entry)) (now (number .entry)) (now (good .entry)) r (now (good .exit)) ⌝ }
+pub extern "C" fn certis_account(
+    prefix: &[u8],
+    number: &[u8],
+    prefix_answer: &mut u32,
+    number_answer: &mut u32,
+) -> u32
+    ensures { λ r. ⌜ AccountAt (now (prefix .entry)) (now (number .entry)) (now (prefix_answer .entry)) (now (number_answer .entry)) r (now (prefix_answer .exit)) (now (number_answer .exit)) ⌝ }
 {
     let answer = accounts::check(prefix, number);
     let refusal = accounts::number_of(answer);
-    let holds = accounts::value_of(answer, false);
-    store_answer(good, refusal == 0, one_if(holds));
+    store_answer(prefix_answer, refusal == 0, accounts::prefix_value(answer, 0));
+    store_answer(number_answer, refusal == 0, accounts::number_value(answer, 0));
     refusal
 }
 

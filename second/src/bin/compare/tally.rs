@@ -14,7 +14,7 @@ pub struct Tally {
 }
 
 /// Every rule and every refusal that the C face can give.
-const RULES: [std::ops::RangeInclusive<usize>; 2] = [1..=22, 30..=38];
+const RULES: [std::ops::RangeInclusive<usize>; 2] = [1..=24, 30..=38];
 const REFUSALS: [std::ops::RangeInclusive<usize>; 2] = [1..=6, 9..=16];
 /// Checking's own among them; no rooms are lent, so 4 cannot be.
 const SHEET_ANSWERS: [std::ops::RangeInclusive<usize>; 4] = [0..=3, 5..=6, 9..=9, 19..=22];
