@@ -109,19 +109,20 @@ pub extern "C" fn certis_derive(
     outcomes::number_of(outcomes::derive(heading, outcome, standing, ItemNo(number), target))
 }
 
+// Behind `first` stands the answer for the prefix, behind `second` that for the number.
 #[no_mangle]
 pub extern "C" fn certis_account(
     prefix: &[u8],
     number: &[u8],
-    prefix_answer: &mut u32,
-    number_answer: &mut u32,
+    first: &mut u32,
+    second: &mut u32,
 ) -> u32
-    ensures { λ r. ⌜ AccountAt (now (prefix .entry)) (now (number .entry)) (now (prefix_answer .entry)) (now (number_answer .entry)) r (now (prefix_answer .exit)) (now (number_answer .exit)) ⌝ }
+    ensures { λ r. ⌜ AccountAt (now (prefix .entry)) (now (number .entry)) (now (first .entry)) (now (second .entry)) r (now (first .exit)) (now (second .exit)) ⌝ }
 {
     let answer = accounts::check(prefix, number);
     let refusal = accounts::number_of(answer);
-    store_answer(prefix_answer, refusal == 0, accounts::prefix_value(answer, 0));
-    store_answer(number_answer, refusal == 0, accounts::number_value(answer, 0));
+    store_answer(first, refusal == 0, accounts::prefix_value(answer, 0));
+    store_answer(second, refusal == 0, accounts::number_value(answer, 0));
     refusal
 }
 
