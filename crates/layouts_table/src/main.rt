@@ -39,14 +39,26 @@ fn show_class(class: Class, ident: usize) {
     }
 }
 
-fn show_halves(h: Halves) {
-    word(if h.prefix { b"good" } else { b"failing" });
-    let number = h.number;
+fn show_prefix(good: bool) {
+    if good {
+        word(b"good");
+    } else {
+        word(b"failing");
+    }
+}
+
+fn show_number(number: Number) {
     match number {
         Number::Good => word(b"good"),
         Number::Failing => word(b"failing"),
         Number::Zero => word(b"zero"),
     }
+}
+
+fn show_halves(h: Halves) {
+    show_prefix(h.prefix);
+    let number = h.number;
+    show_number(number);
 }
 
 fn show_reading(said: Reading) {
