@@ -27,7 +27,7 @@
 
 /* The first number changes where a host that was written for an older header
  * must change its calls. */
-#define CERTIS_VERSION "2.0"
+#define CERTIS_VERSION "3.0"
 
 /* The most bytes of a file that is checked, and the bytes of a heading. */
 #define CERTIS_FILE_MOST 10000000
@@ -71,7 +71,7 @@ enum certis_rule {
     CERTIS_RULE_LINE_END = 4,  /* no CR LF after it */
     CERTIS_RULE_REPEATED = 5,  /* a field: stood in the item already */
     CERTIS_RULE_LAYOUT = 6,    /* its layout; a heading's too */
-    CERTIS_RULE_ACCOUNT = 7,   /* the account check */
+    CERTIS_RULE_PREFIX = 7,    /* an account: its prefix fails the check */
     CERTIS_RULE_KC_DAY = 8,    /* an amount: its day */
     CERTIS_RULE_KC_MOST = 9,   /* the amount of a 32 */
     CERTIS_RULE_TYPE = 10,     /* a heading: its type */
@@ -86,8 +86,18 @@ enum certis_rule {
     CERTIS_RULE_NUMBERS = 19,  /* an input number out of order */
     CERTIS_RULE_PRIORITY = 20, /* another priority than the file's first */
     CERTIS_RULE_INTERVAL = 21, /* the 51's IN */
+    /* 22 is no rule any more */
+    CERTIS_RULE_NUMBER = 23,   /* an account: its number fails the check */
+    CERTIS_RULE_ZERO = 24,     /* its number is zero */
     CERTIS_RULE_S0 = 30,       /* the 51's S0; 31 to 39 are those of S1 to S9 */
-    CERTIS_RULE_S9 = 39        /* 22 is no rule any more */
+    CERTIS_RULE_S9 = 39
+};
+
+/* What the account check answers for a part. */
+enum certis_half {
+    CERTIS_GOOD = 0,
+    CERTIS_FAILING = 1,        /* its sum does not divide by 11 */
+    CERTIS_ZERO = 2            /* the number alone: it is zero */
 };
 
 #ifdef __cplusplus
@@ -177,16 +187,17 @@ uint32_t certis_derive(const uint8_t *heading, size_t heading_len,
 
 /* The account check.
  *
- * Takes both parts of an account number as digits and sets *good to 1 where
- * both hold, to 0 where one does not: each part is secured by modulo 11, and
- * the second is not zero. An empty first part holds.
+ * Takes both parts of an account number as digits and answers for each: sets
+ * *prefix_answer to CERTIS_GOOD or CERTIS_FAILING, and *number_answer to one of
+ * the three. Each part is secured by modulo 11; an empty prefix is good, and of
+ * a number that is zero the sum is not judged.
  *
  * Refusal:
  *   10  the first part is not 0 to 6 digits, or the second not 1 to 10
  */
 uint32_t certis_account(const uint8_t *prefix, size_t prefix_len,
                         const uint8_t *number, size_t number_len,
-                        uint32_t *good);
+                        uint32_t *prefix_answer, uint32_t *number_answer);
 
 /* The turnover sheet.
  *

@@ -122,14 +122,15 @@ static void account_one(struct tally *tally)
 {
     static const char DIGITS[] = "0000192000145399";
     uint8_t digits[16];
-    uint32_t good = 0;
+    uint32_t answers[2] = { 0, 0 };
     vary(digits, DIGITS, 16);
     size_t first = below(7);
     size_t second = below(11);
-    uint32_t refusal = certis_account(digits, first, digits + 6, second, &good);
+    uint32_t refusal = certis_account(digits, first, digits + 6, second, &answers[0], &answers[1]);
     tally->answered += refusal == 0;
     fold(tally, refusal);
-    fold(tally, good);
+    fold(tally, answers[0]);
+    fold(tally, answers[1]);
 }
 
 /* Posts on a sheet of which some turnovers are near the limit. */

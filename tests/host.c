@@ -68,7 +68,7 @@ static bool rooms_kept(const struct rooms *rooms, size_t written)
     return true;
 }
 
-/* The written pairs as a text, "1/12 3/7 4/31". */
+/* The written pairs as a text, "1/12 3/23 4/31". */
 static const char *pairs_of(const struct rooms *rooms, size_t written)
 {
     static char text[MOST_ROOM * 24];
@@ -120,9 +120,9 @@ static void refuses(const char *what, uint32_t number, const char *file, size_t 
 static void test_worked_example(void)
 {
     size_t length = strlen(WORKED);
-    lists("the worked example", WORKED, 3, "1/12 3/7 4/31");
-    lists_in("the worked example in room for three", WORKED, length, 3, 3, "1/12 3/7 4/31");
-    lists_in("the worked example in room for two", WORKED, length, 2, 3, "1/12 3/7");
+    lists("the worked example", WORKED, 3, "1/12 3/23 4/31");
+    lists_in("the worked example in room for three", WORKED, length, 3, 3, "1/12 3/23 4/31");
+    lists_in("the worked example in room for two", WORKED, length, 2, 3, "1/12 3/23");
     lists_in("the worked example in no room", WORKED, length, 0, 3, "");
 }
 
@@ -387,24 +387,26 @@ static void test_standings(void)
 
 /* The account check */
 
-static void judges(const char *prefix, const char *number, uint32_t expected)
+/* The answers for the prefix and for the number; each is written alone, and nothing beside it. */
+static void judges(const char *prefix, const char *number, uint32_t first, uint32_t second)
 {
-    uint32_t good = PATTERN;
-    expect(certis_account(bytes_of(prefix), strlen(prefix), bytes_of(number), strlen(number), &good) == 0
-               && good == expected,
+    uint32_t answers[4] = { PATTERN, PATTERN, PATTERN, PATTERN };
+    expect(certis_account(bytes_of(prefix), strlen(prefix), bytes_of(number), strlen(number), &answers[1], &answers[2]) == 0
+               && answers[0] == PATTERN && answers[1] == first && answers[2] == second && answers[3] == PATTERN,
            number);
 }
 
-/* A refusal leaves the answer as it was, whatever value each of its bytes had. */
+/* A refusal leaves the answers as they were, whatever value each of their bytes had. */
 static void account_refuses(const char *what, const char *prefix, const char *number)
 {
     bool kept = true;
     for (uint32_t byte = 0; byte < 256; byte++) {
         for (unsigned shift = 0; shift < 32; shift += 8) {
             uint32_t before = (PATTERN & ~(UINT32_C(255) << shift)) | byte << shift;
-            uint32_t good = before;
-            kept &= certis_account(bytes_of(prefix), strlen(prefix), bytes_of(number), strlen(number), &good) == 10
-                    && good == before;
+            uint32_t first = before;
+            uint32_t second = ~before;
+            kept &= certis_account(bytes_of(prefix), strlen(prefix), bytes_of(number), strlen(number), &first, &second) == 10
+                    && first == before && second == ~before;
         }
     }
     expect(kept, what);
@@ -412,15 +414,17 @@ static void account_refuses(const char *what, const char *prefix, const char *nu
 
 static void test_accounts(void)
 {
-    judges("", "2000145399", 1);
-    judges("", "2000145398", 0);
-    judges("", "0", 0);
-    judges("", "0000000000", 0);
-    judges("19", "2000145399", 1);
-    judges("20", "2000145399", 0);
-    judges("000019", "2000145399", 1);
-    judges("000000", "2000145399", 1);
-    judges("19", "2000145398", 0);
+    judges("", "2000145399", CERTIS_GOOD, CERTIS_GOOD);
+    judges("", "2000145398", CERTIS_GOOD, CERTIS_FAILING);
+    judges("", "0", CERTIS_GOOD, CERTIS_ZERO);
+    judges("", "0000000000", CERTIS_GOOD, CERTIS_ZERO);
+    judges("19", "2000145399", CERTIS_GOOD, CERTIS_GOOD);
+    judges("20", "2000145399", CERTIS_FAILING, CERTIS_GOOD);
+    judges("000019", "2000145399", CERTIS_GOOD, CERTIS_GOOD);
+    judges("000000", "2000145399", CERTIS_GOOD, CERTIS_GOOD);
+    judges("19", "2000145398", CERTIS_GOOD, CERTIS_FAILING);
+    judges("20", "2000145398", CERTIS_FAILING, CERTIS_FAILING);
+    judges("20", "0", CERTIS_FAILING, CERTIS_ZERO);
     account_refuses("10: prefix of seven digits", "0000019", "2000145399");
     account_refuses("10: number of eleven digits", "19", "02000145399");
     account_refuses("10: no number", "19", "");

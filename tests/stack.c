@@ -66,8 +66,8 @@ static void *derive(void *ignored)
 
 static void *account(void *ignored)
 {
-    uint32_t good;
-    certis_account((const uint8_t *)"19", 2, (const uint8_t *)"2000145399", 10, &good);
+    uint32_t answers[2];
+    certis_account((const uint8_t *)"19", 2, (const uint8_t *)"2000145399", 10, &answers[0], &answers[1]);
     return ignored;
 }
 

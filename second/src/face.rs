@@ -48,7 +48,8 @@ mod raw {
             prefix_len: usize,
             number: *const u8,
             number_len: usize,
-            good: *mut u32,
+            prefix_answer: *mut u32,
+            number_answer: *mut u32,
         ) -> u32;
 
         pub fn certis_sheet_open(codes: *const u32, codes_len: usize, turnovers: *mut i64) -> u32;
@@ -138,9 +139,16 @@ pub fn derive(heading: &[u8], outcome: u32, standing: u32, number: u32, target: 
     }
 }
 
-pub fn account(prefix: &[u8], number: &[u8], good: &mut u32) -> u32 {
+pub fn account(prefix: &[u8], number: &[u8], answers: (&mut u32, &mut u32)) -> u32 {
     unsafe {
-        raw::certis_account(prefix.as_ptr(), prefix.len(), number.as_ptr(), number.len(), good)
+        raw::certis_account(
+            prefix.as_ptr(),
+            prefix.len(),
+            number.as_ptr(),
+            number.len(),
+            answers.0,
+            answers.1,
+        )
     }
 }
 

@@ -1,6 +1,6 @@
 //! Layouts of fields (000, 3.1, as document 01 fixes them).
 
-use crate::account;
+use crate::account::{self, Halves};
 use crate::lines::Name;
 
 /// What a field says, as far as a rule wants to know.
@@ -10,8 +10,8 @@ pub enum Reading {
     Broken,
     /// KC.
     Amount { amount: u64, day: u32 },
-    /// UD and UK, with the answer of the account check.
-    Account { good: bool },
+    /// UD and UK, with the answers of the account check.
+    Account(Halves),
     /// IN.
     Interval { first: u64, last: u64 },
     /// S0 to S9.
@@ -97,7 +97,7 @@ fn account(value: &[u8]) -> Option<Reading> {
     let (prefix, rest) = digits(value, 0, 6)?;
     let (number, rest) = digits(space(rest)?, 1, 10)?;
     let stands = rest.is_empty() || (rest[0] == b' ' && rest.len() <= 1 + 20);
-    stands.then(|| Reading::Account { good: account::is_good(prefix, number) })
+    stands.then(|| Reading::Account(account::halves(prefix, number)))
 }
 
 /// DI, KI, ZP, AV: any bytes; rule 1 judges which (reading 10).
@@ -124,6 +124,7 @@ fn number(digits: &[u8]) -> u64 {
 #[cfg(test)]
 mod tests {
     use super::*;
+    use crate::account::Number;
 
     fn alone(name: &[u8; 2], value: &str) -> Reading {
         read(*name, value.as_bytes(), std::iter::empty())
@@ -169,11 +170,12 @@ mod tests {
 
     #[test]
     fn reading_10_accounts() {
-        let good = Reading::Account { good: true };
+        let good = Reading::Account(Halves { prefix_good: true, number: Number::Good });
         for value in [" 2000145399", "19 2000145399", " 2000145399 ", " 2000145399 \u{7f}name"] {
             assert_eq!(alone(b"UD", value), good, "{value}");
         }
-        assert_eq!(alone(b"UK", " 0"), Reading::Account { good: false });
+        let zero = Reading::Account(Halves { prefix_good: false, number: Number::Zero });
+        assert_eq!(alone(b"UK", "20 0"), zero);
         let bad = ["2000145399", "0000019 19", " 00000000019", "", " ", "19 ", " 19x", "  19"];
         for value in bad {
             assert!(breaks(b"UK", value), "{value}");

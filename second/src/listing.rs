@@ -58,7 +58,7 @@ mod tests {
                     S1:1 12600\r\n\x1a";
         let expected = "checked 0300 20240304\n\
                         line 1 rule 12\n\
-                        line 3 rule 7\n\
+                        line 3 rule 23\n\
                         line 4 rule 31\n\
                         faults 3\n";
         let input = format!("0300 20240304\n{file}");

@@ -3,6 +3,7 @@
 //! A function `ruleN` says whether rule N is broken by what it is given; rules
 //! that take one comparison stand where they are marked.
 
+use crate::account::Number;
 use crate::characters::is_admissible;
 use crate::days;
 use crate::fields::Reading;
@@ -76,14 +77,19 @@ fn rule2(line: &Line, has_owner_above: bool) -> bool {
     }
 }
 
-// Fields inside items: rules 5 to 9, and 6 for headings in judge_heading.
+// Fields inside items: rules 5 to 9, 23 and 24, and 6 for headings in
+// judge_heading.
 
 fn judge_fields(fields: &[Field], faults: &mut Faults) {
     let mut seen = Seen([0; 36]);
     for field in fields {
         faults.mark(field.line, 5, seen.repeats(field.name));
         faults.mark(field.line, 6, field.reading == Reading::Broken);
-        faults.mark(field.line, 7, field.reading == Reading::Account { good: false });
+        if let Reading::Account(halves) = field.reading {
+            faults.mark(field.line, 7, !halves.prefix_good);
+            faults.mark(field.line, 23, halves.number == Number::Failing);
+            faults.mark(field.line, 24, halves.number == Number::Zero);
+        }
     }
 }
 

@@ -80,10 +80,12 @@ fn mark_of_characters() {
 fn mark_of_accounts() {
     let with = |account: &str| rules_at(&closed(&[&head(11, 1), KC, account]), 3);
     assert_eq!(with("UD: 2000145399"), []);
-    assert_eq!(with("UD: 2000145398"), [7]);
-    assert_eq!(with("UK: 0"), [7]);
+    assert_eq!(with("UD: 2000145398"), [23]);
+    assert_eq!(with("UK: 0"), [24]);
     assert_eq!(with("UK:19 2000145399"), []);
     assert_eq!(with("UK:20 2000145399"), [7]);
+    assert_eq!(with("UD:20 2000145398"), [7, 23]);
+    assert_eq!(with("UK:20 0"), [7, 24]);
 }
 
 #[test]

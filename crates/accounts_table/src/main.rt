@@ -1,26 +1,44 @@
 // Runs the open account check over data/accounts, a line for each account: its prefix, `-`, its number, a space, and `+` where both
-// parts hold, else `-`. The verdicts are those of python-stdnum 1.18 (Debian python3-stdnum 1.18-1), `is_valid` of
+// halves are good, else `-`. The verdicts are those of python-stdnum 1.18 (Debian python3-stdnum 1.18-1), `is_valid` of
 // stdnum.cz.bankaccount with a bank's code after the account. No number there is zero, which stdnum lets pass and document 01 does not.
 // Writes how many accounts it agrees on, and every line that it does not.
 use figures::accounts::Account;
+use figures::parts::Halves;
+use figures::parts::Number;
 ghost use Prim.Native.Nat.{_≤_};
 
-// Whether the check holds with a line's verdict, and whether it says that the account holds.
+// Whether the check agrees with a line's verdict, and whether it says that both halves are good.
 struct Found {
     agrees: bool,
     holds: bool,
 }
 
+fn is_good(number: Number) -> bool {
+    match number {
+        Number::Good => true,
+        Number::Failing => false,
+        Number::Zero => false,
+    }
+}
+
+fn both_good(h: Halves) -> bool {
+    let number = h.number;
+    h.prefix & is_good(number)
+}
+
+fn sign(good: bool) -> u8 {
+    if good { b'+' } else { b'-' }
+}
+
 fn compared(answer: Account, verdict: u8) -> Found {
     match answer {
-        Account::Holds => Found {
-            agrees: verdict == b'+',
-            holds: true,
-        },
-        Account::Fails => Found {
-            agrees: verdict == b'-',
-            holds: false,
-        },
+        Account::Judged(halves) => {
+            let holds = both_good(halves);
+            Found {
+                agrees: verdict == sign(holds),
+                holds,
+            }
+        }
         Account::NotDigits => Found {
             agrees: false,
             holds: false,

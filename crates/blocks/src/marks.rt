@@ -46,6 +46,10 @@ pub const MARK_20: u64 = 1 << 20;
 
 pub const MARK_21: u64 = 1 << 21;
 
+pub const MARK_23: u64 = 1 << 23;
+
+pub const MARK_24: u64 = 1 << 24;
+
 pub const MARK_30: u64 = 1 << 30;
 
 pub const MARK_31: u64 = 1 << 31;

@@ -13,7 +13,7 @@ use Rattle.headings.specs.ItemTypes.{isInput, isTrilateral, isPriority, isPayme
 use Rattle.headings.specs.HeadRules.{rule10, rule13, rule14}
 use Rattle.headings.specs.Reading.{headingOf}
 use Rattle.figures.specs.Layouts.{run, isEmpty, headIs, fits, part}
-use Rattle.figures.specs.Accounts.{weight, weighed, passes, accountHolds}
+use Rattle.figures.specs.Accounts.{weight, weighed, passes, halvesOf}
 use Rattle.fields.specs.Kinds.{place, kindOf}
 use Rattle.fields.specs.Classes.{classOf, sumGroup}
 use Rattle.fields.specs.Readings.{textOf, readingOf}
@@ -28,5 +28,5 @@ use Rattle.cases.specs.Cases.{holds}
 use Rattle.cases.specs.EachRule.{eachRule}
 
 pub every-rule : every (map holds eachRule) ≡ true
-unfolding anyOf isAdmissible valueAfter digits isLeap row monthLength isReal dayNumber begins template hasForm numbers isInput isTrilateral isPriority isPayment rule10 rule13 rule14 headingOf run isEmpty headIs fits part place kindOf classOf sumGroup weight weighed passes accountHolds textOf readingOf allFit takes reads saysOf body crlf onto lines faultsOf sorted rowsFrom rule1 continuations says stands fieldTests continued headOf firstSaid digest ownTests blockTests headTests fieldSpot faultsIn faults lowTests looseTests lowSpot
+unfolding anyOf isAdmissible valueAfter digits isLeap row monthLength isReal dayNumber begins template hasForm numbers isInput isTrilateral isPriority isPayment rule10 rule13 rule14 headingOf run isEmpty headIs fits part place kindOf classOf sumGroup weight weighed passes halvesOf textOf readingOf allFit takes reads saysOf body crlf onto lines faultsOf sorted rowsFrom rule1 continuations says stands fieldTests continued headOf firstSaid digest ownTests blockTests headTests fieldSpot faultsIn faults lowTests looseTests lowSpot
 every-rule = refl

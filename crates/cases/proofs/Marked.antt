@@ -16,7 +16,7 @@ use Rattle.headings.specs.Writing.{headingText}
 use Rattle.outcomes.specs.Outcomes.{outgoing, codes, inClass}
 use Rattle.outcomes.specs.Deriving.{barred, barredTo, turned, tellRefusals, outgoingKind, recipient, numberRefusals, deriveRefusals, derivedTarget}
 use Rattle.figures.specs.Layouts.{run, isEmpty, headIs, fits, part}
-use Rattle.figures.specs.Accounts.{weight, weighed, passes, accountHolds, accountOf}
+use Rattle.figures.specs.Accounts.{weight, weighed, passes, halvesOf, accountOf}
 use Rattle.fields.specs.Kinds.{place, kindOf}
 use Rattle.fields.specs.Classes.{classOf, sumGroup}
 use Rattle.fields.specs.Readings.{textOf, readingOf}
@@ -30,5 +30,5 @@ use Rattle.rules.specs.Spots.{fieldTests, ownTests, blockTests, headTests, fiel
 use Rattle.cases.specs.Cases.{holds, marked}
 
 pub every-marked : every (map holds marked) ≡ true
-unfolding anyOf isAdmissible valueAfter digits isLeap row monthLength isReal dayNumber begins template hasForm numbers formText isInput isTrilateral isPriority isPayment rule10 rule13 rule14 headingOf headingText outgoing codes inClass barred barredTo turned tellRefusals outgoingKind recipient numberRefusals deriveRefusals derivedTarget run isEmpty headIs fits part place kindOf classOf sumGroup weight weighed passes accountHolds accountOf textOf readingOf takes reads saysOf body crlf onto lines faultsOf sorted rowsFrom rule1 continuations says stands fieldTests continued headOf firstSaid digest ownTests blockTests headTests fieldSpot faultsIn faults
+unfolding anyOf isAdmissible valueAfter digits isLeap row monthLength isReal dayNumber begins template hasForm numbers formText isInput isTrilateral isPriority isPayment rule10 rule13 rule14 headingOf headingText outgoing codes inClass barred barredTo turned tellRefusals outgoingKind recipient numberRefusals deriveRefusals derivedTarget run isEmpty headIs fits part place kindOf classOf sumGroup weight weighed passes halvesOf accountOf textOf readingOf takes reads saysOf body crlf onto lines faultsOf sorted rowsFrom rule1 continuations says stands fieldTests continued headOf firstSaid digest ownTests blockTests headTests fieldSpot faultsIn faults
 every-marked = refl

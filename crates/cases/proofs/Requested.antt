@@ -15,19 +15,19 @@ use Rattle.headings.specs.Writing.{headingText}
 use Rattle.outcomes.specs.Outcomes.{outgoing, codes, inClass}
 use Rattle.outcomes.specs.Deriving.{barred, barredTo, turned, tellRefusals, outgoingKind, recipient, numberRefusals, deriveRefusals, derivedTarget}
 use Rattle.figures.specs.Layouts.{run, isEmpty, headIs, fits, part}
-use Rattle.figures.specs.Accounts.{weight, weighed, passes, accountHolds, accountOf}
+use Rattle.figures.specs.Accounts.{weight, weighed, passes, accountOf, halvesOf}
 use Rattle.fields.specs.Kinds.{place, kindOf}
 use Rattle.fields.specs.Classes.{classOf, sumGroup}
 use Rattle.fields.specs.Readings.{textOf, readingOf}
-use Rattle.fields.specs.Tails.{takes, reads, saysOf}
+use Rattle.fields.specs.Tails.{takes, reads, saysOf, allFit}
 use Rattle.lines.specs.Lines.{behindMark, body, crlf, onto, lines}
 use Rattle.rules.specs.Faults.{faultsOf, faultsIn, faults}
 use Rattle.rules.specs.Rows.{sorted, rowsFrom}
 use Rattle.rules.specs.LineRules.{rule1}
 use Rattle.rules.specs.Said.{continuations, says, stands, continued, headOf, firstSaid, digest}
-use Rattle.rules.specs.Spots.{fieldTests, ownTests, blockTests, headTests, fieldSpot}
+use Rattle.rules.specs.Spots.{fieldTests, ownTests, blockTests, headTests, fieldSpot, lowTests, looseTests, lowSpot}
 use Rattle.cases.specs.Requested.{requested}
 
 pub every-requested : every requested ≡ true
-unfolding anyOf isAdmissible valueAfter digits isLeap row monthLength isReal dayNumber begins template hasForm numbers formText isInput isTrilateral isPriority isPayment rule10 rule13 rule14 headingOf headingText outgoing codes inClass barred barredTo turned tellRefusals outgoingKind recipient numberRefusals deriveRefusals derivedTarget run isEmpty headIs fits part place kindOf classOf sumGroup weight weighed passes accountHolds accountOf textOf readingOf takes reads saysOf body crlf onto lines faultsOf sorted rowsFrom rule1 continuations says stands fieldTests continued headOf firstSaid digest ownTests blockTests headTests fieldSpot faultsIn faults behindMark
+unfolding anyOf isAdmissible valueAfter digits isLeap row monthLength isReal dayNumber begins template hasForm numbers formText isInput isTrilateral isPriority isPayment rule10 rule13 rule14 headingOf headingText outgoing codes inClass barred barredTo turned tellRefusals outgoingKind recipient numberRefusals deriveRefusals derivedTarget run isEmpty headIs fits part place kindOf classOf sumGroup weight weighed passes accountOf textOf readingOf takes reads saysOf body crlf onto lines faultsOf sorted rowsFrom rule1 continuations says stands fieldTests continued headOf firstSaid digest ownTests blockTests headTests fieldSpot faultsIn faults behindMark halvesOf allFit lowTests looseTests lowSpot
 every-requested = refl

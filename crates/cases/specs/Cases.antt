@@ -1,4 +1,5 @@
--- Document 01's cases marked P ('Both sides of the mark'), those of A12 and A13, and the file of 'The listing program', in one table.
+-- Document 01's cases marked P ('Both sides of the mark'), those of A12 and A13, and the file of 'The listing program', in one table; of
+-- accounts and of that file as document 02, A4, has them.
 -- What a rule says of a heading or a KC is said by all the faults of a whole file: a case that stands has none.
 use Prim.Native.Nat.{ℕ}
 use Prim.Native.String.{String, _++_ as _++ˢ_}
@@ -12,7 +13,7 @@ use Rattle.text.specs.Characters.{isAdmissible}
 use Rattle.text.specs.Strings.{begins}
 use Rattle.days.specs.Days.{isReal}
 use Rattle.outcomes.specs.Deriving.{tellRefusals, outgoingKind, recipient, deriveRefusals, derivedTarget}
-use Rattle.figures.specs.Accounts.{weighed, accountOf, accountValue}
+use Rattle.figures.specs.Accounts.{weighed, accountOf, prefixValue, numberValue}
 use Rattle.rules.specs.Terms.{input}
 use Rattle.rules.specs.Faults.{Fault, fault, faults}
 
@@ -21,8 +22,8 @@ pub data Case : Type 0 where
   admissible inadmissible : ℕ → Case
   -- a part of an account, and the sum of its digits times their weights
   weighs : String → ℕ → Case
-  -- the two parts of an account: the open check says that both hold, or that they don't
-  passes fails : String → String → Case
+  -- the two parts of an account: what the open check answers for each, 0 good, 1 failing, 2 zero
+  account : String → String → ℕ → ℕ → Case
   -- a day that is not real
   unreal : ℕ → Case
   -- the submitter's code, the accounting day, a file: these are its faults, and there is no other
@@ -55,13 +56,13 @@ bytesOf (l ∷ ls) = ascii l ++ (ascii "\r\n" ++ bytesOf ls)
 abbrev pub blank : List ℕ
 blank = replicate 54 0
 
--- the open check's value is asked for over the other one, so that a refusal is neither
+-- the open check's answers are asked for over a 9, so that a refusal is none of them
 abbrev pub holds : Case → Bool
 holds (admissible b) = isAdmissible b
 holds (inadmissible b) = not (isAdmissible b)
 holds (weighs part sum) = eqb (weighed (ascii part)) sum
-holds (passes prefix number) = accountValue (accountOf (ascii prefix) (ascii number)) false
-holds (fails prefix number) = not (accountValue (accountOf (ascii prefix) (ascii number)) true)
+holds (account prefix number first second) =
+    eqb (prefixValue (accountOf (ascii prefix) (ascii number)) 9) first && eqb (numberValue (accountOf (ascii prefix) (ascii number)) 9) second
 holds (unreal day) = not (isReal day)
 holds (faulty code today file fs) = sameFaults (faults (input code today) (bytesOf file)) fs
 holds (derives text outcome standing number out) = same (derivedTarget (ascii text) outcome standing (record { 0 = number }) blank) (ascii out)
@@ -108,9 +109,9 @@ marked =
     admissible 0xDE ∷
     inadmissible 0xDF ∷
     -- '2000145399 passes (sum 121), 2000145398 fails (120); number 0 fails'
-    passes "" "2000145399" ∷ weighs "2000145399" 121 ∷
-    fails "" "2000145398" ∷ weighs "2000145398" 120 ∷
-    fails "" "0" ∷
+    account "" "2000145399" 0 0 ∷ weighs "2000145399" 121 ∷
+    account "" "2000145398" 0 1 ∷ weighs "2000145398" 120 ∷
+    account "" "0" 0 2 ∷
     -- 'accounting day 20240304: heading day 20240223 stands, 20240222 breaks 11. 20230229 isn't real'
     faulty 300 20240304 (block "20240223" "12500" "20240304") [] ∷
     faulty 300 20240304 (block "20240222" "12500" "20240304") (fault 1 11 ∷ fault 3 11 ∷ []) ∷
@@ -149,5 +150,5 @@ marked =
     -- A13's exception is real: an 01 and a 21 returned as 61 under one number
     derives "HD:01 20240304 0000300 0000017 0000710 0000000 0000000" 6 1 5000001 "HD:61 20240304 0000300 0000017 0000300 5000001 0000710" ∷
     derives "HD:21 20240304 0000300 0000017 0000710 0000000 0000000" 6 1 5000001 "HD:61 20240304 0000300 0000017 0000300 5000001 0000710" ∷
-    -- the file of 'The listing program'
-    faulty 300 20240304 example (fault 1 12 ∷ fault 3 7 ∷ fault 4 31 ∷ []) ∷ []
+    -- the file of 'The listing program'; A4: 'document 01's listing then has `line 3 rule 23`', its number being what fails
+    faulty 300 20240304 example (fault 1 12 ∷ fault 3 23 ∷ fault 4 31 ∷ []) ∷ []

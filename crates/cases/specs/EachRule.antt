@@ -28,7 +28,7 @@ abbrev closed : List String
 closed = closing ("IN:1 1" ∷ "S1:1 12500" ∷ [])
 
 -- the one item with some lines more, in a closed block
-abbrev with : List String → List String
+abbrev pub with : List String → List String
 with more = one ++ (more ++ closed)
 
 -- the one item under a heading of its own
@@ -44,7 +44,7 @@ eachRule =
     only (with ("AV:a" ∷ "AV:b" ∷ [])) 4 5 ∷
     only (with ("EC:" ∷ [])) 3 6 ∷
     only (with ("HD:11" ∷ [])) 3 6 ∷
-    only (with ("UD: 2000145398" ∷ [])) 3 7 ∷
+    only (with ("UD:20 2000145399" ∷ [])) 3 7 ∷
     only (head "11" "20240304" "0000001" ∷ "KC:12500 20240305" ∷ closed) 2 8 ∷
     only (head "32" "20240304" "0000001" ∷ "KC:100000000001 20240304" ∷ closing ("IN:1 1" ∷ "S3:1 100000000001" ∷ [])) 2 9 ∷
     only (one ++ (head "99" "20240304" "0000002" ∷ closing ("IN:1 2" ∷ "S1:1 12500" ∷ []))) 3 10 ∷
@@ -60,6 +60,8 @@ eachRule =
     only (one ++ (item "11" "0000003" ++ closing ("IN:1 3" ∷ "S1:2 25000" ∷ []))) 3 19 ∷
     only (one ++ (item "21" "0000002" ++ closing ("IN:1 2" ∷ "S1:1 12500" ∷ "S2:1 12500" ∷ []))) 3 20 ∷
     only (one ++ closing ("IN:1 2" ∷ "S1:1 12500" ∷ [])) 3 21 ∷
+    only (with ("UD: 2000145398" ∷ [])) 3 23 ∷
+    only (with ("UK:19 0000000000" ∷ [])) 3 24 ∷
     only (one ++ (closed ++ ("S0:1 1" ∷ []))) 3 30 ∷
     only (one ++ closing ("IN:1 1" ∷ "S1:1 12501" ∷ [])) 3 31 ∷
     only (one ++ (closed ++ ("S2:1 1" ∷ []))) 3 32 ∷

@@ -18,13 +18,14 @@ use Rattle.fields.specs.declared.readings.Reading.{Reading}
 use Rattle.fields.specs.declared.readings.Reading.the-variants.{Broken, Plain, Party}
 use Rattle.figures.specs.Layouts.{Part, num, space, run, headIs, fits, part, maybeName}
 use Rattle.figures.specs.Numbers.{numberAt, twoOf}
-use Rattle.figures.specs.Accounts.{accountHolds, areDigits, accountOf, accountRefusals, accountValue}
+use Rattle.figures.specs.declared.parts.Halves.{Halves}
+use Rattle.figures.specs.declared.accounts.Account.the-variants.{Judged}
+use Rattle.figures.specs.Accounts.{halvesOf, areDigits, accountOf, accountRefusals}
 use Rattle.fields.specs.Readings.{textOf, layoutOf, saidBy, ifFits, readingOf}
 use Rattle.figures.proofs.Tests.{and-parts}
 use Rattle.figures.proofs.Runs.{run-length, run-again}
 use Rattle.figures.proofs.Told.{tests, not-found, known, size, first-is, second-is}
 use Rattle.figures.proofs.Endings.{bytes-are, empty-past}
-use Rattle.figures.proofs.Judged.{value-is}
 
 module _ (k : Class) (l₁ h₁ l₂ h₂ : ℕ) (ps : List Part) (t : List ℕ) (lay : layoutOf k .own ≡ num l₁ h₁ ∷ space ∷ num l₂ h₂ ∷ ps) where
   abbrev n₁ : ℕ
@@ -101,9 +102,9 @@ alone lo h s =
     let l : length (take (run isDigit h s) s) ≡ run isDigit h s = length-take-le (run isDigit h s) s (run-length isDigit h s) in
     rw (run-again isDigit h s, empty-past (take (run isDigit h s) s) (run isDigit h s) (omega (arith, l)), and-true)
 
--- where a line's account fits, it says whether its two parts hold, and they are what the open check asks for
+-- where a line's account fits, it says what its two halves are, and they are what the open check asks for
 pub account-line : (t : List ℕ) → fits (layoutOf Account .own) t ≡ true
-    → (readingOf Account t ≡ Party (accountHolds (part 0 (layoutOf Account .own) t) (part 1 (layoutOf Account .own) t)))
+    → (readingOf Account t ≡ Party (halvesOf (part 0 (layoutOf Account .own) t) (part 1 (layoutOf Account .own) t)))
     × (areDigits (part 0 (layoutOf Account .own) t) (part 1 (layoutOf Account .own) t) ≡ true)
 unfolding readingOf
 account-line t e =
@@ -117,10 +118,10 @@ account-line t e =
 -- where a line's account fits, the open check of its two parts refuses nothing and answers what the line says
 pub line-check : (t : List ℕ) → fits (layoutOf Account .own) t ≡ true
     → (first (accountRefusals (part 0 (layoutOf Account .own) t) (part 1 (layoutOf Account .own) t)) ≡ 0)
-    × ((old : Bool) → readingOf Account t ≡ Party (accountValue (accountOf (part 0 (layoutOf Account .own) t) (part 1 (layoutOf Account .own) t)) old))
+    × (h : Halves) × (accountOf (part 0 (layoutOf Account .own) t) (part 1 (layoutOf Account .own) t) ≡ Judged h) × (readingOf Account t ≡ Party h)
+unfolding accountOf
 line-check t e =
     let p = part 0 (layoutOf Account .own) t in
     let q = part 1 (layoutOf Account .own) t in
     let l = account-line t e in
-    let z : first (accountRefusals p q) ≡ 0 = rw (l .1) in
-    (z, λ old. l .0 ∙ ap Party (sym (value-is p q old ∙ rw z)))
+    (rw (l .1), halvesOf p q, rw (l .1), l .0)

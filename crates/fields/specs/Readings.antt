@@ -9,7 +9,7 @@ use Rattle.fields.specs.declared.classes.Class.the-variants.{Money, Numb
 use Rattle.fields.specs.declared.readings.Reading.{Reading}
 use Rattle.fields.specs.declared.readings.Reading.the-variants.{Broken, Plain, Paid, Span, Stated, Party}
 use Rattle.figures.specs.Layouts.{Layout, noTail, upTo, unread, num, bytes, space, rest, noMore, maybeRest, maybeName, fits, part}
-use Rattle.figures.specs.Accounts.{accountHolds}
+use Rattle.figures.specs.Accounts.{halvesOf}
 
 -- a line after its first three bytes: identifier and colon, or three spaces
 unfoldable pub textOf : List ℕ → List ℕ
@@ -30,7 +30,7 @@ saidBy Money p q = Paid (record { 0 = value p }) (value q)
 saidBy Number p q = Plain
 saidBy Range p q = Span (record { 0 = value p }) (record { 0 = value q })
 saidBy Group p q = Stated (value p) (record { 0 = value q })
-saidBy Account p q = Party (accountHolds p q)
+saidBy Account p q = Party (halvesOf p q)
 saidBy Text p q = Plain
 saidBy Free p q = Plain
 

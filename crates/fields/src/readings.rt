@@ -3,6 +3,7 @@ use crate::classes::Class;
 use figures::numbers;
 use figures::numbers::Two;
 use figures::parts;
+use figures::parts::Halves;
 use headings::Amount;
 use headings::ItemNo;
 ghost use mathlib.Core.Path.{_≡_};
@@ -11,14 +12,14 @@ ghost use Rattle.figures.specs.Layouts.{fits, noMore, maybeRest, maybeName};
 ghost use Rattle.fields.specs.Readings.{textOf, readingOf, ifFits};
 
 // `Broken` where the text has not its layout. An amount and its day; the first and the last number; a group's count and sum;
-// whether an account holds.
+// the halves of an account.
 pub enum Reading {
     Broken,
     Plain,
     Paid(Amount, u32),
     Span(ItemNo, ItemNo),
     Stated(u32, Amount),
-    Party(bool),
+    Party(Halves),
 }
 
 pub fn if_fits(fits: bool, said: Reading) -> Reading
@@ -125,7 +126,7 @@ fn read_account(t: &[u8]) -> Reading
         } => {
             if_fits(
                 ends_or_name(t, end),
-                Reading::Party(parts::parts_hold(&t[..mid], &t[mid + 1..end], second)),
+                Reading::Party(parts::halves_of(&t[..mid], &t[mid + 1..end], second)),
             )
         }
         Two::NotTwo => Reading::Broken,

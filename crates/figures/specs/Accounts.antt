@@ -1,4 +1,4 @@
--- The account check (document 01, 'Account check'; 002, 3.2; decree 169/2011), and the open job.
+-- The account check (document 01, 'Account check'; 002, 3.2; decree 169/2011; document 02, A4), and the open job.
 use Prim.Native.Nat.{ℕ, _+_, _-_, _*_, _%_, _^_}
 use mathlib.Core.Path.{_≡_}
 use mathlib.Core.Bool.{Bool, true, false, not, _&&_, cond}
@@ -8,8 +8,11 @@ use lib.Dec.{eqb}
 use Rattle.laws.specs.Refusals.{Refusal, _if_, first}
 use Rattle.text.specs.Digits.{value}
 use Rattle.figures.specs.declared.accounts.Account.{Account}
-use Rattle.figures.specs.declared.accounts.Account.the-variants.{Holds, Fails, NotDigits}
+use Rattle.figures.specs.declared.accounts.Account.the-variants.{Judged, NotDigits}
 use Rattle.figures.specs.declared.parts.Part.{Part}
+use Rattle.figures.specs.declared.parts.Number.{Number}
+use Rattle.figures.specs.declared.parts.Number.the-variants.{Good, Failing, Zero}
+use Rattle.figures.specs.declared.parts.Halves.{Halves}
 use Rattle.figures.specs.Layouts.{num, fits}
 
 -- the weight of a digit that k others follow (document 02, A6: 'powers of two by remainder of 11'); `as-listed` (proofs/Weights.antt)
@@ -26,9 +29,13 @@ weighed (b ∷ bs) = weight (length bs) * (b - 48) + weighed bs
 unfoldable pub passes : List ℕ → Bool
 passes bs = eqb (weighed bs % 11) 0
 
--- both parts hold; 'the second part must not be zero'
-unfoldable pub accountHolds : List ℕ → List ℕ → Bool
-accountHolds prefix number = not (eqb (value number) 0) && (passes prefix && passes number)
+-- 'number good, failing or zero', and at zero 'the sum isn't judged'
+abbrev pub numberBy : Bool → Bool → Number
+numberBy zero passes = cond zero Zero (cond passes Good Failing)
+
+-- what is answered 'for each half': 'prefix good or failing', and the number
+unfoldable pub halvesOf : List ℕ → List ℕ → Halves
+halvesOf prefix number = record { prefix = passes prefix; number = numberBy (eqb (value number) 0) (passes number) }
 
 -- what is told of a part of at most so many digits, and of what is none
 abbrev pub noPart : Part
@@ -41,12 +48,12 @@ partOf most bs = cond (fits (num 0 most ∷ []) bs) (record { digits = true; som
 abbrev pub areDigits : List ℕ → List ℕ → Bool
 areDigits prefix number = fits (num 0 6 ∷ []) prefix && fits (num 1 10 ∷ []) number
 
-abbrev pub accountBy : Bool → Bool → Account
-accountBy digits hold = cond digits (cond hold Holds Fails) NotDigits
+abbrev pub accountBy : Bool → Halves → Account
+accountBy digits halves = cond digits (Judged halves) NotDigits
 
 -- the answer of the open job
 unfoldable pub accountOf : List ℕ → List ℕ → Account
-accountOf prefix number = accountBy (areDigits prefix number) (accountHolds prefix number)
+accountOf prefix number = accountBy (areDigits prefix number) (halvesOf prefix number)
 
 -- its one refusal
 abbrev pub accountRefusals : List ℕ → List ℕ → List Refusal
@@ -54,16 +61,27 @@ accountRefusals prefix number = (10 if not (areDigits prefix number)) ∷ []
 
 -- document 01's number of each answer, 0 where nothing is refused
 abbrev pub accountNumber : Account → ℕ
-accountNumber Holds = 0
-accountNumber Fails = 0
+accountNumber (Judged h) = 0
 accountNumber NotDigits = 10
 
--- and its value, whether both parts hold; on a refusal what stood there before
-abbrev pub accountValue : Account → Bool → Bool
-accountValue Holds old = true
-accountValue Fails old = false
-accountValue NotDigits old = old
+-- the two halves as numbers: 0 good, 1 failing, 2 zero
+abbrev pub prefixAnswer : Bool → ℕ
+prefixAnswer good = cond good 0 1
 
--- what the open job promises of its answer: document 01's number for it, and which of the three it is
+abbrev pub numberAnswer : Number → ℕ
+numberAnswer Good = 0
+numberAnswer Failing = 1
+numberAnswer Zero = 2
+
+-- and those of each answer; on a refusal what stood there before
+abbrev pub prefixValue : Account → ℕ → ℕ
+prefixValue (Judged h) old = prefixAnswer (h .prefix)
+prefixValue NotDigits old = old
+
+abbrev pub numberValue : Account → ℕ → ℕ
+numberValue (Judged h) old = numberAnswer (h .number)
+numberValue NotDigits old = old
+
+-- what the open job promises of its answer: document 01's number for it, and what it says of the two halves
 abbrev pub Judges : List ℕ → List ℕ → Account → Type 0
 Judges prefix number r = (accountNumber r ≡ first (accountRefusals prefix number)) × (r ≡ accountOf prefix number)

@@ -1,28 +1,26 @@
-// The account check, an open job, and its answer as document 01's number and value.
+// The account check, an open job, and its answer as numbers.
 use crate::parts;
+use crate::parts::Halves;
+use crate::parts::Number;
 ghost use mathlib.Core.Path.{_≡_};
-ghost use Rattle.figures.specs.Accounts.{accountBy, accountNumber, accountValue, Judges};
+ghost use Rattle.figures.specs.Accounts.{accountBy, accountNumber, numberAnswer, prefixValue, numberValue, Judges};
 
-// Both parts hold; one does not; they are no 0 to 6 and 1 to 10 digits.
+// What the two parts are; or that they are no 0 to 6 and 1 to 10 digits.
 pub enum Account {
-    Holds,
-    Fails,
+    Judged(Halves),
     NotDigits,
 }
 
-fn account_by(digits: bool, hold: bool) -> Account
-    ensures { λ r. ⌜ r ≡ accountBy digits hold ⌝ }
+fn account_by(digits: bool, halves: Halves) -> Account
+    ensures { λ r. ⌜ r ≡ accountBy digits halves ⌝ }
 {
     if digits {
-        if hold {
-            return Account::Holds;
-        }
-        return Account::Fails;
+        return Account::Judged(halves);
     }
     Account::NotDigits
 }
 
-// Whether the two parts of an account hold. Any bytes may be given.
+// Whether each half of an account is good. Any bytes may be given.
 pub fn check(prefix: &[u8], number: &[u8]) -> Account
     ensures { λ r. ⌜ Judges (now (prefix .entry)) (now (number .entry)) r ⌝ }
 {
@@ -30,7 +28,10 @@ pub fn check(prefix: &[u8], number: &[u8]) -> Account
     let b = parts::part_of(number, 10);
     account_by(
         (1 <= number.len()) & (a.digits & b.digits),
-        b.some & (a.passes & b.passes),
+        Halves {
+            prefix: a.passes,
+            number: parts::number_by(!b.some, b.passes),
+        },
     )
 }
 
@@ -39,19 +40,40 @@ pub fn number_of(a: Account) -> u32
     ensures { λ r. ⌜ r ≡ accountNumber a ⌝ }
 {
     match a {
-        Account::Holds => 0,
-        Account::Fails => 0,
+        Account::Judged(_) => 0,
         Account::NotDigits => 10,
     }
 }
 
-// Whether both parts hold; on a refusal what stood there before.
-pub fn value_of(a: Account, old: bool) -> bool
-    ensures { λ r. ⌜ r ≡ accountValue a old ⌝ }
+// The answer for the prefix, 0 good and 1 failing; on a refusal what stood there before.
+pub fn prefix_value(a: Account, old: u32) -> u32
+    ensures { λ r. ⌜ r ≡ prefixValue a old ⌝ }
 {
     match a {
-        Account::Holds => true,
-        Account::Fails => false,
+        Account::Judged(h) => if h.prefix { 0 } else { 1 },
+        Account::NotDigits => old,
+    }
+}
+
+fn number_answer(n: Number) -> u32
+    ensures { λ r. ⌜ r ≡ numberAnswer n ⌝ }
+{
+    match n {
+        Number::Good => 0,
+        Number::Failing => 1,
+        Number::Zero => 2,
+    }
+}
+
+// The answer for the number, 0 good, 1 failing and 2 zero; on a refusal what stood there before.
+pub fn number_value(a: Account, old: u32) -> u32
+    ensures { λ r. ⌜ r ≡ numberValue a old ⌝ }
+{
+    match a {
+        Account::Judged(h) => {
+            let n = h.number;
+            number_answer(n)
+        }
         Account::NotDigits => old,
     }
 }

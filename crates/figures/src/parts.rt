@@ -1,11 +1,11 @@
-// The two parts of an account, where both are known to be digits: whether they hold.
+// The two parts of an account, and what each is as a half of it.
 use crate::numbers;
 ghost use mathlib.Core.Path.{_≡_};
 ghost use mathlib.Core.Bool.{true};
 ghost use Prim.Native.Nat.{_-_, _≤_, _<_};
 ghost use lib.ListN.{length, getD};
 ghost use Rattle.text.specs.Digits.{allDigits, value};
-ghost use Rattle.figures.specs.Accounts.{passes, accountHolds, noPart, partOf};
+ghost use Rattle.figures.specs.Accounts.{passes, numberBy, halvesOf, noPart, partOf};
 
 fn digit_at(s: &[u8], i: usize) -> u64
     requires { ⌜ (allDigits (now s) ≡ true) × (i < length (now s)) ⌝ }
@@ -74,10 +74,38 @@ pub fn part_of(s: &[u8], most: usize) -> Part
     }
 }
 
-// Whether a prefix and a number of the value v hold.
-pub fn parts_hold(prefix: &[u8], number: &[u8], v: u64) -> bool
-    requires { ⌜ (length (now prefix) ≤ 10) × (allDigits (now prefix) ≡ true) × (length (now number) ≤ 10) × (allDigits (now number) ≡ true) × (v ≡ value (now number)) ⌝ }
-    ensures { λ r. ⌜ r ≡ accountHolds (now (prefix .entry)) (now (number .entry)) ⌝ }
+// A number whose sum divides or does not; or one of zero, whose sum is not judged.
+pub enum Number {
+    Good,
+    Failing,
+    Zero,
+}
+
+// Whether the prefix is good, and what the number is.
+pub struct Halves {
+    pub prefix: bool,
+    pub number: Number,
+}
+
+pub fn number_by(zero: bool, passes: bool) -> Number
+    ensures { λ r. ⌜ r ≡ numberBy zero passes ⌝ }
 {
-    !(v == 0) & (part_passes(prefix) & part_passes(number))
+    if zero {
+        return Number::Zero;
+    }
+    if passes {
+        return Number::Good;
+    }
+    Number::Failing
+}
+
+// The halves of a prefix and a number of the value v, where both are known to be digits.
+pub fn halves_of(prefix: &[u8], number: &[u8], v: u64) -> Halves
+    requires { ⌜ (length (now prefix) ≤ 10) × (allDigits (now prefix) ≡ true) × (length (now number) ≤ 10) × (allDigits (now number) ≡ true) × (v ≡ value (now number)) ⌝ }
+    ensures { λ r. ⌜ r ≡ halvesOf (now (prefix .entry)) (now (number .entry)) ⌝ }
+{
+    Halves {
+        prefix: part_passes(prefix),
+        number: number_by(v == 0, part_passes(number)),
+    }
 }

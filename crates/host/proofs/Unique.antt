@@ -7,7 +7,7 @@ use lib.ListN.{length}
 use Rattle.rules.specs.Terms.{input}
 use Rattle.rules.specs.Faults.{Fault, faults}
 use Rattle.listing.specs.Checking.{slicesAfter}
-use Rattle.figures.specs.Accounts.{accountHolds}
+use Rattle.figures.specs.Accounts.{halvesOf, prefixAnswer, numberAnswer}
 use lib.IntN.{ℤ}
 use Rattle.outcomes.specs.Deriving.{outgoingKind, recipient}
 use Rattle.register.specs.Register.{registerOf}
@@ -42,10 +42,14 @@ told-unique {s} {o} {p} {kind₀} {code₀} C D =
 pub derived-unique : {s : List ℕ} {o p n : ℕ} {t₀ : List ℕ} {r r′ : ℕ} {t t′ : List ℕ} → DerivedAt s o p n t₀ r t → DerivedAt s o p n t₀ r′ t′ → (r ≡ r′) × (t ≡ t′)
 derived-unique C D = (C .number ∙ sym (D .number), C .target ∙ sym (D .target))
 
-pub account-unique : {prefix number : List ℕ} {before r r′ after after′ : ℕ} → AccountAt prefix number before r after → AccountAt prefix number before r′ after′ → (r ≡ r′) × (after ≡ after′)
-account-unique {prefix} {number} {before} C D =
-    let e = C .refusal ∙ sym (D .refusal) in
-    (e, C .good ∙ ap (λ (k : ℕ). storedAt k (cond (accountHolds prefix number) 1 0) before) e ∙ sym (D .good))
+pub account-unique : {prefix number : List ℕ} {prefix₀ number₀ r r′ first first′ second second′ : ℕ} → AccountAt prefix number prefix₀ number₀ r first second → AccountAt prefix number prefix₀ number₀ r′ first′ second′
+    → (r ≡ r′) × (first ≡ first′) × (second ≡ second′)
+account-unique {prefix} {number} {prefix₀} {number₀} C D =
+    let e = C .refusal ∙ sym (D .refusal) in (
+      e,
+      C .first-half ∙ ap (λ (k : ℕ). storedAt k (prefixAnswer (halvesOf prefix number .prefix)) prefix₀) e ∙ sym (D .first-half),
+      C .second-half ∙ ap (λ (k : ℕ). storedAt k (numberAnswer (halvesOf prefix number .number)) number₀) e ∙ sym (D .second-half),
+    )
 
 pub opened-unique : {codes : List ℕ} {before : List ℤ} {r r′ : ℕ} {after after′ : List ℤ} → OpenedAt codes before r after → OpenedAt codes before r′ after′ → (r ≡ r′) × (after ≡ after′)
 opened-unique C D = (C .number ∙ sym (D .number), C .turnovers ∙ sym (D .turnovers))

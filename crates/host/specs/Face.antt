@@ -7,7 +7,7 @@ use lib.Dec.{eqb}
 use lib.ListN.{length}
 use lib.IntN.{ℤ}
 use Rattle.laws.specs.Refusals.{first}
-use Rattle.figures.specs.Accounts.{accountRefusals, accountHolds}
+use Rattle.figures.specs.Accounts.{accountRefusals, halvesOf, prefixAnswer, numberAnswer}
 use Rattle.rules.specs.Terms.{input}
 use Rattle.rules.specs.Faults.{Fault, faults}
 use Rattle.listing.specs.Checking.{checkRefusals, slicesAfter}
@@ -44,10 +44,11 @@ pub record DerivedAt (s : List ℕ) (o p n : ℕ) (t₀ : List ℕ) (r : ℕ) (t
   pub number : r ≡ first (deriveRefusals s o p (record { 0 = n }) (length t₀))
   pub target : t ≡ derivedTarget s o p (record { 0 = n }) t₀
 
--- certis_account: the refusal or 0, and 1 where both parts hold, 0 where one does not
-pub record AccountAt (prefix number : List ℕ) (before r after : ℕ) : Type 0 where
+-- certis_account: the refusal or 0, the answer for the prefix and that for the number
+pub record AccountAt (prefix number : List ℕ) (prefix₀ number₀ r prefix₁ number₁ : ℕ) : Type 0 where
   pub refusal : r ≡ first (accountRefusals prefix number)
-  pub good : after ≡ storedAt r (cond (accountHolds prefix number) 1 0) before
+  pub first-half : prefix₁ ≡ storedAt r (prefixAnswer (halvesOf prefix number .prefix)) prefix₀
+  pub second-half : number₁ ≡ storedAt r (numberAnswer (halvesOf prefix number .number)) number₀
 
 -- certis_sheet_open: the refusal or 0, and the 256 turnovers
 pub record OpenedAt (codes : List ℕ) (before : List ℤ) (r : ℕ) (after : List ℤ) : Type 0 where

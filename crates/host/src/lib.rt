@@ -56,13 +56,6 @@ fn store_size(at: &mut usize, done: bool, size: usize)
     }
 }
 
-// 1 for yes, 0 for no.
-fn one_if(yes: bool) -> u32
-    ensures { λ r. ⌜ r ≡ cond yes 1 0 ⌝ }
-{
-    if yes { 1 } else { 0 }
-}
-
 #[no_mangle]
 pub extern "C" fn certis_total(file: &[u8], code: u32, day: u32, total: &mut u64) -> u32
     ensures { λ r. ⌜ TotalAt (now (file .entry)) code day (now (total .entry)) r (now (total .exit)) ⌝ }
@@ -116,14 +109,20 @@ pub extern "C" fn certis_derive(
     outcomes::number_of(outcomes::derive(heading, outcome, standing, ItemNo(number), target))
 }
 
+// Behind `first` stands the answer for the prefix, behind `second` that for the number.
 #[no_mangle]
-pub extern "C" fn certis_account(prefix: &[u8], number: &[u8], good: &mut u32) -> u32
-    ensures { λ r. ⌜ AccountAt (now (prefix .entry)) (now (number .entry)) (now (good .entry)) r (now (good .exit)) ⌝ }
+pub extern "C" fn certis_account(
+    prefix: &[u8],
+    number: &[u8],
+    first: &mut u32,
+    second: &mut u32,
+) -> u32
+    ensures { λ r. ⌜ AccountAt (now (prefix .entry)) (now (number .entry)) (now (first .entry)) (now (second .entry)) r (now (first .exit)) (now (second .exit)) ⌝ }
 {
     let answer = accounts::check(prefix, number);
     let refusal = accounts::number_of(answer);
-    let holds = accounts::value_of(answer, false);
-    store_answer(good, refusal == 0, one_if(holds));
+    store_answer(first, refusal == 0, accounts::prefix_value(answer, 0));
+    store_answer(second, refusal == 0, accounts::number_value(answer, 0));
     refusal
 }
 

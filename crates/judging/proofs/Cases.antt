@@ -1,8 +1,9 @@
--- The closing of an item and the marks 6 to 9 of a field, by the tests in the order in which the code asks them.
+-- The closing of an item and the marks of a field above 5, by the tests in the order in which the code asks them.
 use mathlib.Core.Path.{_≡_, refl, sym, ap, _∙_}
 use mathlib.Core.Bool.{Bool, true, false, cond, not, _&&_}
 use Prim.Native.Nat.{ℕ, _+_}
 use native.Mathlib.Nat.{zero-add}
+use native.Mathlib.Omega.{arith}
 use lib.Dec.{eqb}
 use Rattle.laws.specs.Tests.{mark}
 use Rattle.headings.specs.declared.Heading.{Heading}
@@ -10,6 +11,7 @@ use Rattle.headings.specs.declared.Read.{Read}
 use Rattle.headings.specs.declared.Read.the-variants.{Reads, Unreadable}
 use Rattle.headings.specs.declared.Amount.{Amount}
 use Rattle.headings.specs.declared.ItemNo.{ItemNo}
+use Rattle.figures.specs.declared.parts.Halves.{Halves}
 use Rattle.fields.specs.declared.readings.Reading.the-variants.{Broken, Plain, Paid, Span, Stated, Party}
 use Rattle.rules.specs.declared.Digest.{Digest}
 use Rattle.rules.specs.FieldRules.{rule9}
@@ -22,7 +24,7 @@ use Rattle.account.specs.declared.Accounted.{Accounted}
 use Rattle.account.specs.Model.{closeModel}
 use Rattle.items.specs.declared.Claims.{Claims}
 use Rattle.judging.specs.declared.Wait.{Wait}
-use Rattle.judging.specs.Opening.{readAs, saidMarks, kcMarks}
+use Rattle.judging.specs.Opening.{readAs, halvesMarks, saidMarks, kcMarks}
 use Rattle.judging.specs.Closing.{digestOf, closeAs, noWait, shut, shutAs}
 
 module _ (j : Basis) (b : Block) (w : Wait) (n own : ℕ) (r : Read) (c : Claims) where
@@ -50,7 +52,7 @@ module _ (j : Basis) (b : Block) (w : Wait) (n own : ℕ) (r : Read) (c : Claims
     pub close-first : closesAt r ≡ false → b .any ≡ false → shut (cl .block) (record { line = n; marks = m }) 0 0 ≡ closeAs j b w n own r c
     close-first p q = by-tests false false p q
 
--- ---- 6 to 9 by what a field's own line says
+-- ---- 6 to 9, 23 and 24 by what a field's own line says
 module _ (j : Basis) where
   pub marks-broken : (first : Bool) (r : Read) → _≡_ {A = ℕ} 64 (saidMarks j first r Broken)
   unfolding kcMarks saidMarks
@@ -80,16 +82,12 @@ module _ (j : Basis) where
   marks-stated n a false (Reads h) = refl
   marks-stated n a false Unreadable = refl
 
-  pub marks-party : (holds first : Bool) (r : Read) → mark 7 (not holds) ≡ saidMarks j first r (Party holds)
+  pub marks-party : (halves : Halves) (first : Bool) (r : Read) → halvesMarks halves ≡ saidMarks j first r (Party halves)
   unfolding kcMarks saidMarks
-  marks-party true true (Reads h) = refl
-  marks-party true true Unreadable = refl
-  marks-party true false (Reads h) = refl
-  marks-party true false Unreadable = refl
-  marks-party false true (Reads h) = refl
-  marks-party false true Unreadable = refl
-  marks-party false false (Reads h) = refl
-  marks-party false false Unreadable = refl
+  marks-party halves true (Reads h) = omega arith
+  marks-party halves true Unreadable = omega arith
+  marks-party halves false (Reads h) = omega arith
+  marks-party halves false Unreadable = omega arith
 
   pub marks-paid : (h : Heading) (a : Amount) (d : ℕ) (first reads : Bool)
       → mark 8 ((first && reads) && breaks8 j (h .kind) d) + mark 9 ((first && reads) && rule9 (h .kind) (a .0)) ≡ saidMarks j first (readAs reads h) (Paid a d)

@@ -2,7 +2,7 @@
 use mathlib.Core.Path.{_≡_, refl, sym, ap, _∙_}
 use mathlib.Core.Bool.{Bool, true, false, cond, not, _&&_, _||_}
 use mathlib.Core.List.{List, [], _∷_}
-use Prim.Native.Nat.{ℕ, suc, _+_, _*_, _%_, _<_, min}
+use Prim.Native.Nat.{ℕ, suc, _+_, _*_, _%_, _^_, _<_, min}
 use native.Mathlib.Numerals.{add-one}
 use native.Mathlib.Omega.{arith}
 use lib.Dec.{eqb, ltb, leb}
@@ -28,7 +28,7 @@ use Rattle.rules.specs.Tree.{Item, Owned}
 use Rattle.rules.specs.Said.{headOf, continuations, says, stands}
 use Rattle.rules.specs.Spots.{fieldSpot}
 use Rattle.rules.specs.LineRules.{rule1}
-use Rattle.rules.specs.FieldRules.{rule6, failsCheck, late, large}
+use Rattle.rules.specs.FieldRules.{ofParty, prefixFails, numberFails, numberZero, rule6, late, large}
 use Rattle.ledger.specs.Marks.{insertAll, marked}
 use Rattle.ledger.proofs.Entries.{putAll, put}
 use Rattle.blocks.specs.Model.{basisOf}
@@ -37,7 +37,7 @@ use Rattle.items.proofs.Ideal.{start, early, atHead, atField, closed, push, Pie
 use Rattle.items.proofs.Turned.{says-closed}
 use Rattle.items.proofs.Puts.{fieldsOut}
 use Rattle.judging.specs.declared.opening.Open.{Open}
-use Rattle.judging.specs.Opening.{kcMarks, codeBy, codeOf, breaksTail, noOpen, brokenBy, moreOpen, lowOpen, fitsBy, saidMarks, lateBy}
+use Rattle.judging.specs.Opening.{kcMarks, codeBy, codeOf, breaksTail, noOpen, brokenBy, moreOpen, lowOpen, fitsBy, partyMarks, saidMarks, lateBy}
 use Rattle.judging.proofs.Sets.{lineMarks, fieldMarks, field-set, looseMarks, loose-set}
 use Rattle.judging.proofs.Shutting.{put-none, Positive}
 
@@ -146,7 +146,7 @@ says-own x = sym (says-closed x []) ∙ go (classOf (x .ident))
     go Text = refl
     go Free = refl
 
--- ---- marks: 1 to 5 are below 64, 6 to 9 above
+-- ---- marks: 1 to 5 are below 64, the others above
 own-small : (r : Row) (again : Bool) → lineMarks r + mark 5 again < 64
 unfolding lineMarks
 own-small r again = go (rule1 r) (not (r .ended)) again
@@ -161,43 +161,36 @@ own-small r again = go (rule1 r) (not (r .ended)) again
     go false false true = omega arith
     go false false false = omega arith
 
-by-64 : (a b c d : Bool) → (q : ℕ) × (mark 6 a + mark 7 b + (mark 8 c + mark 9 d) ≡ 64 * q)
-by-64 true true true true = (15, refl)
-by-64 true true true false = (7, refl)
-by-64 true true false true = (11, refl)
-by-64 true true false false = (3, refl)
-by-64 true false true true = (13, refl)
-by-64 true false true false = (5, refl)
-by-64 true false false true = (9, refl)
-by-64 true false false false = (1, refl)
-by-64 false true true true = (14, refl)
-by-64 false true true false = (6, refl)
-by-64 false true false true = (10, refl)
-by-64 false true false false = (2, refl)
-by-64 false false true true = (12, refl)
-by-64 false false true false = (4, refl)
-by-64 false false false true = (8, refl)
-by-64 false false false false = (0, refl)
-
 low-part : (m q : ℕ) → m < 64 → (m + 64 * q) % 64 ≡ m
 low-part m q h = omega arith
 
-regroup : (o a b c d e : ℕ) → o + (a + b + c + d + e) ≡ o + a + (b + c + (d + e))
-regroup o a b c d e = omega arith
+regroup : (o a b c d e f g : ℕ) → o + (a + b + c + d + e + f + g) ≡ o + a + (b + (c + (f + g)) + (d + e))
+regroup o a b c d e f g = omega arith
 
-by-128 : (b c d : Bool) → (q : ℕ) × (mark 7 b + (mark 8 c + mark 9 d) ≡ 128 * q)
-by-128 true true true = (7, refl)
-by-128 true true false = (3, refl)
-by-128 true false true = (5, refl)
-by-128 true false false = (1, refl)
-by-128 false true true = (6, refl)
-by-128 false true false = (2, refl)
-by-128 false false true = (4, refl)
-by-128 false false false = (0, refl)
+-- a mark from 7 on
+by-128 : (b c d e f : Bool) → (q : ℕ) × (mark 7 b + (mark 23 e + mark 24 f) + (mark 8 c + mark 9 d) ≡ 128 * q)
+by-128 b c d e f =
+    (cond b 1 0 + (cond e (2 ^ 16) 0 + cond f (2 ^ 17) 0) + (cond c 2 0 + cond d 4 0), add b c d e f)
+  where
+    times : (k q : ℕ) (t : Bool) → k ≡ 128 * q → cond t k 0 ≡ 128 * cond t q 0
+    times k q true z = z
+    times k q false z = refl
+
+    add : (b c d e f : Bool) → mark 7 b + (mark 23 e + mark 24 f) + (mark 8 c + mark 9 d) ≡ 128 * (cond b 1 0 + (cond e (2 ^ 16) 0 + cond f (2 ^ 17) 0) + (cond c 2 0 + cond d 4 0))
+    add b c d e f = omega (arith, times (2 ^ 7) 1 b refl, times (2 ^ 23) (2 ^ 16) e refl, times (2 ^ 24) (2 ^ 17) f refl, times (2 ^ 8) 2 c refl, times (2 ^ 9) 4 d refl)
+
+-- .. and from 6 on
+by-64 : (a b c d e f : Bool) → (q : ℕ) × (mark 6 a + (mark 7 b + (mark 23 e + mark 24 f)) + (mark 8 c + mark 9 d) ≡ 64 * q)
+by-64 a b c d e f = go a
+  where
+    go : (a : Bool) → (q : ℕ) × (mark 6 a + (mark 7 b + (mark 23 e + mark 24 f)) + (mark 8 c + mark 9 d) ≡ 64 * q)
+    go true = let p = by-128 b c d e f in (1 + 2 * p .0, omega (arith, p .1))
+    go false = let p = by-128 b c d e f in (2 * p .0, omega (arith, p .1))
 
 -- bit 6
-six : (a b c d : Bool) (own : ℕ) → own < 64 → fitsBy (own + (mark 6 a + mark 7 b + (mark 8 c + mark 9 d))) ≡ not a
-six a b c d own h = ap fitsBy (over own (mark 6 a) (mark 7 b) (mark 8 c + mark 9 d)) ∙ rw (by-128 b c d .1) (go a (by-128 b c d .0))
+six : (a b c d e f : Bool) (own : ℕ) → own < 64 → fitsBy (own + (mark 6 a + (mark 7 b + (mark 23 e + mark 24 f)) + (mark 8 c + mark 9 d))) ≡ not a
+six a b c d e f own h =
+    ap fitsBy (over own (mark 6 a) (mark 7 b + (mark 23 e + mark 24 f)) (mark 8 c + mark 9 d)) ∙ rw (by-128 b c d e f .1) (go a (by-128 b c d e f .0))
   where
     over : (o u v w : ℕ) → o + (u + v + w) ≡ o + u + (v + w)
     over o u v w = omega arith
@@ -220,9 +213,9 @@ unfolding says
 broken-is x ls = broken (classOf (x .ident)) (x .row .bytes) (continuations (closed x ls .below))
 
 module _ (terms : Terms) where
-  -- 6 to 9 by what the field says
+  -- 6 to 9, 23 and 24 by what the field says
   abbrev high : Bool → Read → Reading → ℕ
-  high first r said = mark 6 (isBroken said) + mark 7 (failsCheck said) + (mark 8 (first && late terms r said) + mark 9 (first && large r said))
+  high first r said = mark 6 (isBroken said) + partyMarks said + (mark 8 (first && late terms r said) + mark 9 (first && large r said))
 
   high-broken : (first : Bool) (r : Read) → high first r Broken ≡ 64
   high-broken true (Reads h) = refl
@@ -233,7 +226,7 @@ module _ (terms : Terms) where
   -- a mark below 64 and what is broken
   broken-marks : (own : ℕ) (first : Bool) (r : Read) (said : Reading) → own < 64 → own + high first r Broken ≡ (own + high first r said) % 64 + 64
   broken-marks own first r said h =
-      let q = by-64 (isBroken said) (failsCheck said) (first && late terms r said) (first && large r said) in
+      let q = by-64 (isBroken said) (ofParty prefixFails said) (first && late terms r said) (first && large r said) (ofParty numberFails said) (ofParty numberZero said) in
       rw (high-broken first r, q .1, low-part own (q .0) h)
 
   module _ (r : Read) (ups : List (Owned FieldRow)) (x : FieldRow) where
@@ -246,9 +239,11 @@ module _ (terms : Terms) where
     field-sum : (ls : List LowRow) → fieldMarks terms r ups (closed x ls) ≡ own + high first r (says (closed x ls))
     unfolding fieldMarks
     field-sum ls =
-        ap (λ (t : Bool). lineMarks (x .row) + (mark 5 (stands (x .ident) ups) + mark 6 t + mark 7 (failsCheck (says (closed x ls))) + mark 8 (first && late terms r (says (closed x ls))) + mark 9 (first && large r (says (closed x ls)))))
+        ap (λ (t : Bool). let s = says (closed x ls) in
+        lineMarks (x .row)
+        + (mark 5 (stands (x .ident) ups) + mark 6 t + mark 7 (ofParty prefixFails s) + mark 8 (first && late terms r s) + mark 9 (first && large r s) + mark 23 (ofParty numberFails s) + mark 24 (ofParty numberZero s)))
         (sym (broken-is x ls))
-        ∙ regroup _ _ _ _ _ _
+        ∙ regroup _ _ _ _ _ _ _ _
 
     -- one continuation more
     pub marks-more : (l : LowRow) (ls : List LowRow) → l .continues ≡ true
@@ -271,11 +266,14 @@ module _ (terms : Terms) where
     unfolding kcMarks saidMarks
     marks-own =
         field-sum [] ∙ ap (λ (s : Reading). own + high first r s) (says-own x)
-        ∙ (λ i. let s = readingOf (classOf (x .ident)) (textOf (x .row .bytes)) in own + (mark 6 (isBroken s) + mark 7 (failsCheck s) + (mark 8 (first && sym (late-is terms r s) i) + mark 9 (first && large r s))))
+        ∙ (λ i. let s = readingOf (classOf (x .ident)) (textOf (x .row .bytes)) in own + (mark 6 (isBroken s) + partyMarks s + (mark 8 (first && sym (late-is terms r s) i) + mark 9 (first && large r s))))
 
     -- bit 6 says whether it reads
     pub fits-is : (ls : List LowRow) → fitsBy (fieldMarks terms r ups (closed x ls)) ≡ not (isBroken (says (closed x ls)))
-    fits-is ls = ap fitsBy (field-sum ls) ∙ six (isBroken (says (closed x ls))) (failsCheck (says (closed x ls))) (first && late terms r (says (closed x ls))) (first && large r (says (closed x ls))) own (own-small (x .row) (stands (x .ident) ups))
+    fits-is ls =
+        let s = says (closed x ls) in
+        ap fitsBy (field-sum ls)
+        ∙ six (isBroken s) (ofParty prefixFails s) (first && late terms r s) (first && large r s) (ofParty numberFails s) (ofParty numberZero s) own (own-small (x .row) (stands (x .ident) ups))
 
 -- ---- the open field over the tree's open pieces
 abbrev pub openAt : ℕ → ℕ → ℕ → ℕ → Open

@@ -14,7 +14,7 @@ use Rattle.rules.specs.Terms.{Terms}
 use Rattle.rules.specs.Rows.{Row, FieldRow, LowRow, rowsFrom}
 use Rattle.rules.specs.Tree.{Owned, Item, tree}
 use Rattle.rules.specs.LineRules.{Place, prelude, rule1, rule2, rule3, rule4}
-use Rattle.rules.specs.FieldRules.{rule5, rule6, rule7, rule8At, rule9At}
+use Rattle.rules.specs.FieldRules.{rule5, rule6, rule7, rule8At, rule9At, rule23, rule24}
 use Rattle.rules.specs.Spots.{lowTests, fieldTests, looseTests, ownTests, blockTests}
 use Rattle.rules.specs.Said.{headOf, isUnreadable, digest}
 use Rattle.rules.specs.HeadingRules.{rule6At}
@@ -39,7 +39,8 @@ low-set p l = omega arith
 
 unfoldable pub fieldMarks : Terms → Read → List (Owned FieldRow) → Owned FieldRow → ℕ
 fieldMarks terms h above g =
-    lineMarks (g .owner .row) + (mark 5 (rule5 above g) + mark 6 (rule6 g) + mark 7 (rule7 g) + mark 8 (rule8At terms h above g) + mark 9 (rule9At h above g))
+    lineMarks (g .owner .row)
+    + (mark 5 (rule5 above g) + mark 6 (rule6 g) + mark 7 (rule7 g) + mark 8 (rule8At terms h above g) + mark 9 (rule9At h above g) + mark 23 (rule23 g) + mark 24 (rule24 g))
 
 pub field-set : (terms : Terms) (h : Read) (above : List (Owned FieldRow)) (g : Owned FieldRow) → setOf (fieldTests terms h above g) ≡ fieldMarks terms h above g
 unfolding fieldTests fieldMarks lineMarks

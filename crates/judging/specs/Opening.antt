@@ -7,6 +7,7 @@ use Rattle.laws.specs.Tests.{mark}
 use Rattle.headings.specs.declared.Heading.{Heading}
 use Rattle.headings.specs.declared.Read.{Read}
 use Rattle.headings.specs.declared.Read.the-variants.{Reads, Unreadable}
+use Rattle.figures.specs.declared.parts.Halves.{Halves}
 use Rattle.fields.specs.declared.classes.Class.{Class}
 use Rattle.fields.specs.declared.classes.Class.the-variants.{Money, Number, Range, Group, Account, Text, Free}
 use Rattle.fields.specs.declared.readings.Reading.{Reading}
@@ -17,7 +18,7 @@ use Rattle.fields.specs.Readings.{ifFits}
 use Rattle.fields.specs.Tails.{isBroken}
 use Rattle.rules.specs.declared.FirstKc.{FirstKc}
 use Rattle.rules.specs.HeadingRules.{noKc}
-use Rattle.rules.specs.FieldRules.{failsCheck, large}
+use Rattle.rules.specs.FieldRules.{ofParty, prefixFails, numberFails, numberZero, large}
 use Rattle.blocks.specs.declared.Basis.{Basis}
 use Rattle.blocks.specs.Model.{breaks8}
 use Rattle.items.specs.declared.Claims.{Claims}
@@ -52,7 +53,7 @@ lineMarksOf bad ended = mark 1 bad + mark 4 (not ended)
 abbrev pub noOpen : Open
 noOpen = record { no = 0; marks = 0; class = 0; tail = 0 }
 
--- a field that its tail breaks: 6, and neither 7 nor 8 nor 9
+-- a field that its tail breaks: 6, and no mark above it
 abbrev pub brokenBy : Bool → ℕ → ℕ
 brokenBy breaks m = cond breaks (m % 2 ^ 6 + 2 ^ 6) m
 
@@ -77,9 +78,16 @@ lateBy j Unreadable r = false
 unfoldable pub kcMarks : Basis → Bool → Read → Reading → ℕ
 kcMarks j first h said = mark 8 (first && lateBy j h said) + mark 9 (first && large h said)
 
--- 6 to 9
+-- 7, 23 and 24, by the halves of an account, and by what the field's own line says
+abbrev pub halvesMarks : Halves → ℕ
+halvesMarks h = mark 7 (prefixFails h) + (mark 23 (numberFails h) + mark 24 (numberZero h))
+
+abbrev pub partyMarks : Reading → ℕ
+partyMarks said = mark 7 (ofParty prefixFails said) + (mark 23 (ofParty numberFails said) + mark 24 (ofParty numberZero said))
+
+-- 6 to 9, 23 and 24
 unfoldable pub saidMarks : Basis → Bool → Read → Reading → ℕ
-saidMarks j first h said = mark 6 (isBroken said) + mark 7 (failsCheck said) + kcMarks j first h said
+saidMarks j first h said = mark 6 (isBroken said) + partyMarks said + kcMarks j first h said
 
 -- it reads: by bit 6 of its marks
 abbrev pub fitsBy : ℕ → Bool

@@ -7,11 +7,15 @@ use blocks::marks::MARK_6;
 use blocks::marks::MARK_7;
 use blocks::marks::MARK_8;
 use blocks::marks::MARK_9;
+use blocks::marks::MARK_23;
+use blocks::marks::MARK_24;
 use blocks::marks::flag;
 use fields::classes;
 use fields::classes::Class;
 use fields::readings;
 use fields::readings::Reading;
+use figures::parts::Halves;
+use figures::parts::Number;
 use headings::Heading;
 use headings::Read;
 use items::Claims;
@@ -19,12 +23,14 @@ use items::claiming;
 use rules::FirstKc;
 ghost use mathlib.Core.Path.{_≡_};
 ghost use mathlib.Core.Bool.{cond, not};
-ghost use Prim.Native.Nat.{_≤_, _<_, _^_};
+ghost use Prim.Native.Nat.{_+_, _≤_, _<_, _^_};
 ghost use lib.Dec.{eqb};
+ghost use Rattle.laws.specs.Tests.{mark};
 ghost use Rattle.fields.specs.Readings.{ifFits};
 ghost use Rattle.rules.specs.Said.{isUnreadable};
+ghost use Rattle.rules.specs.FieldRules.{isFailing, isZero};
 ghost use Rattle.items.specs.Claims.{claimsWith};
-ghost use Rattle.judging.specs.Opening.{codeBy, codeOf, breaksTail, brokenBy, noOpen, moreOpen, lowOpen, readAs, saidMarks, fitsBy, ownClaims, closeClaims, headingIn, noPend, pendOf, openOwn, openLoose, lowMarksAt};
+ghost use Rattle.judging.specs.Opening.{codeBy, codeOf, breaksTail, brokenBy, noOpen, moreOpen, lowOpen, readAs, halvesMarks, saidMarks, fitsBy, ownClaims, closeClaims, headingIn, noPend, pendOf, openOwn, openLoose, lowMarksAt};
 
 // Its line (0: none), its marks as they stand, the number of its class, its continuations.
 pub struct Open {
@@ -78,7 +84,7 @@ fn broken_by(breaks: bool, marks: u64) -> u64
     }
 }
 
-// One continuation more: where the class does not let it, the field is broken, and 7 falls away.
+// One continuation more: where the class does not let it, the field is broken, and 7, 23 and 24 fall away.
 fn with_more(o: Open, length: usize) -> Open
     requires { ⌜ o .tail < 2 ^ 31 ⌝ }
     ensures { λ r. ⌜ r ≡ moreOpen o length ⌝ }
@@ -127,9 +133,28 @@ pub fn code_of(class: Class) -> u8
     }
 }
 
-// 6 to 9; 8 and 9 only where it is the item's first KC, and the heading reads.
+// 23 or 24.
+fn number_marks(n: Number) -> u64
+    ensures { λ r. ⌜ (r ≡ mark 23 (isFailing n) + mark 24 (isZero n)) × (r ≤ 2 ^ 24) ⌝ }
+{
+    match n {
+        Number::Good => 0,
+        Number::Failing => MARK_23,
+        Number::Zero => MARK_24,
+    }
+}
+
+// 7, and 23 or 24.
+fn halves_marks(h: Halves) -> u64
+    ensures { λ r. ⌜ (r ≡ halvesMarks h) × (r ≤ 2 ^ 25) ⌝ }
+{
+    let n = h.number;
+    flag(!h.prefix, MARK_7) + number_marks(n)
+}
+
+// 6 to 9, 23 and 24; 8 and 9 only where it is the item's first KC, and the heading reads.
 fn said_marks(basis: Basis, first: bool, reads: bool, h: Heading, said: Reading) -> u64
-    ensures { λ r. ⌜ (r ≡ saidMarks basis first (readAs reads h) said) × (r ≤ 768) ⌝ }
+    ensures { λ r. ⌜ (r ≡ saidMarks basis first (readAs reads h) said) × (r ≤ 2 ^ 25) ⌝ }
 {
     match said {
         Reading::Broken => MARK_6,
@@ -146,7 +171,7 @@ fn said_marks(basis: Basis, first: bool, reads: bool, h: Heading, said: Reading)
         }
         Reading::Span(_, _) => 0,
         Reading::Stated(_, _) => 0,
-        Reading::Party(holds) => flag(!holds, MARK_7),
+        Reading::Party(halves) => halves_marks(halves),
     }
 }
 

@@ -4,6 +4,8 @@ use fields::classes::Class;
 use fields::kinds::Kind;
 use fields::readings::Reading;
 use fields::tails::Tail;
+use figures::parts::Halves;
+use figures::parts::Number;
 
 // The last field: its class, what its own text says, and its tail so far.
 struct Owner {
@@ -37,6 +39,28 @@ fn show_class(class: Class, ident: usize) {
     }
 }
 
+fn show_prefix(good: bool) {
+    if good {
+        word(b"good");
+    } else {
+        word(b"failing");
+    }
+}
+
+fn show_number(number: Number) {
+    match number {
+        Number::Good => word(b"good"),
+        Number::Failing => word(b"failing"),
+        Number::Zero => word(b"zero"),
+    }
+}
+
+fn show_halves(h: Halves) {
+    show_prefix(h.prefix);
+    let number = h.number;
+    show_number(number);
+}
+
 fn show_reading(said: Reading) {
     match said {
         Reading::Broken => word(b"broken"),
@@ -56,13 +80,7 @@ fn show_reading(said: Reading) {
             number(count as u64);
             number(sum.0);
         }
-        Reading::Party(holds) => {
-            if holds {
-                word(b"holds");
-            } else {
-                word(b"fails");
-            }
-        }
+        Reading::Party(halves) => show_halves(halves),
     }
 }
 

@@ -1,26 +1,44 @@
 -- The third demand, rule by rule: a pair is in the list exactly when the rule's own definition says that it is broken at the line.
 use Prim.Native.Nat.{ℕ}
 use mathlib.Core.Path.{_≡_, refl, sym, subst}
-use mathlib.Core.Bool.{Bool, true}
+use mathlib.Core.Bool.{Bool, true, false≢true}
 use mathlib.Core.Option.{none, some}
 use mathlib.Core.List.{List, map, List·Memᴰ, List·Memᴰ·head, List·Memᴰ·tail, Memᴰ·append-left, Memᴰ·append-right}
 use mathlib.Core.Logic.{_↔_, _⊎_, inl, inr}
 use Rattle.headings.specs.declared.Heading.{Heading}
 use Rattle.headings.specs.declared.Read.{Read}
 use Rattle.headings.specs.declared.Read.the-variants.{Reads}
+use Rattle.figures.specs.declared.parts.Number.{Number}
+use Rattle.figures.specs.declared.parts.Number.the-variants.{Good, Failing, Zero}
+use Rattle.fields.specs.declared.readings.Reading.{Reading}
+use Rattle.fields.specs.declared.readings.Reading.the-variants.{Broken, Plain, Paid, Span, Stated, Party}
 use Rattle.rules.specs.Tests.{_if_}
 use Rattle.rules.specs.Terms.{Terms}
 use Rattle.rules.specs.Rows.{Row, FieldRow, LowRow}
 use Rattle.rules.specs.Tree.{Owned, Item}
-use Rattle.rules.specs.Said.{headOf, digest}
+use Rattle.rules.specs.Said.{headOf, says, digest}
 use Rattle.rules.specs.LineRules.{Place}
-use Rattle.rules.specs.FieldRules.{rule6}
+use Rattle.rules.specs.FieldRules.{ofParty, isFailing, isZero, numberFails, numberZero, rule6, rule23, rule24}
 use Rattle.rules.specs.HeadingRules.{rule6At}
 use Rattle.rules.specs.BlockRules.{rule16, rule19}
 use Rattle.rules.specs.Spots.{lowTests, fieldTests, looseTests, ownTests, blockTests, rule16At, headTests, lowSpot, fieldSpot, headSpot}
 use Rattle.rules.specs.Faults.{fault, faults}
 use Rattle.rules.specs.Demand.{spotsOf}
 use Rattle.rules.proofs.Demand.{listed-by-its-test}
+
+-- a number does not fail where it is zero
+fails-or-zero : (said : Reading) → ofParty numberFails said ≡ true → ofParty numberZero said ≡ true → ⊥
+fails-or-zero Broken e f = false≢true e
+fails-or-zero Plain e f = false≢true e
+fails-or-zero (Paid a d) e f = false≢true e
+fails-or-zero (Span a b) e f = false≢true e
+fails-or-zero (Stated n a) e f = false≢true e
+fails-or-zero (Party h) e f = go (h .number) e f
+  where
+    go : (n : Number) → isFailing n ≡ true → isZero n ≡ true → ⊥
+    go Good e f = false≢true e
+    go Failing e f = false≢true f
+    go Zero e f = false≢true e
 
 module _ (terms : Terms) (file : List ℕ) where
   abbrev InList : ℕ → ℕ → Type 0
@@ -32,7 +50,7 @@ module _ (terms : Terms) (file : List ℕ) where
   unfolding lowSpot
   at-low p l m r b t = listed-by-its-test terms file (lowSpot p l) m r b t
 
-  -- 1, 4 and 5 to 9, at a field of an item
+  -- 1, 4, 5 to 9, 23 and 24, at a field of an item
   pub at-field : (h : Owned Row) (above : List (Owned FieldRow)) (g : Owned FieldRow) → List·Memᴰ (fieldSpot terms (some h) above g) (spotsOf terms file)
       → (r : ℕ) (b : Bool) → List·Memᴰ (r if b) (fieldTests terms (headOf h) above g) → InList (g .owner .row .no) r ↔ (b ≡ true)
   unfolding fieldSpot
@@ -49,6 +67,21 @@ module _ (terms : Terms) (file : List ℕ) where
       → InList (g .owner .row .no) 6 ↔ (rule6 g ≡ true)
   unfolding fieldTests
   six-at-field h above g m = at-field h above g m 6 (rule6 g) (List·Memᴰ·tail (List·Memᴰ·tail (List·Memᴰ·tail (List·Memᴰ·head refl))))
+
+  -- 23 and 24, of which no field breaks both
+  module _ (h : Owned Row) (above : List (Owned FieldRow)) (g : Owned FieldRow) (m : List·Memᴰ (fieldSpot terms (some h) above g) (spotsOf terms file)) where
+    pub twenty-three-at-field : InList (g .owner .row .no) 23 ↔ (rule23 g ≡ true)
+    unfolding fieldTests
+    twenty-three-at-field =
+        at-field h above g m 23 (rule23 g) (List·Memᴰ·tail (List·Memᴰ·tail (List·Memᴰ·tail (List·Memᴰ·tail (List·Memᴰ·tail (List·Memᴰ·tail (List·Memᴰ·tail (List·Memᴰ·head refl))))))))
+
+    pub twenty-four-at-field : InList (g .owner .row .no) 24 ↔ (rule24 g ≡ true)
+    unfolding fieldTests
+    twenty-four-at-field =
+        at-field h above g m 24 (rule24 g) (List·Memᴰ·tail (List·Memᴰ·tail (List·Memᴰ·tail (List·Memᴰ·tail (List·Memᴰ·tail (List·Memᴰ·tail (List·Memᴰ·tail (List·Memᴰ·tail (List·Memᴰ·head refl)))))))))
+
+    pub never-both : InList (g .owner .row .no) 23 → InList (g .owner .row .no) 24 → ⊥
+    never-both p q = fails-or-zero (says g) (twenty-three-at-field .0 p) (twenty-four-at-field .0 q)
 
   -- at the heading of an item with these items above and below
   module _ (above : List Item) (i : Item) (below : List Item) (m : List·Memᴰ (headSpot terms above i below) (spotsOf terms file)) where

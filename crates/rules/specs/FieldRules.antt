@@ -1,6 +1,6 @@
--- Rules 5 to 9, at a field of an item. The fields above one in its item are listed with the nearest first.
+-- Rules 5 to 9, 23 and 24, at a field of an item. The fields above one in its item are listed with the nearest first.
 use Prim.Native.Nat.{ℕ}
-use mathlib.Core.Bool.{Bool, false, not, _&&_, _||_}
+use mathlib.Core.Bool.{Bool, true, false, not, _&&_, _||_}
 use mathlib.Core.List.{List, [], _∷_}
 use lib.Dec.{eqb, ltb}
 use Rattle.laws.specs.Tests.{among}
@@ -8,6 +8,9 @@ use Rattle.days.specs.Days.{isReal, later}
 use Rattle.headings.specs.declared.Read.{Read}
 use Rattle.headings.specs.declared.Read.the-variants.{Reads, Unreadable}
 use Rattle.headings.specs.ItemTypes.{isPayment}
+use Rattle.figures.specs.declared.parts.Number.{Number}
+use Rattle.figures.specs.declared.parts.Number.the-variants.{Good, Failing, Zero}
+use Rattle.figures.specs.declared.parts.Halves.{Halves}
 use Rattle.fields.specs.declared.readings.Reading.{Reading}
 use Rattle.fields.specs.declared.readings.Reading.the-variants.{Broken, Plain, Paid, Span, Stated, Party}
 use Rattle.fields.specs.Kinds.{named}
@@ -26,17 +29,45 @@ rule5 above g = stands (g .owner .ident) above
 abbrev pub rule6 : Owned FieldRow → Bool
 rule6 g = not (reads (classOf (g .owner .ident)) (g .owner .row .bytes) (continuations (g .below)))
 
-abbrev pub failsCheck : Reading → Bool
-failsCheck Broken = false
-failsCheck Plain = false
-failsCheck (Paid a d) = false
-failsCheck (Span a b) = false
-failsCheck (Stated n a) = false
-failsCheck (Party holds) = not holds
+-- ---- 7, 23 and 24: of 'a UD or UK that reads' (document 01), by the half that is wrong (document 02, A4)
+abbrev pub ofParty : (Halves → Bool) → Reading → Bool
+ofParty wrong Broken = false
+ofParty wrong Plain = false
+ofParty wrong (Paid a d) = false
+ofParty wrong (Span a b) = false
+ofParty wrong (Stated n a) = false
+ofParty wrong (Party h) = wrong h
 
--- '7: a UD or UK that reads fails the account check'
+abbrev pub prefixFails : Halves → Bool
+prefixFails h = not (h .prefix)
+
+abbrev pub isFailing : Number → Bool
+isFailing Good = false
+isFailing Failing = true
+isFailing Zero = false
+
+abbrev pub isZero : Number → Bool
+isZero Good = false
+isZero Failing = false
+isZero Zero = true
+
+abbrev pub numberFails : Halves → Bool
+numberFails h = isFailing (h .number)
+
+abbrev pub numberZero : Halves → Bool
+numberZero h = isZero (h .number)
+
+-- 'Rule 7 now means the prefix'
 abbrev pub rule7 : Owned FieldRow → Bool
-rule7 g = failsCheck (says g)
+rule7 g = ofParty prefixFails (says g)
+
+-- '23 is a number that fails'
+abbrev pub rule23 : Owned FieldRow → Bool
+rule23 g = ofParty numberFails (says g)
+
+-- '24 is a number of zero, where the sum isn't judged'
+abbrev pub rule24 : Owned FieldRow → Bool
+rule24 g = ofParty numberZero (says g)
 
 -- ---- 8 and 9: 'For the first KC of an item whose heading reads, with an input type other than 51, if that KC reads'
 -- the types whose KC may not be later than the accounting day, and those whose may be 30 days later

@@ -15,7 +15,7 @@ use Rattle.rules.specs.Tree.{Owned, Item, File, tree}
 use Rattle.rules.specs.Said.{headOf, digest}
 use Rattle.rules.specs.Tests.{Test, _if_, Spot}
 use Rattle.rules.specs.LineRules.{Place, nowhere, prelude, inside, rule1, rule2, rule3, rule4}
-use Rattle.rules.specs.FieldRules.{rule5, rule6, rule7, rule8At, rule9At}
+use Rattle.rules.specs.FieldRules.{rule5, rule6, rule7, rule8At, rule9At, rule23, rule24}
 use Rattle.rules.specs.HeadingRules.{rule6At, rule11, rule12, rule15}
 use Rattle.rules.specs.BlockRules.{rule16, rule17, rule18, rule19, rule20, rule21, rule30}
 
@@ -37,9 +37,11 @@ fieldTests terms h above g =
     (6 if rule6 g) ∷
     (7 if rule7 g) ∷
     (8 if rule8At terms h above g) ∷
-    (9 if rule9At h above g) ∷ []
+    (9 if rule9At h above g) ∷
+    (23 if rule23 g) ∷
+    (24 if rule24 g) ∷ []
 
--- at a field above the first heading: 5 to 9 are of 'Fields inside items'
+-- at a field above the first heading: 5 to 9, and so 23 and 24, are of 'Fields inside items'
 unfoldable pub looseTests : Owned FieldRow → List Test
 looseTests g =
     (1 if rule1 (g .owner .row)) ∷

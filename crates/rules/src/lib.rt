@@ -10,7 +10,7 @@
 //   Blocks        the items of a block, and what is asked of them
 //   Tests         a rule with whether it is broken; a line with its tests
 //   LineRules     rules 1 to 4
-//   FieldRules    rules 5 to 9
+//   FieldRules    rules 5 to 9, 23 and 24
 //   HeadingRules  rule 6 at a heading, and 11, 12 and 15 (10, 13 and 14, by which deriving refuses too, are `headings`' HeadRules)
 //   BlockRules    rules 16 to 21 and 30 to 39
 //   Spots         which rules are tested at which line, and all lines of a file in their order

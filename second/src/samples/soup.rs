@@ -27,13 +27,17 @@ pub fn lines_of(dice: &mut Dice, length: u64) -> Sample {
     draft.sample()
 }
 
+/// Every way for the halves of an account to be right or wrong, and a broken one.
+const ACCOUNTS: [&str; 7] =
+    ["UD: 19", "UK:19 19", "UD: 18", "UK:20 19", "UD:20 18", "UK:20 0", "UD:19"];
+
 fn line(dice: &mut Dice) -> Vec<u8> {
     let text = match dice.below(16) {
         0..=4 => return heading(dice),
         5 => format!("KC:{} {}", dice.below(3), day(dice)),
         6 => format!("IN:{} {}", dice.below(4), dice.below(4)),
         7 | 8 => format!("S{}:{} {}", dice.below(10), dice.below(3), dice.below(4)),
-        9 => dice.pick(&["UD: 19", "UK:19 19", "UD: 18", "UK:20 19", "UD:19"]).to_string(),
+        9 => dice.pick(&ACCOUNTS).to_string(),
         10 => dice.pick(&["EC:1", "EC:", "AK:12345678901", "ZK:0", "ZK:1 "]).to_string(),
         11 => format!("{}:text", dice.pick(&["DI", "KI", "ZP", "AV", "ID", "S9", "00"])),
         12 => dice.pick(&["", "x", "hd:", "  ", "A:", "HD"]).to_string(),

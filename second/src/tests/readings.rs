@@ -70,7 +70,7 @@ fn reading_10_optional_rests() {
 fn reading_11_layouts_hold_in_every_item() {
     let above = ["EC:", "EC:", "UD: 18", "KC:1 20240305"];
     let lines = [&above[..], &["HD:"], &above[..3]].concat();
-    let below = [(5, 6), (5, 16), (6, 6), (7, 5), (7, 6), (8, 7)];
+    let below = [(5, 6), (5, 16), (6, 6), (7, 5), (7, 6), (8, 23)];
     assert_eq!(faults(&lines), [&[(1, 3), (2, 3), (3, 3), (4, 3)][..], &below].concat());
 }
 
@@ -116,10 +116,14 @@ fn reading_15_only_the_first_stands() {
 #[test]
 fn reading_16_every_account() {
     let lines = [&head(11, 1), KC, "UD: 18", "UD: 18", "UK: 19", "UK: 18"];
-    assert_eq!(closed(&lines), [(3, 7), (4, 5), (4, 7), (6, 5), (6, 7)]);
+    assert_eq!(closed(&lines), [(3, 23), (4, 5), (4, 23), (6, 5), (6, 23)]);
     let control = head(51, 0);
     let lines = [&head(11, 1), KC, &control, "IN:1 1", "S1:1 1", "UD: 18"];
-    assert_eq!(faults(&lines), [(6, 7)]);
+    assert_eq!(faults(&lines), [(6, 23)]);
+    let alone = ["UD:20 0", "UK:20 18 NAME"];
+    assert_eq!(faults(&alone), [(1, 3), (2, 3)]);
+    let continued = [&head(11, 1), KC, "UD:20 0", "   more"];
+    assert_eq!(closed(&continued), [(3, 6)]);
 }
 
 #[test]

@@ -1,8 +1,8 @@
 use mathlib.Core.Path.{ap, _∙_}
-use mathlib.Core.Bool.{Bool, false, cond}
+use Prim.Native.Nat.{ℕ}
 use Rattle.figures.specs.declared.accounts.Account.{Account}
-use Rattle.figures.specs.Accounts.{accountValue}
-use Rattle.figures.proofs.Judged.{value-is}
+use Rattle.figures.specs.Accounts.{prefixValue, numberValue}
+use Rattle.figures.proofs.Judged.{prefix-is, number-is}
 use Rattle.host.proofs.Stored.{stored}
 use borrow.Author.Needs.{needs}
 use Rattle.host.proofs.certis_account.Statement.{statement}
@@ -14,27 +14,32 @@ check-requires c κs = search needs
 number-of-requires : tie.Need-number-of-requires
 number-of-requires c κs = search needs
 
-value-of-requires : tie.Need-value-of-requires
-value-of-requires c κs = search needs
-
-one-if-requires : tie.Need-one-if-requires
-one-if-requires c κs = search needs
+prefix-value-requires : tie.Need-prefix-value-requires
+prefix-value-requires c κs = search needs
 
 store-answer-requires : tie.Need-store-answer-requires
 store-answer-requires c κs = search needs
 
+number-value-requires : tie.Need-number-value-requires
+number-value-requires c κs = search needs
+
+store-answer-requires-2 : tie.Need-store-answer-requires-2
+store-answer-requires-2 c κs = search needs
+
 returns : tie.Need-returns
 returns c =
-    let o = c .before in
-    let v = o .before .before in
-    let n = v .before in
-    let k = n .before in
+    let second = c .before in
+    let stored-first = second .before .before in
+    let first = stored-first .before in
+    let number = first .before .before in
+    let k = number .before in
     let a = k .before .before .before .args in
-    let e = n .number-of .ensures ∙ k .check .ensures .0 in
-    let w = v .value-of .ensures ∙ ap (λ (r : Account). accountValue r false) (k .check .ensures .1) ∙ value-is (a .prefix .now) (a .number .now) false in
+    let is = k .check .ensures .1 in
+    let e = number .number-of .ensures ∙ k .check .ensures .0 in
     record {
       refusal = e;
-      good = c .store-answer .ensures ∙ rw (o .one-if .ensures) (stored (λ (b : Bool). cond b 1 0) _ false _ e w);
+      first-half = stored-first .store-answer .ensures ∙ stored (λ (x : ℕ). x) _ 0 _ e (first .prefix-value .ensures ∙ ap (λ (r : Account). prefixValue r 0) is ∙ prefix-is (a .prefix .now) (a .number .now) 0);
+      second-half = c .store-answer2 .ensures ∙ stored (λ (x : ℕ). x) _ 0 _ e (second .number-value .ensures ∙ ap (λ (r : Account). numberValue r 0) is ∙ number-is (a .prefix .now) (a .number .now) 0);
     }
 
 pub certis-account-spec : {M : Type 1} → statement M
@@ -43,7 +48,8 @@ certis-account-spec =
     (tie.spec
     check-requires
     number-of-requires
-    value-of-requires
-    one-if-requires
+    prefix-value-requires
     store-answer-requires
+    number-value-requires
+    store-answer-requires-2
     returns)

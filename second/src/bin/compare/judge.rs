@@ -1,7 +1,7 @@
 //! The comparison of single calls: what the reference says against what the
 //! library answers and leaves in the memory lent to it.
 
-use second::account;
+use second::account::{self, Halves};
 use second::check;
 use second::derive;
 use second::heading;
@@ -171,13 +171,13 @@ impl Judge {
         if let Err(refusal) = answer {
             self.tally.refusal(refusal);
         }
-        // Neither answer beforehand, then both: a write and one left out would show.
-        for before in [u32::MAX, 0, 1] {
-            let mut good = before;
-            let found = face::account(prefix, number, &mut good);
-            let expected = answer.map_or(before, u32::from);
-            if found != answer.err().unwrap_or(0) || good != expected {
-                self.fail(|| report::account(prefix, number, answer, (found, before, good)));
+        // No answer beforehand, then each of them: a write and one left out would show.
+        for before in [u32::MAX, 0, 1, 2] {
+            let mut after = (before, before);
+            let found = face::account(prefix, number, (&mut after.0, &mut after.1));
+            let expected = answer.map_or((before, before), Halves::numbers);
+            if found != answer.err().unwrap_or(0) || after != expected {
+                self.fail(|| report::account(prefix, number, answer, (found, before, after)));
             }
         }
     }

@@ -1,6 +1,7 @@
 //! Mismatches in words: what was expected, what was found, and the input, made
 //! smaller where that is possible.
 
+use second::account::Halves;
 use second::rules::Fault;
 use second::samples::{Job, Sample};
 
@@ -92,12 +93,12 @@ pub fn told(
 pub fn account(
     prefix: &[u8],
     number: &[u8],
-    expected: Result<bool, u32>,
-    (found, before, after): (u32, u32, u32),
+    expected: Result<Halves, u32>,
+    (found, before, after): (u32, u32, (u32, u32)),
 ) -> String {
     let (prefix, number) = (shown(prefix), shown(number));
     format!(
-        "certis_account {prefix} {number}: expected {expected:?}, found {found}, good was {before} and is {after}"
+        "certis_account {prefix} {number}: expected {expected:?}, found {found}, answers were {before} and are {after:?}"
     )
 }
 

@@ -14,7 +14,7 @@ pub struct Tally {
 }
 
 /// Every rule and every refusal that the C face can give.
-const RULES: [std::ops::RangeInclusive<usize>; 2] = [1..=21, 30..=39];
+const RULES: [std::ops::RangeInclusive<usize>; 3] = [1..=21, 23..=24, 30..=39];
 const REFUSALS: [std::ops::RangeInclusive<usize>; 2] = [1..=6, 9..=16];
 /// Checking's own among them; no rooms are lent, so 4 cannot be.
 const SHEET_ANSWERS: [std::ops::RangeInclusive<usize>; 4] = [0..=3, 5..=6, 9..=9, 19..=22];

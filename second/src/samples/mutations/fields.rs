@@ -1,4 +1,4 @@
-//! Damage to fields: rules 5 to 9.
+//! Damage to fields: rules 5 to 9, 23 and 24.
 
 use super::tools::{
     KIND, any_line, any_place, is_control, is_field, is_heading, item_end, other_digit, set, spoil,
@@ -57,10 +57,31 @@ pub(super) fn longer_line(draft: &mut Draft, dice: &mut Dice) {
     }
 }
 
+fn is_account(line: &[u8]) -> bool {
+    line.starts_with(b"UD:") || line.starts_with(b"UK:")
+}
+
 pub(super) fn bad_account(draft: &mut Draft, dice: &mut Dice) {
-    let wanted = |line: &[u8]| line.starts_with(b"UD:") || line.starts_with(b"UK:");
-    if let Some(line) = any_line(draft, dice, wanted) {
+    if let Some(line) = any_line(draft, dice, is_account) {
         other_digit(line, dice);
+    }
+}
+
+/// A prefix of a few digits, as they fall, in place of the one that stands.
+pub(super) fn bad_prefix(draft: &mut Draft, dice: &mut Dice) {
+    let length = dice.range(1, 7) as usize;
+    let digits: Vec<u8> = (0..length).map(|_| b'0' + dice.below(10) as u8).collect();
+    if let Some(line) = any_line(draft, dice, is_account) {
+        let rest = line.iter().skip(3).skip_while(|byte| byte.is_ascii_digit()).copied();
+        *line = line[..3].iter().copied().chain(digits).chain(rest).collect();
+    }
+}
+
+/// Noughts for the digits of the number.
+pub(super) fn zero_number(draft: &mut Draft, dice: &mut Dice) {
+    if let Some(line) = any_line(draft, dice, is_account) {
+        let number = line.iter_mut().skip(3).skip_while(|byte| **byte != b' ').skip(1);
+        number.take_while(|byte| byte.is_ascii_digit()).for_each(|byte| *byte = b'0');
     }
 }
 

@@ -20,7 +20,7 @@ const fn aimed(rule: u32, apply: fn(&mut Draft, &mut Dice)) -> Mutation {
     Mutation { rule, apply }
 }
 
-pub static ALL: [Mutation; 49] = [
+pub static ALL: [Mutation; 51] = [
     aimed(1, lines::bad_byte),
     aimed(1, lines::lone_end),
     aimed(2, lines::stray_line),
@@ -33,7 +33,7 @@ pub static ALL: [Mutation; 49] = [
     aimed(6, fields::continued_heading),
     aimed(6, fields::more_continuations),
     aimed(6, fields::longer_line),
-    aimed(7, fields::bad_account),
+    aimed(7, fields::bad_prefix),
     aimed(8, fields::amount_day),
     aimed(9, fields::amount_limit),
     aimed(10, headings::odd_type),
@@ -55,6 +55,8 @@ pub static ALL: [Mutation; 49] = [
     aimed(21, blocks::no_interval),
     aimed(21, blocks::other_interval),
     aimed(6, blocks::broken_interval),
+    aimed(23, fields::bad_account),
+    aimed(24, fields::zero_number),
     aimed(30, blocks::any_sum::<0>),
     aimed(31, blocks::any_sum::<1>),
     aimed(32, blocks::any_sum::<2>),

@@ -24,38 +24,38 @@ enum-known-mid c = search needs
 ends-or-name-requires : tie.Need-ends-or-name-requires
 ends-or-name-requires c κs = search needs
 
-slice-aggregate-parts-hold : tie.Need-slice-aggregate-parts-hold
-slice-aggregate-parts-hold c =
+slice-aggregate-halves-of : tie.Need-slice-aggregate-halves-of
+slice-aggregate-halves-of c =
     let k = c .before .before in
     let r = k .before .before .before in
     sym (length-take-le _ (T r) (omega (arith, placed _ _ _ _ (T r) _ _ _ _ (sym (r .read-two .ensures) ∙ k .before .mid .given .1))))
 
-add-parts-hold : tie.Need-add-parts-hold
-add-parts-hold c =
+add-halves-of : tie.Need-add-halves-of
+add-halves-of c =
     let k = c .before .before in
     let r = k .before .before .before in
     omega (arith, placed _ _ _ _ (T r) _ _ _ _ (sym (r .read-two .ensures) ∙ k .before .mid .given .1))
 
-sub-parts-hold : tie.Need-sub-parts-hold
-sub-parts-hold c =
+sub-halves-of : tie.Need-sub-halves-of
+sub-halves-of c =
     let k = c .before .before in
     let r = k .before .before .before in
     omega (arith, placed _ _ _ _ (T r) _ _ _ _ (sym (r .read-two .ensures) ∙ k .before .mid .given .1))
 
-part-parts-hold-start : tie.Need-part-parts-hold-start
-part-parts-hold-start c =
+part-halves-of-start : tie.Need-part-halves-of-start
+part-halves-of-start c =
     let k = c .before .before in
     let r = k .before .before .before in
     omega (arith, placed _ _ _ _ (T r) _ _ _ _ (sym (r .read-two .ensures) ∙ k .before .mid .given .1))
 
-part-parts-hold-end : tie.Need-part-parts-hold-end
-part-parts-hold-end c =
+part-halves-of-end : tie.Need-part-halves-of-end
+part-halves-of-end c =
     let k = c .before .before in
     let r = k .before .before .before in
     omega (arith, placed _ _ _ _ (T r) _ _ _ _ (sym (r .read-two .ensures) ∙ k .before .mid .given .1))
 
-parts-hold-requires : tie.Need-parts-hold-requires
-parts-hold-requires c κs =
+halves-of-requires : tie.Need-halves-of-requires
+halves-of-requires c κs =
     let k = c .before .before .before in
     let r = k .before .before .before in
     digits-of _ _ _ _ (T r) _ _ _ _ (sym (r .read-two .ensures) ∙ k .before .mid .given .1) (omega arith) (omega arith)
@@ -72,7 +72,7 @@ returns c =
     let k = a .before .before in
     let r = k .before .before .before in
     c .if-fits .ensures
-    ∙ made Account 0 6 1 10 maybeName (T r) refl _ _ _ _ (sym (r .read-two .ensures) ∙ k .before .mid .given .1) _ _ (a .before .ends-or-name .ensures) (ap Party (c .before .parts-hold .ensures))
+    ∙ made Account 0 6 1 10 maybeName (T r) refl _ _ _ _ (sym (r .read-two .ensures) ∙ k .before .mid .given .1) _ _ (a .before .ends-or-name .ensures) (ap Party (c .before .halves-of .ensures))
 
 returns-2 : tie.Need-returns-2
 returns-2 c =
@@ -86,12 +86,12 @@ read-account-spec =
     read-two-requires
     enum-known-mid
     ends-or-name-requires
-    slice-aggregate-parts-hold
-    add-parts-hold
-    sub-parts-hold
-    part-parts-hold-start
-    part-parts-hold-end
-    parts-hold-requires
+    slice-aggregate-halves-of
+    add-halves-of
+    sub-halves-of
+    part-halves-of-start
+    part-halves-of-end
+    halves-of-requires
     if-fits-requires
     enum-told
     returns

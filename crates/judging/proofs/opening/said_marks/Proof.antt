@@ -37,8 +37,8 @@ enum-told-4 c = search needs
 enum-known-said-2 : tie.Need-enum-known-said-2
 enum-known-said-2 c = search needs
 
-flag-requires-3 : tie.Need-flag-requires-3
-flag-requires-3 c κs = search needs
+halves-marks-requires : tie.Need-halves-marks-requires
+halves-marks-requires c κs = search needs
 
 returns : tie.Need-returns
 returns c = (rw (c .enum-told .given .1) (marks-broken _ _ _), omega arith)
@@ -56,7 +56,7 @@ returns-5 : tie.Need-returns-5
 returns-5 c = (rw (c .enum-told4 .given .1) (marks-stated _ _ _ _ _), omega arith)
 
 returns-6 : tie.Need-returns-6
-returns-6 c = (rw (c .before .before .said2 .given .1, c .flag3 .ensures .0) (marks-party _ (c .before .before .said2 .given .0 .0) _ _), omega (arith, c .flag3 .ensures .1))
+returns-6 c = (rw (c .before .before .said2 .given .1, c .halves-marks .ensures .0) (marks-party _ _ _ _), c .halves-marks .ensures .1)
 
 pub said-marks-spec : {M : Type 1} → statement M
 said-marks-spec =
@@ -73,7 +73,7 @@ said-marks-spec =
     enum-told-3
     enum-told-4
     enum-known-said-2
-    flag-requires-3
+    halves-marks-requires
     returns
     returns-2
     returns-3
