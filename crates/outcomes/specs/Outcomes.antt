@@ -9,7 +9,8 @@ use Rattle.headings.specs.declared.Code.{Code}
 use Rattle.headings.specs.ItemTypes.{isPriority}
 use Rattle.outcomes.specs.declared.Codes.{Codes}
 
--- a row: the input type, and the outgoing types for outcomes 1 to 7; 00 where document 01 has a dash
+-- a row: the input type, and the outgoing types for outcomes 1 to 7; 00 where document 01 has a dash. 96, 97 and 98 have no row:
+-- 'Deriving answers 14 for them' (document 02, A3)
 pub data Row : Type 0 where
   row : ℕ → List ℕ → Row
 
