@@ -3,7 +3,7 @@
 -- What a rule says of a heading or a KC is said by all the faults of a whole file: a case that stands has none.
 use Prim.Native.Nat.{ℕ}
 use Prim.Native.String.{String, _++_ as _++ˢ_}
-use mathlib.Core.Bool.{Bool, true, false, not, _&&_}
+use mathlib.Core.Bool.{Bool, not, _&&_}
 use mathlib.Core.List.{List, [], _∷_, _++_, map}
 use lib.ListN.{length, replicate}
 use lib.Dec.{eqb}

@@ -1,6 +1,5 @@
 -- Each call's statement determines its answer and what stands behind the pointers after it: two that meet it are equal.
 use mathlib.Core.Path.{_≡_, sym, ap, _∙_}
-use mathlib.Core.Bool.{cond}
 use mathlib.Core.List.{List}
 use Prim.Native.Nat.{ℕ}
 use lib.ListN.{length}

@@ -1,6 +1,7 @@
-// How the lines of an item are judged: the marks of a line or of a field that closes (1 to 9), and the closing of an item with its heading's
-// marks. Each function promises its result by a definition of specs/Opening.antt or Closing.antt, for every input; the rules at headings come
-// from `blocks` by way of `lending`. The laws join what is kept to the tree (proofs/Meaning.antt): what is entered is what `rules` declares.
+// How the lines of an item are judged: the marks of a line or of a field that closes (1 to 9, 23 and 24), and the closing of an item
+// with its heading's marks. Each function promises its result by a definition of specs/Opening.antt or Closing.antt, for every input; the
+// rules at headings come from `blocks` by way of `lending`. The laws join what is kept to the tree (proofs/Meaning.antt): what is entered
+// is what `rules` declares.
 // Stands on `items`, `fields`, `blocks`, `account` and `lending`.
 use blocks::Block;
 
