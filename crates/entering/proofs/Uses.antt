@@ -175,7 +175,7 @@ module _ (g : Register) (w : wellFormed g ≡ true) (us : List Use) (F : Fits us
       go : (x : Bool) → clash rs us ≡ x → first (keysRefusals (spansOf rs) ks room) ≡ first (usesRefusals g us today room)
       go true p = rw (hit-is ∙ p, p)
       go false p =
-          let a : ltb 65 (length (closedUp (spansOf rs) ks)) ≡ ltb 64 (length (addAll us rs)) = ltb-next 64 (length (addAll us rs)) (length (closedUp (spansOf rs) ks)) (length-is p) in
+          let a : ltb 1025 (length (closedUp (spansOf rs) ks)) ≡ ltb 1024 (length (addAll us rs)) = ltb-next 1024 (length (addAll us rs)) (length (closedUp (spansOf rs) ks)) (length-is p) in
           let b : length (closedUp (spansOf rs) ks) - 1 ≡ length (addAll us rs) = omega (arith, length-is p) in
           rw (hit-is ∙ p, p, a, b)
 
