@@ -15,11 +15,11 @@ use Rattle.register.specs.Register.{Register, sizeOf, registerBytes, countIn, r
 use Rattle.register.specs.Entering.{kept}
 use Rattle.register.specs.Spans.{Span, spansOf, froms, tos, rangesOf}
 use Rattle.register.proofs.RoundTrip.{length-register}
-use Rattle.entering.specs.declared.merging.Merged.{Merged}
+use Rattle.merging.specs.declared.Merged.{Merged}
 use Rattle.entering.specs.declared.entering.Entered.{Entered}
 use Rattle.entering.specs.declared.entering.Entered.the-variants.{Written, UsedAlready, TooMany, TooShort}
 use Rattle.entering.specs.Keys.{Kept}
-use Rattle.entering.specs.Merging.{paired, weave, hits, closed, Merges}
+use Rattle.merging.specs.Merging.{paired, weave, hits, closed, Merges}
 use Rattle.entering.specs.Jobs.{enteredNumber, writtenOr, targetAfter, sizeAfter, Answers}
 use Rattle.entering.specs.Steps.{closedUp, keysRefusals, keysRegister, EntersKeys}
 

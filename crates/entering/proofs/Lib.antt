@@ -1,7 +1,3 @@
-pub mod Covers
-pub mod Members
-pub mod Clashes
-pub mod Turns
 pub mod Items
 pub mod Answers
 pub mod Uses

@@ -32,11 +32,11 @@ use Rattle.register.proofs.Keys.{ranges-back}
 use Rattle.register.proofs.Formed.{range-parts, stand-sound, Formed, formed}
 use Rattle.entering.specs.declared.entering.Entered.{Entered}
 use Rattle.entering.specs.Keys.{Dated}
-use Rattle.entering.specs.Merging.{one, weave, hits}
+use Rattle.merging.specs.Merging.{one, weave, hits}
 use Rattle.entering.specs.Jobs.{usesRefusals}
 use Rattle.entering.specs.Steps.{closedUp, keysRefusals, keysRegister, EntersKeys, EntersUses}
-use Rattle.entering.proofs.Members.{Among, first as firstOf, later as laterOf, amongIs, count-no, count-same, closed-is}
-use Rattle.entering.proofs.Clashes.{clash-is}
+use Rattle.merging.proofs.Members.{Among, first as firstOf, later as laterOf, amongIs, count-no, count-same, closed-is}
+use Rattle.merging.proofs.Clashes.{clash-is}
 use Rattle.entering.proofs.Answers.{answers-as}
 
 -- ---- a heading's number has seven digits

@@ -8,7 +8,7 @@ use Rattle.register.specs.Register.{Register, sizeOf}
 use Rattle.register.specs.Entering.{Use, entered}
 use Rattle.register.specs.Spans.{Span, froms, tos, rangesOf}
 use Rattle.entering.specs.declared.entering.Entered.{Entered}
-use Rattle.entering.specs.Merging.{weave, hits, closed}
+use Rattle.merging.specs.Merging.{weave, hits, closed}
 use Rattle.entering.specs.Jobs.{usesRefusals, Answers}
 
 -- of keys in order and the spans that stay: the first of the spans closed up is that of 0

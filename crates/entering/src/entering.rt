@@ -1,6 +1,5 @@
 // Entering a file in a register.
 use crate::gathering;
-use crate::merging;
 use listing::checking;
 use listing::checking::Checked;
 use listing::checking::Unchecked;
