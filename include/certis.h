@@ -282,16 +282,18 @@ size_t certis_turnover_text(int64_t turnover, uint8_t *text /* 20 bytes */);
  * ranges. It is bytes in the caller's memory, all numbers high byte first:
  *
  *   bytes   0   CRG
- *           3   the version, 1, in 2 bytes
+ *           3   the version, 1 or 2, in 2 bytes
  *           5   the participant's code, in 2
  *           7   the latest accounting day, in 4
  *          11   the count of ranges, in 2
  *          13   for each range the day, the first and the last number, in 4 each
  *
- * Ranges stand by day and first number, and never touch within a day. A caller
- * keeps the bytes and hands them in again; it need not look into them.
+ * Ranges stand by day and first number, and never touch within a day. One of
+ * version 1 has up to 64 ranges, one of version 2 up to CERTIS_RANGES; both are
+ * taken and mean the same, and version 2 is written. A caller keeps the bytes
+ * and hands them in again; it need not look into them.
  */
-#define CERTIS_RANGES 64
+#define CERTIS_RANGES 1024
 #define CERTIS_REGISTER_LEAST 13
 #define CERTIS_REGISTER_MOST (13 + 12 * CERTIS_RANGES)
 

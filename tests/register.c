@@ -1,6 +1,6 @@
 /* register: calls the two functions of the register in include/certis.h as a
  * host in C does, on worked files and at every refusal. The bytes expected here
- * were worked out from document 02, A2. The target lies in the middle of memory
+ * were worked out from document 02, A2 and A9. The target lies in the middle of memory
  * filled with a pattern, so a byte changed anywhere else is seen. The last line
  * printed is 'N passed, M failed'.
  */
@@ -74,7 +74,7 @@ struct range {
 static struct reg reg_of(uint32_t latest, size_t count, const struct range *ranges)
 {
     struct reg reg = { .length = 3, .bytes = "CRG" };
-    put_number(&reg, 1, 2);
+    put_number(&reg, 2, 2);
     put_number(&reg, 300, 2);
     put_number(&reg, latest, 4);
     put_number(&reg, (uint32_t)count, 2);
@@ -89,7 +89,14 @@ static struct reg reg_of(uint32_t latest, size_t count, const struct range *rang
 #define REG(latest, ...) reg_of(latest, sizeof (struct range[]){ __VA_ARGS__ } / sizeof (struct range), (struct range[]){ __VA_ARGS__ })
 #define NEW() reg_of(0, 0, NULL)
 
-/* 64 ranges of one odd number each. */
+/* The same register in another version. */
+static struct reg as_version(uint8_t version, struct reg reg)
+{
+    reg.bytes[4] = version;
+    return reg;
+}
+
+/* So many ranges of one odd number each. */
 static struct reg full(size_t count)
 {
     struct range ranges[CERTIS_RANGES + 1];
@@ -147,8 +154,26 @@ static void test_ranges(void)
     enters("the eleventh day before", REG(20240303, { 20240222, 1, 5 }, { 20240223, 1, 5 }), block(1, 2, 0),
            REG(DAY, { 20240223, 1, 5 }, { DAY, 1, 2 }));
     struct reg touched = full(CERTIS_RANGES);
-    touched.bytes[touched.length - 1] = 128;
-    enters("one that touches the last of 64", full(CERTIS_RANGES), block(128, 128, 0), touched);
+    touched.bytes[touched.length - 2] = 8;
+    touched.bytes[touched.length - 1] = 0;
+    enters("one that touches the last of 1,024", full(CERTIS_RANGES), block(2048, 2048, 0), touched);
+    enters("one that makes 1,024", full(CERTIS_RANGES - 1), block(2047, 2047, 0), full(CERTIS_RANGES));
+}
+
+/* Version 1 is read as it was, and 2 is written. */
+static void test_versions(void)
+{
+    struct file good = block(3000, 3000, 0);
+    enters("on a new register of version 1", as_version(1, NEW()), block(1, 2, 0), REG(DAY, { DAY, 1, 2 }));
+    enters("5 between two ranges of version 1", as_version(1, REG(DAY, { DAY, 1, 4 }, { DAY, 6, 9 })), block(5, 5, 0), REG(DAY, { DAY, 1, 9 }));
+    enters("a range more than 64 of version 1", as_version(1, full(64)), block(129, 129, 0), full(65));
+    enters("65 ranges of version 2", full(65), block(131, 131, 0), full(66));
+    refuses("a number used in version 1", 27, as_version(1, full(64)), block(127, 127, 0));
+    refuses("65 ranges of version 1", 23, as_version(1, full(65)), good);
+    refuses("1,024 ranges of version 1", 23, as_version(1, full(CERTIS_RANGES)), good);
+    refuses("1,025 ranges", 23, full(CERTIS_RANGES + 1), good);
+    refuses("version 0", 23, as_version(0, NEW()), good);
+    refuses("version 3", 23, as_version(3, NEW()), good);
 }
 
 static void test_refusals(void)
@@ -159,7 +184,6 @@ static void test_refusals(void)
     struct file no_mark = block(1, 2, 0);
     struct reg longer = NEW();
     struct reg shorter = NEW();
-    struct reg second = NEW();
     put_block(&twice, 1, 1, 2);
     put_block(&twice, 2, 2, 0);
     put(&twice, END);
@@ -167,14 +191,11 @@ static void test_refusals(void)
     no_mark.length -= 1;
     longer.length += 1;
     shorter.length -= 1;
-    second.bytes[4] = 2;
     enter_as("code 0", 1, NEW(), good, 0, DAY, 0, NEW());
     enter_as("day 20230229", 2, NEW(), good, 300, 20230229, 0, NEW());
     enter_as("no mark", 5, shorter, no_mark, 300, DAY, 0, NEW());
     refuses("one byte less", 23, shorter, good);
     refuses("one byte more", 23, longer, good);
-    refuses("version 2", 23, second, good);
-    refuses("65 ranges", 23, full(CERTIS_RANGES + 1), good);
     refuses("ranges that touch", 23, REG(DAY, { DAY, 1, 2 }, { DAY, 3, 4 }), good);
     refuses("a day that is not real", 23, REG(DAY, { 20230229, 1, 2 }), good);
     enter_as("another code, latest day later", 24, reg_of(20240305, 0, NULL), good, 301, DAY, 0, NEW());
@@ -182,7 +203,8 @@ static void test_refusals(void)
     enter_as("faults", 26, NEW(), faulty, 300, DAY, 0, NEW());
     refuses("the same file again", 27, REG(DAY, { DAY, 1, 2 }), good);
     refuses("twice in the file", 27, NEW(), twice);
-    refuses("a range more than 64", 28, full(CERTIS_RANGES), block(200, 200, 0));
+    refuses("a range more than 1,024", 28, full(CERTIS_RANGES), block(3000, 3000, 0));
+    enter_as("a target of 12,300 bytes", 29, full(CERTIS_RANGES - 1), block(2047, 2047, 0), 300, DAY, 12300, NEW());
     enter_as("a target of 24 bytes", 29, NEW(), good, 300, DAY, 24, NEW());
     enter_as("a target of 25 bytes", 0, NEW(), good, 300, DAY, 25, REG(DAY, { DAY, 1, 2 }));
 }
@@ -207,6 +229,7 @@ int main(void)
     new_as("code 0 and no room", 1, 0, 0);
     new_as("code 10000", 1, 10000, CERTIS_REGISTER_MOST);
     test_ranges();
+    test_versions();
     test_refusals();
     return finish();
 }

@@ -94,8 +94,8 @@ static uint32_t number_at(const uint8_t *bytes, size_t width)
 static void show_head(const uint8_t *bytes)
 {
     uint32_t count = number_at(bytes + 11, 2);
-    printf("register %04" PRIu32 ", latest %08" PRIu32 ", %" PRIu32 " range%s\n", number_at(bytes + 5, 2), number_at(bytes + 7, 4), count,
-           count == 1 ? "" : "s");
+    printf("register %04" PRIu32 ", version %" PRIu32 ", latest %08" PRIu32 ", %" PRIu32 " range%s\n", number_at(bytes + 5, 2),
+           number_at(bytes + 3, 2), number_at(bytes + 7, 4), count, count == 1 ? "" : "s");
 }
 
 /* The library says whether bytes are a register when a file is entered: 23

@@ -66,7 +66,7 @@ static const char *const REFUSALS[] = {
     [25] = "The day is before the register's latest.",
     [26] = "The file has faults.",
     [27] = "A number of the file is used already, in the register or twice in the file.",
-    [28] = "The register would have more than 64 ranges.",
+    [28] = "The register would have more than 1,024 ranges.",
     [29] = "The room for the register is too short.",
 };
 

@@ -1,4 +1,4 @@
-//! The register of numbers used, from document 02, A2.
+//! The register of numbers used, from document 02, A2 and A9.
 //!
 //! A register is read into sets of numbers, one for each day; numbers are
 //! entered in the sets, and ranges are made of them again when it is written.
@@ -10,13 +10,15 @@ use crate::days;
 use crate::items::File;
 use crate::rules;
 
-/// Ranges of a register.
-pub const RANGES: usize = 64;
+/// Ranges of a register as it is written, and of one of version 1.
+pub const RANGES: usize = 1_024;
+pub const OLD_RANGES: usize = 64;
 /// Bytes of a register with no ranges, and of a range.
 pub const HEAD: usize = 13;
 pub const RANGE: usize = 12;
 
-const VERSION: u32 = 1;
+/// The version that is written.
+const VERSION: u16 = 2;
 const LARGEST: u32 = 9_999_999;
 
 /// Numbers of a day from a first to a last.
@@ -47,10 +49,11 @@ impl Register {
             rest = after;
             Some(number.iter().fold(0, |value, &byte| value << 8 | u32::from(byte)))
         };
-        if take(2)? != VERSION {
+        let most = most_of(take(2)?)?;
+        let (code, latest, count) = (take(2)?, take(4)?, take(2)?);
+        if count as usize > most {
             return None;
         }
-        let (code, latest, count) = (take(2)?, take(4)?, take(2)?);
         let mut ranges = Vec::new();
         for _ in 0..count {
             ranges.push(Range { day: take(4)?, first: take(4)?, last: take(4)? });
@@ -60,8 +63,13 @@ impl Register {
     }
 
     pub fn write(&self) -> Vec<u8> {
+        self.write_as(VERSION)
+    }
+
+    /// "Version 2 is the same layout".
+    pub fn write_as(&self, version: u16) -> Vec<u8> {
         let mut bytes = b"CRG".to_vec();
-        bytes.extend((VERSION as u16).to_be_bytes());
+        bytes.extend(version.to_be_bytes());
         bytes.extend((self.code as u16).to_be_bytes());
         bytes.extend(self.latest.to_be_bytes());
         bytes.extend((self.ranges.len() as u16).to_be_bytes());
@@ -77,7 +85,6 @@ impl Register {
         let is_new = self.latest == 0 && self.ranges.is_empty();
         (1..=9999).contains(&self.code)
             && (is_new || days::is_real(self.latest))
-            && self.ranges.len() <= RANGES
             && self.ranges.iter().all(|range| self.may_have(range))
             && self.ranges.windows(2).all(|pair| is_apart(&pair[0], &pair[1]))
     }
@@ -90,6 +97,16 @@ impl Register {
             && 1 <= range.first
             && range.first <= range.last
             && range.last <= LARGEST
+    }
+}
+
+/// How many ranges a register of a version may have, if there is the version:
+/// "The new program reads both".
+fn most_of(version: u32) -> Option<usize> {
+    match version {
+        1 => Some(OLD_RANGES),
+        2 => Some(RANGES),
+        _ => None,
     }
 }
 
@@ -202,16 +219,16 @@ mod tests {
     }
 
     fn entered(register: &[u8], file: &[u8]) -> Result<Vec<u8>, u32> {
-        enter(register, file, 300, DAY, 1_000)
+        enter(register, file, 300, DAY, 12_301)
     }
 
     #[test]
     fn bytes() {
-        assert_eq!(blank(300, 13), Ok(b"CRG\0\x01\x01\x2c\0\0\0\0\0\0".to_vec()));
+        assert_eq!(blank(300, 13), Ok(b"CRG\0\x02\x01\x2c\0\0\0\0\0\0".to_vec()));
         assert_eq!([blank(0, 99), blank(10_000, 0), blank(1, 12)], [Err(1), Err(1), Err(29)]);
         let bytes = entered(&register(0, &[]), &file(&[(&[1, 2], 0)])).expect("entered");
         let expected =
-            b"CRG\0\x01\x01\x2c\x01\x34\xd7\xb0\0\x01\x01\x34\xd7\xb0\0\0\0\x01\0\0\0\x02";
+            b"CRG\0\x02\x01\x2c\x01\x34\xd7\xb0\0\x01\x01\x34\xd7\xb0\0\0\0\x01\0\0\0\x02";
         assert_eq!(bytes, expected);
     }
 
@@ -240,10 +257,33 @@ mod tests {
             assert_eq!(entered(&register(DAY, &[used]), &one_two), Err(27));
         }
         assert_eq!(entered(&register(0, &[]), &file(&[(&[1], 2), (&[2], 0)])), Err(27));
-        let full: Vec<_> = (0..64).map(|place| (DAY, 2 * place + 1, 2 * place + 1)).collect();
-        assert_eq!(entered(&register(DAY, &full), &file(&[(&[200], 0)])), Err(28));
-        assert_eq!(entered(&register(DAY, &full), &file(&[(&[200], 0), (&[127], 0)])), Err(27));
-        assert!(entered(&register(DAY, &full), &file(&[(&[128], 0)])).is_ok());
+        let full = register(DAY, &odd(1_024));
+        assert_eq!(full.len(), 12_301);
+        assert_eq!(entered(&full, &file(&[(&[3_000], 0)])), Err(28));
+        assert_eq!(entered(&full, &file(&[(&[3_000], 0), (&[2_047], 0)])), Err(27));
+        assert!(entered(&full, &file(&[(&[2_048], 0)])).is_ok());
+    }
+
+    /// So many ranges of one odd number each.
+    fn odd(count: u32) -> Vec<(u32, u32, u32)> {
+        (0..count).map(|place| (DAY, 2 * place + 1, 2 * place + 1)).collect()
+    }
+
+    #[test]
+    fn versions() {
+        let read = |version, count| {
+            let mut bytes = register(DAY, &odd(count));
+            bytes[4] = version;
+            Register::read(&bytes)
+        };
+        assert!(read(1, 64).is_some() && read(1, 65).is_none());
+        assert!(read(2, 65).is_some() && read(2, 1_024).is_some() && read(2, 1_025).is_none());
+        assert!(read(0, 1).is_none() && read(3, 1).is_none());
+        assert_eq!(read(1, 64), read(2, 64));
+        let old = Register::read(&register(DAY, &odd(64))).expect("well formed").write_as(1);
+        assert_eq!(old[..5], *b"CRG\0\x01");
+        let wider: Vec<_> = odd(64).into_iter().chain([(DAY, 200, 200)]).collect();
+        assert_eq!(entered(&old, &file(&[(&[200], 0)])), Ok(register(DAY, &wider)));
     }
 
     #[test]
@@ -275,8 +315,5 @@ mod tests {
         let new = register(0, &[]);
         assert!(Register::read(&new[..12]).is_none());
         assert!(Register::read(&[&new[..], b"\0"].concat()).is_none());
-        let mut second = new.clone();
-        second[4] = 2;
-        assert!(Register::read(&second).is_none());
     }
 }

@@ -25,7 +25,7 @@ use Rattle.item_reader.specs.Slips.{slipsFrom}
 use Rattle.item_reader.specs.Accepted.{Fine, Each}
 use Rattle.item_reader.proofs.Accepted.{accepted}
 use Rattle.listing.specs.Checking.{isCode, isAccountingDay}
-use Rattle.register.specs.Register.{Range, Register, sizeOf, registerBytes, registerOf, rangeStands, allStand, inOrder, latestStands, wellFormed, isRegister}
+use Rattle.register.specs.Register.{Range, Register, version, mostOf, sizeOf, registerBytes, registerOf, rangeStands, allStand, inOrder, latestStands, wellFormed, isRegister}
 use Rattle.register.specs.Entering.{Use, usedAt, used, kept, join, add, addAll, entered}
 use Rattle.register.specs.Spans.{Fits, Sound}
 use Rattle.register.proofs.Sets.{both, either, left, right, pair, order-strung, strung-order, all-sound, all-ordered}
@@ -182,7 +182,7 @@ entered-stands register file code day room e =
     let r : isAccountingDay day ≡ true = not-false (isAccountingDay day) (N .1 .0) in
     let l : registerOf register .latest ≤ day = ltb-false day (registerOf register .latest) (N .1 .1 .1 .1 .1 .1 .1 .1 .1 .0) in
     let z : length (faults (input code day) file) ≡ 0 = eqb-true (length (faults (input code day) file)) 0 (not-false _ (N .1 .1 .1 .1 .1 .1 .1 .1 .1 .1 .0)) in
-    let k : length (entered (registerOf register) day (usesOf file) .ranges) ≤ 64 = ltb-false 64 (length (entered (registerOf register) day (usesOf file) .ranges)) (N .1 .1 .1 .1 .1 .1 .1 .1 .1 .1 .1 .1 .0) in
+    let k : length (entered (registerOf register) day (usesOf file) .ranges) ≤ mostOf version = ltb-false (mostOf version) (length (entered (registerOf register) day (usesOf file) .ranges)) (N .1 .1 .1 .1 .1 .1 .1 .1 .1 .1 .1 .1 .0) in
     stands-again (entered (registerOf register) day (usesOf file)) k
     (entered-formed (registerOf register) (is-formed register a) (usesOf file) (uses-fit 1 (body file)) day (fine-days (input code day) (slipsFrom 1 (body file)) (accepted (input code day) file z)) (real-day day r) l)
   where

@@ -15,11 +15,11 @@ use Rattle.register.specs.Register.{Register, sizeOf, registerBytes, countIn, r
 use Rattle.register.specs.Entering.{kept}
 use Rattle.register.specs.Spans.{Span, spansOf, froms, tos, rangesOf}
 use Rattle.register.proofs.RoundTrip.{length-register}
-use Rattle.entering.specs.declared.merging.Merged.{Merged}
+use Rattle.merging.specs.declared.Merged.{Merged}
 use Rattle.entering.specs.declared.entering.Entered.{Entered}
 use Rattle.entering.specs.declared.entering.Entered.the-variants.{Written, UsedAlready, TooMany, TooShort}
 use Rattle.entering.specs.Keys.{Kept}
-use Rattle.entering.specs.Merging.{paired, weave, hits, closed, Merges}
+use Rattle.merging.specs.Merging.{paired, weave, hits, closed, Merges}
 use Rattle.entering.specs.Jobs.{enteredNumber, writtenOr, targetAfter, sizeAfter, Answers}
 use Rattle.entering.specs.Steps.{closedUp, keysRefusals, keysRegister, EntersKeys}
 
@@ -133,12 +133,12 @@ module _ {ss : List Span} {keys : List ℕ} (code day : ℕ) (before : List ℕ)
     pub keys-some : 1 ≤ m .count
     keys-some = omega (arith, n, some-closed 0 0 (weave ss keys))
 
-    pub keys-many : 65 < m .count → EntersKeys ss keys code day before TooMany before
-    keys-many h = let f : ltb 65 (length (closedUp ss keys)) ≡ true = lt-ltb 65 (length (closedUp ss keys)) (omega (arith, n, h)) in refused TooMany (rw (e, f)) (omega arith) (λ old. refl)
+    pub keys-many : 1025 < m .count → EntersKeys ss keys code day before TooMany before
+    keys-many h = let f : ltb 1025 (length (closedUp ss keys)) ≡ true = lt-ltb 1025 (length (closedUp ss keys)) (omega (arith, n, h)) in refused TooMany (rw (e, f)) (omega arith) (λ old. refl)
 
-    module _ (h : m .count ≤ 65) where
-      f : ltb 65 (length (closedUp ss keys)) ≡ false
-      f = le-ltb 65 (length (closedUp ss keys)) (omega (arith, n, h))
+    module _ (h : m .count ≤ 1025) where
+      f : ltb 1025 (length (closedUp ss keys)) ≡ false
+      f = le-ltb 1025 (length (closedUp ss keys)) (omega (arith, n, h))
 
       pub keys-short : length before < 13 + 12 * (m .count - 1) → EntersKeys ss keys code day before TooShort before
       keys-short l =

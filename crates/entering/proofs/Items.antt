@@ -24,7 +24,7 @@ use Rattle.register.specs.Entering.{Use, usedAt, used, kept}
 use Rattle.register.specs.Spans.{Span, key, keysOf, spanOf, spansOf, froms, tos}
 use Rattle.register.proofs.Standing.{range, next-is}
 use Rattle.entering.specs.Keys.{keyAt, Gathered, Kept}
-use Rattle.entering.proofs.Turns.{drop-past, drop-more, stored}
+use Rattle.merging.proofs.Turns.{drop-past, drop-more, stored}
 
 -- ---- keys in order
 pub rises-more : (keys : List ℕ) (i last : ℕ) → i < length keys → last ≤ getD keys i 0 → (Rises last (drop i keys) → Rises 0 keys) → Rises (getD keys i 0) (drop (i + 1) keys) → Rises 0 keys

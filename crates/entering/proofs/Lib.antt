@@ -1,10 +1,7 @@
-pub mod Covers
-pub mod Members
-pub mod Clashes
-pub mod Turns
 pub mod Items
 pub mod Answers
 pub mod Uses
 pub mod Tests
 pub mod Unique
+pub mod Versions
 pub mod Again

@@ -20,8 +20,7 @@ use Rattle.listing.specs.declared.checking.Checked.the-variants.{Total, Refused
 use Rattle.listing.specs.declared.checking.Unchecked.{Unchecked}
 use Rattle.listing.proofs.Unique.{some-number}
 use Rattle.listing.specs.Checking.{checkRefusals, uncheckedNumber, checkedNumber, checkedOr, Totals}
-use Rattle.register.specs.Register.{isVersion, mostOf, countIn, sizeOf, headBytes, registerBytes, registerOf, hasLayout, wellFormed, isRegister}
-use Rattle.register.specs.Bytes.{bigAt}
+use Rattle.register.specs.Register.{isVersion, version, mostOf, versionIn, countIn, sizeOf, headBytes, registerBytes, registerOf, hasLayout, wellFormed, isRegister}
 use Rattle.register.specs.Entering.{used, entered}
 use Rattle.register.proofs.Sets.{both}
 use Rattle.register.proofs.RoundTrip.{length-register}
@@ -42,21 +41,22 @@ module _ (s : List ℕ) (e : isRegister s ≡ true) where
   pub is-formed : wellFormed (registerOf s) ≡ true
   is-formed = both (hasLayout s) (wellFormed (registerOf s)) e .1
 
-  rest₁ : (isVersion (bigAt 2 3 s) && (leb (countIn s) (mostOf (bigAt 2 3 s)) && eqb (length s) (sizeOf (countIn s)))) ≡ true
-  rest₁ = both (begins s (ascii "CRG")) (isVersion (bigAt 2 3 s) && (leb (countIn s) (mostOf (bigAt 2 3 s)) && eqb (length s) (sizeOf (countIn s)))) laid .1
+  rest₁ : (isVersion (versionIn s) && (leb (countIn s) (mostOf (versionIn s)) && eqb (length s) (sizeOf (countIn s)))) ≡ true
+  rest₁ = both (begins s (ascii "CRG")) (isVersion (versionIn s) && (leb (countIn s) (mostOf (versionIn s)) && eqb (length s) (sizeOf (countIn s)))) laid .1
 
-  rest₂ : (leb (countIn s) (mostOf (bigAt 2 3 s)) && eqb (length s) (sizeOf (countIn s))) ≡ true
-  rest₂ = both (isVersion (bigAt 2 3 s)) (leb (countIn s) (mostOf (bigAt 2 3 s)) && eqb (length s) (sizeOf (countIn s))) rest₁ .1
+  rest₂ : (leb (countIn s) (mostOf (versionIn s)) && eqb (length s) (sizeOf (countIn s))) ≡ true
+  rest₂ = both (isVersion (versionIn s)) (leb (countIn s) (mostOf (versionIn s)) && eqb (length s) (sizeOf (countIn s))) rest₁ .1
 
   pub register-size : length s ≡ 13 + 12 * countIn s
-  register-size = eqb-true (length s) (sizeOf (countIn s)) (both (leb (countIn s) (mostOf (bigAt 2 3 s))) (eqb (length s) (sizeOf (countIn s))) rest₂ .1)
+  register-size = eqb-true (length s) (sizeOf (countIn s)) (both (leb (countIn s) (mostOf (versionIn s))) (eqb (length s) (sizeOf (countIn s))) rest₂ .1)
 
-  pub register-few : countIn s ≤ 64
-  register-few = most (eqb (bigAt 2 3 s) 1) (leb-true (countIn s) (mostOf (bigAt 2 3 s)) (both (leb (countIn s) (mostOf (bigAt 2 3 s))) (eqb (length s) (sizeOf (countIn s))) rest₂ .0))
+  pub register-few : countIn s ≤ mostOf version
+  register-few = most (eqb (versionIn s) 1) (eqb (versionIn s) 2) (leb-true (countIn s) (mostOf (versionIn s)) (both (leb (countIn s) (mostOf (versionIn s))) (eqb (length s) (sizeOf (countIn s))) rest₂ .0))
     where
-      most : (x : Bool) → countIn s ≤ cond x 64 0 → countIn s ≤ 64
-      most true h = h
-      most false h = omega arith
+      most : (x y : Bool) → countIn s ≤ cond x 64 (cond y 1024 0) → countIn s ≤ 1024
+      most true y h = omega arith
+      most false true h = h
+      most false false h = omega arith
 
 -- ---- entering
 module _ (register file : List ℕ) (code day : ℕ) (before : List ℕ) where

@@ -1,4 +1,4 @@
--- Entering a file, and a new register (document 02, A2): the refusals in their order, the answers, and what the target holds after.
+-- Entering a file, and a new register (document 02, A2 and A9): the refusals in their order, the answers, and what the target holds after.
 use Prim.Native.Nat.{ℕ}
 use mathlib.Core.Path.{_≡_}
 use mathlib.Core.Bool.{cond, not}
@@ -22,7 +22,7 @@ use Rattle.entering.specs.declared.blanking.Blanked.the-variants.{Done, 
 abbrev pub usesOf : List ℕ → List Use
 usesOf file = used (slipsFrom 1 (body file))
 
--- '27, a number is used already, in the register or twice in the file; 28, more than 64 ranges would remain; 29, target too short'
+-- '27, a number is used already, in the register or twice in the file; 28, more than' 1,024 'ranges would remain; 29, target too short'
 abbrev pub usesRefusals : Register → List Use → ℕ → ℕ → List Refusal
 usesRefusals g us day room =
     (27 if clash (kept day (g .ranges)) us) ∷

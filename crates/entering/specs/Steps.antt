@@ -8,7 +8,7 @@ use Rattle.register.specs.Register.{Register, sizeOf}
 use Rattle.register.specs.Entering.{Use, entered}
 use Rattle.register.specs.Spans.{Span, froms, tos, rangesOf}
 use Rattle.entering.specs.declared.entering.Entered.{Entered}
-use Rattle.entering.specs.Merging.{weave, hits, closed}
+use Rattle.merging.specs.Merging.{weave, hits, closed}
 use Rattle.entering.specs.Jobs.{usesRefusals, Answers}
 
 -- of keys in order and the spans that stay: the first of the spans closed up is that of 0
@@ -18,7 +18,7 @@ module _ (ss : List Span) (keys : List ℕ) where
 
   abbrev pub keysRefusals : ℕ → List Refusal
   keysRefusals room =
-      (27 if hits 0 (weave ss keys)) ∷ (28 if ltb 65 (length closedUp)) ∷ (29 if ltb room (sizeOf (length closedUp - 1))) ∷ []
+      (27 if hits 0 (weave ss keys)) ∷ (28 if ltb 1025 (length closedUp)) ∷ (29 if ltb room (sizeOf (length closedUp - 1))) ∷ []
 
   abbrev pub keysRegister : ℕ → ℕ → Register
   keysRegister code day = record { code = code; latest = day; ranges = rangesOf (froms (drop 1 closedUp)) (tos (drop 1 closedUp)) }

@@ -1,6 +1,5 @@
 // Entering a file in a register.
 use crate::gathering;
-use crate::merging;
 use listing::checking;
 use listing::checking::Checked;
 use listing::checking::Unchecked;
@@ -37,17 +36,17 @@ fn enter_keys(register: &[u8], keys: &[u64], code: u32, day: u32, target: &mut [
     ensures { λ r. ⌜ EntersKeys (spansOf (kept day (registerOf (now (register .entry)) .ranges))) (now (keys .entry)) code day (now (target .entry)) r (now (target .exit)) ⌝ }
 {
     let n = bytes::read(register, 11, 2) as usize;
-    let mut starts = [0u64; 64];
-    let mut ends = [0u64; 64];
+    let mut starts = [0u64; 1024];
+    let mut ends = [0u64; 1024];
     let k = gathering::keep(register, day, n, &mut starts, &mut ends);
-    let mut froms = [0u64; 65];
-    let mut tos = [0u64; 65];
+    let mut froms = [0u64; 1025];
+    let mut tos = [0u64; 1025];
     let m = merging::merge(keys, &starts[..k], &ends[..k], &mut froms, &mut tos);
     if m.clash {
         return Entered::UsedAlready;
     }
     let count = m.count;
-    if 65 < count {
+    if 1025 < count {
         return Entered::TooMany;
     }
     if target.len() < 13 + 12 * (count - 1) {

@@ -1,4 +1,4 @@
--- The other way round: the bytes of a register, read and written again, are the same bytes.
+-- The other way round: the bytes of a register, read and written again in its version, are the same bytes.
 use mathlib.Core.Path.{_≡_, refl, sym, ap, _∙_}
 use mathlib.Core.Bool.{true, _&&_, false≢true}
 use mathlib.Core.List.{List, [], _∷_, _++_, append-assoc}
@@ -11,7 +11,7 @@ use borrow.Author.Tests.{eqb-true}
 use Rattle.laws.specs.Ascii.{ascii}
 use Rattle.text.specs.Strings.{begins}
 use Rattle.register.specs.Bytes.{big, bigAfter, bigAt, Small}
-use Rattle.register.specs.Register.{rangesBytes, registerBytes, rangesIn, countIn, registerOf, mostOf, isVersion, sizeOf, hasLayout, wellFormed, isRegister}
+use Rattle.register.specs.Register.{rangesBytes, bytesIn, rangesIn, countIn, registerOf, mostOf, isVersion, versionIn, sizeOf, hasLayout, wellFormed, isRegister}
 use Rattle.register.proofs.Widths.{written-read}
 use Rattle.register.proofs.Sets.{both}
 
@@ -77,15 +77,15 @@ begins-front (a ∷ s) (b ∷ bs) e =
     let t = begins-front s bs (p .1) in
     λ i. q i ∷ t i
 
-pub written-back : (s : List ℕ) → Small s → isRegister s ≡ true → registerBytes (registerOf s) ≡ s
+pub written-back : (s : List ℕ) → Small s → isRegister s ≡ true → bytesIn (versionIn s) (registerOf s) ≡ s
 written-back s S e =
     let l = both (hasLayout s) (wellFormed (registerOf s)) e .0 in
-    let a = both (begins s (ascii "CRG")) (isVersion (bigAt 2 3 s) && (leb (countIn s) (mostOf (bigAt 2 3 s)) && eqb (length s) (sizeOf (countIn s)))) l in
-    let b = both (isVersion (bigAt 2 3 s)) (leb (countIn s) (mostOf (bigAt 2 3 s)) && eqb (length s) (sizeOf (countIn s))) (a .1) in
-    let c = both (leb (countIn s) (mostOf (bigAt 2 3 s))) (eqb (length s) (sizeOf (countIn s))) (b .1) in
+    let a = both (begins s (ascii "CRG")) (isVersion (versionIn s) && (leb (countIn s) (mostOf (versionIn s)) && eqb (length s) (sizeOf (countIn s)))) l in
+    let b = both (isVersion (versionIn s)) (leb (countIn s) (mostOf (versionIn s)) && eqb (length s) (sizeOf (countIn s))) (a .1) in
+    let c = both (leb (countIn s) (mostOf (versionIn s))) (eqb (length s) (sizeOf (countIn s))) (b .1) in
     let z : length s ≡ 13 + 12 * countIn s = eqb-true (length s) (sizeOf (countIn s)) (c .1) in
     let m : ascii "CRG" ≡ take 3 (drop 0 s) = begins-front s (ascii "CRG") (a .0) in
-    let v : big 2 1 ≡ take 2 (drop 3 s) = ap (big 2) (sym (eqb-true (bigAt 2 3 s) 1 (b .0))) ∙ again s S 2 3 (omega arith) in
+    let v = again s S 2 3 (omega arith) in
     let k = again s S 2 5 (omega arith) in
     let t = again s S 4 7 (omega arith) in
     let n : big 2 (length (rangesIn (countIn s) (drop 13 s))) ≡ take 2 (drop 11 s) = ap (big 2) (length-ranges (countIn s) (drop 13 s)) ∙ again s S 2 11 (omega arith) in

@@ -1,4 +1,4 @@
--- A register that was written is read back, and what is written of a well-formed one is a register.
+-- A register in a version is read back, and in a version that has room for its ranges the bytes of a well-formed one are a register.
 use mathlib.Core.Path.{_≡_, refl, sym, ap, _∙_, subst}
 use mathlib.Core.Bool.{Bool, true, false, _&&_}
 use mathlib.Core.List.{List, [], _∷_, _++_, append-assoc}
@@ -11,7 +11,7 @@ use borrow.Author.Tests.{le-leb, eq-eqb}
 use Rattle.laws.specs.Ascii.{ascii}
 use Rattle.text.specs.Strings.{begins}
 use Rattle.register.specs.Bytes.{big, bigAfter, bigAt}
-use Rattle.register.specs.Register.{Range, Register, version, headBytes, rangeBytes, rangesBytes, registerBytes, rangesIn, countIn, registerOf, mostOf, isVersion, sizeOf, hasLayout, wellFormed, isRegister}
+use Rattle.register.specs.Register.{Range, Register, headIn, rangeBytes, rangesBytes, bytesIn, registerBytes, version, rangesIn, countIn, registerOf, mostOf, isVersion, versionIn, sizeOf, hasLayout, wellFormed, isRegister}
 use Rattle.register.proofs.Widths.{length-big, read-at}
 
 -- every number fits its bytes
@@ -119,36 +119,39 @@ module _ (m rest : List ℕ) (v c l n : ℕ) (three : length m ≡ 3) where
   pub read-rest : drop 13 G ≡ rest
   read-rest = drop-at H rest 13 thirteen
 
--- ---- the whole
-pub length-register : (g : Register) → length (registerBytes g) ≡ sizeOf (length (g .ranges))
-length-register g =
-    length-append (headBytes (g .code) (g .latest) (length (g .ranges))) (rangesBytes (g .ranges))
-    ∙ (let a = thirteen (ascii "CRG") [] version (g .code) (g .latest) (length (g .ranges)) refl in let b = length-bytes (g .ranges) in omega arith)
+-- ---- the whole, in any version
+length-in : (v : ℕ) (g : Register) → length (bytesIn v g) ≡ sizeOf (length (g .ranges))
+length-in v g =
+    length-append (headIn v (g .code) (g .latest) (length (g .ranges))) (rangesBytes (g .ranges))
+    ∙ (let a = thirteen (ascii "CRG") [] v (g .code) (g .latest) (length (g .ranges)) refl in let b = length-bytes (g .ranges) in omega arith)
 
-module _ (g : Register) (N : Narrow g) where
+pub length-register : (g : Register) → length (registerBytes g) ≡ sizeOf (length (g .ranges))
+length-register g = length-in version g
+
+module _ (v : ℕ) (g : Register) (N : Narrow g) where
   abbrev mark : List ℕ
   mark = ascii "CRG"
 
-  counted : countIn (registerBytes g) ≡ length (g .ranges)
-  counted = read-count mark (rangesBytes (g .ranges)) version (g .code) (g .latest) (length (g .ranges)) refl (N .count)
+  counted : countIn (bytesIn v g) ≡ length (g .ranges)
+  counted = read-count mark (rangesBytes (g .ranges)) v (g .code) (g .latest) (length (g .ranges)) refl (N .count)
 
   -- reading what was written
-  pub read-register : registerOf (registerBytes g) ≡ g
+  pub read-register : registerOf (bytesIn v g) ≡ g
   read-register =
-      let c = read-code mark (rangesBytes (g .ranges)) version (g .code) (g .latest) (length (g .ranges)) refl (N .code) in
-      let l = read-latest mark (rangesBytes (g .ranges)) version (g .code) (g .latest) (length (g .ranges)) refl (N .latest) in
-      let b = read-rest mark (rangesBytes (g .ranges)) version (g .code) (g .latest) (length (g .ranges)) refl in
-      let r : rangesIn (countIn (registerBytes g)) (drop 13 (registerBytes g)) ≡ g .ranges = (λ i. rangesIn (counted i) (b i)) ∙ read-ranges (g .ranges) (N .ranges) in
+      let c = read-code mark (rangesBytes (g .ranges)) v (g .code) (g .latest) (length (g .ranges)) refl (N .code) in
+      let l = read-latest mark (rangesBytes (g .ranges)) v (g .code) (g .latest) (length (g .ranges)) refl (N .latest) in
+      let b = read-rest mark (rangesBytes (g .ranges)) v (g .code) (g .latest) (length (g .ranges)) refl in
+      let r : rangesIn (countIn (bytesIn v g)) (drop 13 (bytesIn v g)) ≡ g .ranges = (λ i. rangesIn (counted i) (b i)) ∙ read-ranges (g .ranges) (N .ranges) in
       λ i. record { code = c i; latest = l i; ranges = r i }
 
-  marked : begins (registerBytes g) mark ≡ true
+  marked : begins (bytesIn v g) mark ≡ true
   unfolding begins
   marked = refl
 
   -- what is written of a well-formed register is one
-  pub written-stands : length (g .ranges) ≤ 64 → wellFormed g ≡ true → isRegister (registerBytes g) ≡ true
-  written-stands h w =
-      let v : bigAt 2 3 (registerBytes g) ≡ 1 = read-version mark (rangesBytes (g .ranges)) version (g .code) (g .latest) (length (g .ranges)) refl (omega arith) in
-      let n : eqb (length (registerBytes g)) (sizeOf (countIn (registerBytes g))) ≡ true = eq-eqb _ _ (length-register g ∙ ap sizeOf (sym counted)) in
-      let m : leb (countIn (registerBytes g)) (mostOf (bigAt 2 3 (registerBytes g))) ≡ true = (λ i. leb (counted i) (mostOf (v i))) ∙ le-leb (length (g .ranges)) 64 h in
-      (λ i. (marked i && ((ap isVersion v) i && (m i && n i))) && (ap wellFormed read-register ∙ w) i)
+  pub written-stands : v < 256 ^ 2 → isVersion v ≡ true → length (g .ranges) ≤ mostOf v → wellFormed g ≡ true → isRegister (bytesIn v g) ≡ true
+  written-stands small known h w =
+      let x : versionIn (bytesIn v g) ≡ v = read-version mark (rangesBytes (g .ranges)) v (g .code) (g .latest) (length (g .ranges)) refl small in
+      let n : eqb (length (bytesIn v g)) (sizeOf (countIn (bytesIn v g))) ≡ true = eq-eqb _ _ (length-in v g ∙ ap sizeOf (sym counted)) in
+      let m : leb (countIn (bytesIn v g)) (mostOf (versionIn (bytesIn v g))) ≡ true = (λ i. leb (counted i) (mostOf (x i))) ∙ le-leb (length (g .ranges)) (mostOf v) h in
+      (λ i. (marked i && ((ap isVersion x ∙ known) i && (m i && n i))) && (ap wellFormed read-register ∙ w) i)

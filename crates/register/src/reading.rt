@@ -18,13 +18,16 @@ fn most_of(version: u32) -> u32
     if version == 1 {
         return 64;
     }
+    if version == 2 {
+        return 1024;
+    }
     0
 }
 
 fn is_version(version: u32) -> bool
     ensures { λ r. ⌜ r ≡ isVersion version ⌝ }
 {
-    version == 1
+    (version == 1) | (version == 2)
 }
 
 fn has_layout(s: &[u8]) -> bool

@@ -1,7 +1,10 @@
 // Runs worked files and registers through entering, and prints the number answered and the bytes written, for the gate to hold
-// against `stdout`. What is right was reasoned by hand from document 02, A2.
+// against `stdout`. What is right was reasoned by hand from document 02, A2 and A9.
 use entering::blanking;
 use entering::entering as job;
+use register::writing;
+ghost use Prim.Native.Nat.{_+_, _*_, _≤_};
+ghost use lib.ListN.{length};
 
 fn number(name: &[u8], k: u32) {
     io::write_all(1, name);
@@ -37,11 +40,11 @@ fn shown(name: &[u8], register: &[u8], file: &[u8], code: u32, day: u32, target:
 }
 
 fn enter(name: &[u8], register: &[u8], file: &[u8], code: u32, day: u32) {
-    let mut target = [0u8; 781];
+    let mut target = [0u8; 49];
     shown(name, register, file, code, day, &mut target);
 }
 
-// Numbers on a new register, and next to what it has.
+// Numbers on a new register, and next to what it has: of version 1, and once of version 2.
 fn joining() {
     let new = b"CRG\0\x01\x01,\0\0\0\0\0\0";
     enter(
@@ -73,6 +76,13 @@ fn joining() {
         20240304,
     );
     enter(
+        b"5 between two ranges of version 2",
+        b"CRG\0\x02\x01,\x014\xD7\xB0\0\x02\x014\xD7\xB0\0\0\0\x01\0\0\0\x04\x014\xD7\xB0\0\0\0\x06\0\0\0\x09",
+        b"HD:11 20240304 0000300 0000005 0000710 0000000 0000000\r\nKC:1 20240304 CZK\r\nHD:51 20240304 0000300 0000000 0000999 0000000 0000000\r\nIN:5 5\r\nS1:1 1\r\n\x1A",
+        300,
+        20240304,
+    );
+    enter(
         b"1 and 2 before a range",
         b"CRG\0\x01\x01,\x014\xD7\xB0\0\x01\x014\xD7\xB0\0\0\0\x03\0\0\0\x09",
         b"HD:11 20240304 0000300 0000001 0000710 0000000 0000000\r\nKC:1 20240304 CZK\r\nHD:11 20240304 0000300 0000002 0000710 0000000 0000000\r\nKC:1 20240304 CZK\r\nHD:51 20240304 0000300 0000000 0000999 0000000 0000000\r\nIN:1 2\r\nS1:2 2\r\n\x1A",
@@ -84,14 +94,14 @@ fn joining() {
 fn used_already() {
     enter(
         b"the same file again",
-        b"CRG\0\x01\x01,\x014\xD7\xB0\0\x01\x014\xD7\xB0\0\0\0\x01\0\0\0\x02",
+        b"CRG\0\x02\x01,\x014\xD7\xB0\0\x01\x014\xD7\xB0\0\0\0\x01\0\0\0\x02",
         b"HD:11 20240304 0000300 0000001 0000710 0000000 0000000\r\nKC:1 20240304 CZK\r\nHD:11 20240304 0000300 0000002 0000710 0000000 0000000\r\nKC:1 20240304 CZK\r\nHD:51 20240304 0000300 0000000 0000999 0000000 0000000\r\nIN:1 2\r\nS1:2 2\r\n\x1A",
         300,
         20240304,
     );
     enter(
         b"2 closes a block and opens the next",
-        b"CRG\0\x01\x01,\0\0\0\0\0\0",
+        b"CRG\0\x02\x01,\0\0\0\0\0\0",
         b"HD:11 20240304 0000300 0000001 0000710 0000000 0000000\r\nKC:1 20240304 CZK\r\nHD:51 20240304 0000300 0000002 0000999 0000000 0000000\r\nIN:1 1\r\nS1:1 1\r\nHD:11 20240304 0000300 0000002 0000710 0000000 0000000\r\nKC:1 20240304 CZK\r\nHD:51 20240304 0000300 0000000 0000999 0000000 0000000\r\nIN:2 2\r\nS1:1 1\r\n\x1A",
         300,
         20240304,
@@ -104,55 +114,116 @@ fn days_of_ranges() {
         b"HD:11 20240304 0000300 0000001 0000710 0000000 0000000\r\nKC:1 20240304 CZK\r\nHD:11 20240304 0000300 0000002 0000710 0000000 0000000\r\nKC:1 20240304 CZK\r\nHD:51 20240304 0000300 0000000 0000999 0000000 0000000\r\nIN:1 2\r\nS1:2 2\r\n\x1A";
     enter(
         b"the eleventh day before",
-        b"CRG\0\x01\x01,\x014\xD7\xAF\0\x02\x014\xD7^\0\0\0\x01\0\0\0\x05\x014\xD7_\0\0\0\x01\0\0\0\x05",
+        b"CRG\0\x02\x01,\x014\xD7\xAF\0\x02\x014\xD7^\0\0\0\x01\0\0\0\x05\x014\xD7_\0\0\0\x01\0\0\0\x05",
         one_two,
         300,
         20240304,
     );
     enter(
         b"all numbers of the day before",
-        b"CRG\0\x01\x01,\x014\xD7\xB0\0\x01\x014\xD7\xAF\0\0\0\x01\0\x98\x96\x7F",
+        b"CRG\0\x02\x01,\x014\xD7\xB0\0\x01\x014\xD7\xAF\0\0\0\x01\0\x98\x96\x7F",
         one_two,
         300,
         20240304,
     );
 }
 
-// A register of 64 ranges.
-fn full() {
-    let full =
-        b"CRG\0\x01\x01,\x014\xD7\xB0\0@\x014\xD7\xB0\0\0\0\x01\0\0\0\x01\x014\xD7\xB0\0\0\0\x03\0\0\0\x03\x014\xD7\xB0\0\0\0\x05\0\0\0\x05\x014\xD7\xB0\0\0\0\x07\0\0\0\x07\x014\xD7\xB0\0\0\0\x09\0\0\0\x09\x014\xD7\xB0\0\0\0\x0B\0\0\0\x0B\x014\xD7\xB0\0\0\0\x0D\0\0\0\x0D\x014\xD7\xB0\0\0\0\x0F\0\0\0\x0F\x014\xD7\xB0\0\0\0\x11\0\0\0\x11\x014\xD7\xB0\0\0\0\x13\0\0\0\x13\x014\xD7\xB0\0\0\0\x15\0\0\0\x15\x014\xD7\xB0\0\0\0\x17\0\0\0\x17\x014\xD7\xB0\0\0\0\x19\0\0\0\x19\x014\xD7\xB0\0\0\0\x1B\0\0\0\x1B\x014\xD7\xB0\0\0\0\x1D\0\0\0\x1D\x014\xD7\xB0\0\0\0\x1F\0\0\0\x1F\x014\xD7\xB0\0\0\0!\0\0\0!\x014\xD7\xB0\0\0\0#\0\0\0#\x014\xD7\xB0\0\0\0%\0\0\0%\x014\xD7\xB0\0\0\0'\0\0\0'\x014\xD7\xB0\0\0\0)\0\0\0)\x014\xD7\xB0\0\0\0+\0\0\0+\x014\xD7\xB0\0\0\0-\0\0\0-\x014\xD7\xB0\0\0\0/\0\0\0/\x014\xD7\xB0\0\0\01\0\0\01\x014\xD7\xB0\0\0\03\0\0\03\x014\xD7\xB0\0\0\05\0\0\05\x014\xD7\xB0\0\0\07\0\0\07\x014\xD7\xB0\0\0\09\0\0\09\x014\xD7\xB0\0\0\0;\0\0\0;\x014\xD7\xB0\0\0\0=\0\0\0=\x014\xD7\xB0\0\0\0?\0\0\0?\x014\xD7\xB0\0\0\0A\0\0\0A\x014\xD7\xB0\0\0\0C\0\0\0C\x014\xD7\xB0\0\0\0E\0\0\0E\x014\xD7\xB0\0\0\0G\0\0\0G\x014\xD7\xB0\0\0\0I\0\0\0I\x014\xD7\xB0\0\0\0K\0\0\0K\x014\xD7\xB0\0\0\0M\0\0\0M\x014\xD7\xB0\0\0\0O\0\0\0O\x014\xD7\xB0\0\0\0Q\0\0\0Q\x014\xD7\xB0\0\0\0S\0\0\0S\x014\xD7\xB0\0\0\0U\0\0\0U\x014\xD7\xB0\0\0\0W\0\0\0W\x014\xD7\xB0\0\0\0Y\0\0\0Y\x014\xD7\xB0\0\0\0[\0\0\0[\x014\xD7\xB0\0\0\0]\0\0\0]\x014\xD7\xB0\0\0\0_\0\0\0_\x014\xD7\xB0\0\0\0a\0\0\0a\x014\xD7\xB0\0\0\0c\0\0\0c\x014\xD7\xB0\0\0\0e\0\0\0e\x014\xD7\xB0\0\0\0g\0\0\0g\x014\xD7\xB0\0\0\0i\0\0\0i\x014\xD7\xB0\0\0\0k\0\0\0k\x014\xD7\xB0\0\0\0m\0\0\0m\x014\xD7\xB0\0\0\0o\0\0\0o\x014\xD7\xB0\0\0\0q\0\0\0q\x014\xD7\xB0\0\0\0s\0\0\0s\x014\xD7\xB0\0\0\0u\0\0\0u\x014\xD7\xB0\0\0\0w\0\0\0w\x014\xD7\xB0\0\0\0y\0\0\0y\x014\xD7\xB0\0\0\0{\0\0\0{\x014\xD7\xB0\0\0\0}\0\0\0}\x014\xD7\xB0\0\0\0\x7F\0\0\0\x7F";
-    enter(
-        b"a range more than 64",
-        full,
-        b"HD:11 20240304 0000300 0000200 0000710 0000000 0000000\r\nKC:1 20240304 CZK\r\nHD:51 20240304 0000300 0000000 0000999 0000000 0000000\r\nIN:200 200\r\nS1:1 1\r\n\x1A",
-        300,
-        20240304,
+// The keys of the odd numbers of a day.
+fn odd(keys: &mut [u64])
+    requires { ⌜ length (now keys) ≤ 1025 ⌝ }
+{
+    let mut i = 0;
+    while i < keys.len() {
+        keys[i] = 202403040000001 + 2 * (i as u64);
+        i += 1;
+    }
+}
+
+// The length of what was written, its head and its last range.
+fn print_ends(s: &[u8]) {
+    io::print_decimal(1, s.len() as u64);
+    io::write_all(1, b" bytes\n");
+    if 13 <= s.len() {
+        print_bytes(&s[..13]);
+        print_bytes(&s[s.len() - 12..]);
+    }
+}
+
+fn enter_ends(name: &[u8], register: &[u8], file: &[u8], target: &mut [u8]) {
+    let r = job::enter(register, file, 300, 20240304, target);
+    number(name, job::number_of(r));
+    let n = job::written_or(r, 0);
+    if n <= target.len() {
+        print_ends(&target[..n]);
+    }
+}
+
+// A register with a range for each key, in a version.
+fn lay(name: &[u8], version: u8, keys: &[u64], file: &[u8], register: &mut [u8])
+    requires { ⌜ 13 + 12 * length (now keys) ≤ length (now register) ⌝ }
+{
+    let n = writing::put_register(register, 300, 20240304, keys, keys);
+    register[4] = version;
+    let mut target = [0u8; 12301];
+    enter_ends(name, &register[..n], file, &mut target);
+}
+
+fn lay_first(name: &[u8], version: u8, count: usize, keys: &[u64], file: &[u8])
+    requires { ⌜ length (now keys) ≤ 1025 ⌝ }
+{
+    let mut register = [0u8; 12313];
+    if count <= keys.len() {
+        lay(name, version, &keys[..count], file, &mut register);
+    }
+}
+
+// A register of the first odd numbers, a range each.
+fn counted(name: &[u8], version: u8, count: usize, file: &[u8]) {
+    let mut keys = [0u64; 1025];
+    odd(&mut keys);
+    lay_first(name, version, count, &keys, file);
+}
+
+// 64 ranges at most in version 1, 1,024 in version 2, which is written.
+fn versions() {
+    let n128 =
+        b"HD:11 20240304 0000300 0000128 0000710 0000000 0000000\r\nKC:1 20240304 CZK\r\nHD:51 20240304 0000300 0000000 0000999 0000000 0000000\r\nIN:128 128\r\nS1:1 1\r\n\x1A";
+    let n2048 =
+        b"HD:11 20240304 0000300 0002048 0000710 0000000 0000000\r\nKC:1 20240304 CZK\r\nHD:51 20240304 0000300 0000000 0000999 0000000 0000000\r\nIN:2048 2048\r\nS1:1 1\r\n\x1A";
+    let n3000 =
+        b"HD:11 20240304 0000300 0003000 0000710 0000000 0000000\r\nKC:1 20240304 CZK\r\nHD:51 20240304 0000300 0000000 0000999 0000000 0000000\r\nIN:3000 3000\r\nS1:1 1\r\n\x1A";
+    counted(b"version 1, one that touches the last of 64", 1, 64, n128);
+    counted(b"version 1, a range more than 64", 1, 64, n3000);
+    counted(b"version 1, 65 ranges", 1, 65, n3000);
+    counted(b"version 2, 65 ranges", 2, 65, n3000);
+    counted(b"version 2, one that makes 1024", 2, 1023, n3000);
+    counted(
+        b"version 2, one that touches the last of 1024",
+        2,
+        1024,
+        n2048,
     );
-    enter(
-        b"one that touches the last of 64",
-        full,
-        b"HD:11 20240304 0000300 0000128 0000710 0000000 0000000\r\nKC:1 20240304 CZK\r\nHD:51 20240304 0000300 0000000 0000999 0000000 0000000\r\nIN:128 128\r\nS1:1 1\r\n\x1A",
-        300,
-        20240304,
-    );
+    counted(b"version 2, a range more than 1024", 2, 1024, n3000);
+    counted(b"version 2, 1025 ranges", 2, 1025, n2048);
+    counted(b"version 3", 3, 1, n3000);
+    counted(b"version 0", 0, 1, n3000);
 }
 
 // Checking's own refusals, and those of the register's head and of the file.
 fn refused() {
-    let new = b"CRG\0\x01\x01,\0\0\0\0\0\0";
+    let new = b"CRG\0\x02\x01,\0\0\0\0\0\0";
     let one_two =
         b"HD:11 20240304 0000300 0000001 0000710 0000000 0000000\r\nKC:1 20240304 CZK\r\nHD:11 20240304 0000300 0000002 0000710 0000000 0000000\r\nKC:1 20240304 CZK\r\nHD:51 20240304 0000300 0000000 0000999 0000000 0000000\r\nIN:1 2\r\nS1:2 2\r\n\x1A";
     enter(
         b"latest day later",
-        b"CRG\0\x01\x01,\x014\xD7\xB1\0\0",
+        b"CRG\0\x02\x01,\x014\xD7\xB1\0\0",
         one_two,
         300,
         20240304,
     );
     enter(
         b"another code, latest day later",
-        b"CRG\0\x01\x01-\x014\xD7\xB1\0\0",
+        b"CRG\0\x02\x01-\x014\xD7\xB1\0\0",
         one_two,
         300,
         20240304,
@@ -172,69 +243,50 @@ fn not_registers() {
     let one_two =
         b"HD:11 20240304 0000300 0000001 0000710 0000000 0000000\r\nKC:1 20240304 CZK\r\nHD:11 20240304 0000300 0000002 0000710 0000000 0000000\r\nKC:1 20240304 CZK\r\nHD:51 20240304 0000300 0000000 0000999 0000000 0000000\r\nIN:1 2\r\nS1:2 2\r\n\x1A";
     enter(
-        b"version 2",
-        b"CRG\0\x02\x01,\0\0\0\0\0\0",
-        one_two,
-        300,
-        20240304,
-    );
-    enter(
         b"ranges that touch",
-        b"CRG\0\x01\x01,\x014\xD7\xB0\0\x02\x014\xD7\xB0\0\0\0\x01\0\0\0\x02\x014\xD7\xB0\0\0\0\x03\0\0\0\x04",
+        b"CRG\0\x02\x01,\x014\xD7\xB0\0\x02\x014\xD7\xB0\0\0\0\x01\0\0\0\x02\x014\xD7\xB0\0\0\0\x03\0\0\0\x04",
         one_two,
         300,
         20240304,
     );
     enter(
         b"a day that is not real",
-        b"CRG\0\x01\x01,\x014\xD7\xB0\0\x01\x014\xB0U\0\0\0\x01\0\0\0\x02",
+        b"CRG\0\x02\x01,\x014\xD7\xB0\0\x01\x014\xB0U\0\0\0\x01\0\0\0\x02",
         one_two,
         300,
         20240304,
     );
     enter(
         b"one byte more",
-        b"CRG\0\x01\x01,\0\0\0\0\0\0\0",
+        b"CRG\0\x02\x01,\0\0\0\0\0\0\0",
         one_two,
         300,
         20240304,
     );
     enter(
         b"one byte less",
-        b"CRG\0\x01\x01,\0\0\0\0\0",
+        b"CRG\0\x02\x01,\0\0\0\0\0",
         one_two,
         300,
         20240304,
     );
     enter(
         b"code 10000",
-        b"CRG\0\x01'\x10\0\0\0\0\0\0",
+        b"CRG\0\x02'\x10\0\0\0\0\0\0",
         one_two,
         300,
         20240304,
     );
     enter(
         b"number 10000000",
-        b"CRG\0\x01\x01,\x014\xD7\xB0\0\x01\x014\xD7\xB0\0\0\0\x01\0\x98\x96\x80",
+        b"CRG\0\x02\x01,\x014\xD7\xB0\0\x01\x014\xD7\xB0\0\0\0\x01\0\x98\x96\x80",
         one_two,
         300,
         20240304,
     );
     enter(
         b"a range with latest day 0",
-        b"CRG\0\x01\x01,\0\0\0\0\0\x01\x014\xD7\xB0\0\0\0\x01\0\0\0\x01",
-        one_two,
-        300,
-        20240304,
-    );
-}
-
-fn too_long() {
-    let one_two =
-        b"HD:11 20240304 0000300 0000001 0000710 0000000 0000000\r\nKC:1 20240304 CZK\r\nHD:11 20240304 0000300 0000002 0000710 0000000 0000000\r\nKC:1 20240304 CZK\r\nHD:51 20240304 0000300 0000000 0000999 0000000 0000000\r\nIN:1 2\r\nS1:2 2\r\n\x1A";
-    enter(
-        b"65 ranges",
-        b"CRG\0\x01\x01,\x014\xD7\xB0\0A\x014\xD7\xB0\0\0\0\x01\0\0\0\x01\x014\xD7\xB0\0\0\0\x03\0\0\0\x03\x014\xD7\xB0\0\0\0\x05\0\0\0\x05\x014\xD7\xB0\0\0\0\x07\0\0\0\x07\x014\xD7\xB0\0\0\0\x09\0\0\0\x09\x014\xD7\xB0\0\0\0\x0B\0\0\0\x0B\x014\xD7\xB0\0\0\0\x0D\0\0\0\x0D\x014\xD7\xB0\0\0\0\x0F\0\0\0\x0F\x014\xD7\xB0\0\0\0\x11\0\0\0\x11\x014\xD7\xB0\0\0\0\x13\0\0\0\x13\x014\xD7\xB0\0\0\0\x15\0\0\0\x15\x014\xD7\xB0\0\0\0\x17\0\0\0\x17\x014\xD7\xB0\0\0\0\x19\0\0\0\x19\x014\xD7\xB0\0\0\0\x1B\0\0\0\x1B\x014\xD7\xB0\0\0\0\x1D\0\0\0\x1D\x014\xD7\xB0\0\0\0\x1F\0\0\0\x1F\x014\xD7\xB0\0\0\0!\0\0\0!\x014\xD7\xB0\0\0\0#\0\0\0#\x014\xD7\xB0\0\0\0%\0\0\0%\x014\xD7\xB0\0\0\0'\0\0\0'\x014\xD7\xB0\0\0\0)\0\0\0)\x014\xD7\xB0\0\0\0+\0\0\0+\x014\xD7\xB0\0\0\0-\0\0\0-\x014\xD7\xB0\0\0\0/\0\0\0/\x014\xD7\xB0\0\0\01\0\0\01\x014\xD7\xB0\0\0\03\0\0\03\x014\xD7\xB0\0\0\05\0\0\05\x014\xD7\xB0\0\0\07\0\0\07\x014\xD7\xB0\0\0\09\0\0\09\x014\xD7\xB0\0\0\0;\0\0\0;\x014\xD7\xB0\0\0\0=\0\0\0=\x014\xD7\xB0\0\0\0?\0\0\0?\x014\xD7\xB0\0\0\0A\0\0\0A\x014\xD7\xB0\0\0\0C\0\0\0C\x014\xD7\xB0\0\0\0E\0\0\0E\x014\xD7\xB0\0\0\0G\0\0\0G\x014\xD7\xB0\0\0\0I\0\0\0I\x014\xD7\xB0\0\0\0K\0\0\0K\x014\xD7\xB0\0\0\0M\0\0\0M\x014\xD7\xB0\0\0\0O\0\0\0O\x014\xD7\xB0\0\0\0Q\0\0\0Q\x014\xD7\xB0\0\0\0S\0\0\0S\x014\xD7\xB0\0\0\0U\0\0\0U\x014\xD7\xB0\0\0\0W\0\0\0W\x014\xD7\xB0\0\0\0Y\0\0\0Y\x014\xD7\xB0\0\0\0[\0\0\0[\x014\xD7\xB0\0\0\0]\0\0\0]\x014\xD7\xB0\0\0\0_\0\0\0_\x014\xD7\xB0\0\0\0a\0\0\0a\x014\xD7\xB0\0\0\0c\0\0\0c\x014\xD7\xB0\0\0\0e\0\0\0e\x014\xD7\xB0\0\0\0g\0\0\0g\x014\xD7\xB0\0\0\0i\0\0\0i\x014\xD7\xB0\0\0\0k\0\0\0k\x014\xD7\xB0\0\0\0m\0\0\0m\x014\xD7\xB0\0\0\0o\0\0\0o\x014\xD7\xB0\0\0\0q\0\0\0q\x014\xD7\xB0\0\0\0s\0\0\0s\x014\xD7\xB0\0\0\0u\0\0\0u\x014\xD7\xB0\0\0\0w\0\0\0w\x014\xD7\xB0\0\0\0y\0\0\0y\x014\xD7\xB0\0\0\0{\0\0\0{\x014\xD7\xB0\0\0\0}\0\0\0}\x014\xD7\xB0\0\0\0\x7F\0\0\0\x7F\x014\xD7\xB0\0\0\0\x81\0\0\0\x81",
+        b"CRG\0\x02\x01,\0\0\0\0\0\x01\x014\xD7\xB0\0\0\0\x01\0\0\0\x01",
         one_two,
         300,
         20240304,
@@ -243,7 +295,7 @@ fn too_long() {
 
 // A register of 25 bytes in targets of 24 and 25.
 fn targets() {
-    let new = b"CRG\0\x01\x01,\0\0\0\0\0\0";
+    let new = b"CRG\0\x02\x01,\0\0\0\0\0\0";
     let one_two =
         b"HD:11 20240304 0000300 0000001 0000710 0000000 0000000\r\nKC:1 20240304 CZK\r\nHD:11 20240304 0000300 0000002 0000710 0000000 0000000\r\nKC:1 20240304 CZK\r\nHD:51 20240304 0000300 0000000 0000999 0000000 0000000\r\nIN:1 2\r\nS1:2 2\r\n\x1A";
     let mut short = [0xEEu8; 24];
@@ -289,10 +341,9 @@ fn main() {
     joining();
     used_already();
     days_of_ranges();
-    full();
+    versions();
     refused();
     not_registers();
-    too_long();
     targets();
     new_registers();
 }

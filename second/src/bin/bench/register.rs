@@ -3,7 +3,8 @@
 
 use std::hint::black_box;
 
-use second::register;
+use second::register::{self, Range, Register};
+use second::samples::calendar::shift;
 use second::samples::dice::Dice;
 use second::samples::draft::Draft;
 use second::samples::{Job, Sample, large};
@@ -20,6 +21,7 @@ pub fn entering(rounds: u32) -> u32 {
     let missed = against_others(large.job(), rounds);
     let jobs = [small.job(), large.job()];
     missed
+        + full_register(large.job(), rounds)
         + ten_times("growth of entering", jobs, rounds, &library_enter)
         + worst_orders(large.job(), rounds)
 }
@@ -33,17 +35,54 @@ fn one_block(bytes: usize) -> Sample {
     draft.sample()
 }
 
-fn library_enter(Job { code, day, file }: Job) {
-    let (mut new, mut target, mut written) = ([0; register::HEAD], [0; ROOM], 0);
-    assert_eq!(face::register_new(code, &mut new), 0);
-    let answer = face::register_enter(&new, black_box(file), code, day, &mut target, &mut written);
+fn library_enter(job: Job) {
+    let mut new = [0; register::HEAD];
+    assert_eq!(face::register_new(job.code, &mut new), 0);
+    library_enter_in(&new, job);
+}
+
+fn library_enter_in(bytes: &[u8], Job { code, day, file }: Job) {
+    let (mut target, mut written) = ([0; ROOM], 0);
+    let answer = face::register_enter(bytes, black_box(file), code, day, &mut target, &mut written);
     assert!(answer == 0 || answer == 28);
     black_box((target, written));
 }
 
-fn second_enter(Job { code, day, file }: Job) {
-    let new = register::blank(code, ROOM).expect("a code");
-    black_box(register::enter(&new, black_box(file), code, day, ROOM).expect("not refused"));
+fn second_enter(job: Job) {
+    second_enter_in(&register::blank(job.code, ROOM).expect("a code"), job);
+}
+
+fn second_enter_in(bytes: &[u8], Job { code, day, file }: Job) {
+    black_box(register::enter(bytes, black_box(file), code, day, ROOM).expect("not refused"));
+}
+
+/// As many ranges as a register can have, on days before, but for one that
+/// the file's last number touches.
+fn full() -> Vec<u8> {
+    let items = (large::MOST - 200) / (56 + 15);
+    let one = |day, number| Range { day, first: number, last: number };
+    let mut ranges: Vec<Range> = (0..register::RANGES as u32 - 1)
+        .map(|place| one(shift(DAY, (place / 103) as i32 - 10), 2 * (place % 103) + 1))
+        .collect();
+    ranges.push(one(DAY, items as u32 + 1));
+    Register { code: CODE, latest: DAY, ranges }.write()
+}
+
+/// The same file in a full register.
+fn full_register(job: Job, rounds: u32) -> u32 {
+    let bytes = full();
+    let mut all = [
+        Contestant::new("entering in a new register", || library_enter(job)),
+        Contestant::new("entering in one of 1,024 ranges", || library_enter_in(&bytes, job)),
+        Contestant::new("second program's, in that", || second_enter_in(&bytes, job)),
+    ];
+    race(&mut all, rounds);
+    header(&format!("a full register, a file of {} bytes", job.file.len()), "time", "it/new");
+    let rows = all.iter().zip([None, Some(1.1), None]);
+    rows.map(|(it, goal)| {
+        judge(&it.name, &per_byte(it, job.file), ratio(it.best, all[0].best), goal)
+    })
+    .sum()
 }
 
 fn against_others(job: Job, rounds: u32) -> u32 {

@@ -1,6 +1,6 @@
 //! Groups about the register of numbers used: new ones, and entering.
 
-use second::register::{HEAD, RANGE, RANGES, Range, Register};
+use second::register::{HEAD, OLD_RANGES, RANGE, RANGES, Range, Register};
 use second::samples::calendar::{TRICKY, next, shift};
 use second::samples::dice::Dice;
 use second::samples::draft::Draft;
@@ -14,13 +14,17 @@ use crate::refusals::{CODES, DAYS, FILES};
 const CODE: u32 = 300;
 const DAY: u32 = 20240304;
 
-/// Room for any register.
+/// Room for any register, and for an old one with a few ranges more.
 const ROOM: usize = HEAD + RANGE * RANGES;
+const OLD_ROOM: usize = HEAD + RANGE * (OLD_RANGES + 4);
+
+/// What a byte of a full register is changed by.
+const CHANGES: [u8; 3] = [0x01, 0x80, 0xFF];
 
 /// The random groups take their share of the files of a round.
 pub fn all(files: u64) -> Vec<Group> {
     let registers = edges();
-    let bytes = full().write().len();
+    let old = old().len() as u64;
     vec![
         Group::listed("new registers", CODES.len() as u64, |judge, _, case| {
             (0..=HEAD + 3).for_each(|room| judge.blank(CODES[case as usize], room));
@@ -28,14 +32,27 @@ pub fn all(files: u64) -> Vec<Group> {
         Group::listed("registers at their edges", registers.len() as u64, move |judge, _, case| {
             judge.enter(&registers[case as usize], plain().job(), ROOM);
         }),
-        Group::listed("registers, each byte changed", bytes as u64, each_byte),
-        Group::listed("registers of each length", bytes as u64 + 14, each_length),
+        Group::listed("registers of version 1, each byte changed", old, each_byte),
+        Group::listed("registers of version 1 of each length", old + 14, each_length),
+        Group::listed(
+            "registers of 1,024 ranges, each byte changed",
+            ROOM as u64,
+            each_byte_of_full,
+        ),
+        Group::listed("registers about 1,024 ranges long", 40, lengths_of_full),
         Group::listed("registers, two ranges", 12 * 12, two_ranges),
+        Group::listed("registers in both versions", OLD_RANGES as u64 + 3, versions),
         Group::listed("registers, refusals in their order", orders(), order),
         Group::listed("registers, files about 10,000,000 bytes", 2, lengths),
-        Group::listed("registers, targets of each length", ROOM as u64 + 5, targets),
+        Group::listed("registers, targets of each length", OLD_ROOM as u64, targets),
+        Group::listed("registers, targets about 12,301 bytes", 40, long_targets),
         Group::listed("registers, days about the tenth", TRICKY.len() as u64, tenth_day),
         Group::random("registers, rows of files", files.div_ceil(60), row),
+        Group::random(
+            "registers, rows of files on nearly full ones",
+            files.div_ceil(600),
+            full_row,
+        ),
         Group::random("registers, thirty days", files.div_ceil(600), thirty_days),
         Group::random("registers, blocks of one item in any order", 2, many_blocks),
     ]
@@ -50,12 +67,29 @@ fn new() -> Register {
     register(0, &[])
 }
 
-/// 64 ranges of one number each, over eleven days.
-fn full() -> Register {
-    let ranges: Vec<_> = (0..RANGES as u32)
-        .map(|place| (shift(DAY, place as i32 / 6 - 10), 3 * (place % 6) + 5, 3 * (place % 6) + 5))
-        .collect();
-    register(DAY, &ranges)
+/// Ranges of one number each, evenly over eleven days.
+fn filled(count: usize) -> Register {
+    let a_day = count.div_ceil(11);
+    let range = |place: usize| {
+        let number = 3 * (place % a_day) as u32 + 5;
+        (shift(DAY, (place / a_day) as i32 - 10), number, number)
+    };
+    register(DAY, &(0..count).map(range).collect::<Vec<_>>())
+}
+
+/// The same with larger numbers than a file of some group uses.
+fn raised(count: usize, by: u32) -> Register {
+    let mut register = filled(count);
+    for range in &mut register.ranges {
+        range.first += by;
+        range.last += by;
+    }
+    register
+}
+
+/// A full register of version 1.
+fn old() -> Vec<u8> {
+    filled(OLD_RANGES).write_as(1)
 }
 
 /// A file of one block.
@@ -72,7 +106,7 @@ fn plain() -> Sample {
 // Which bytes are a register.
 
 /// Both sides of every bound of its parts, one range more and fewer than it may
-/// have, and other marks and versions.
+/// have, each in both versions, and other marks and versions.
 fn edges() -> Vec<Vec<u8>> {
     let mut all: Vec<Register> = Vec::new();
     all.extend([0, 1, 299, 300, 301, 9_999, 10_000, 65_535].map(|code| Register { code, ..new() }));
@@ -87,15 +121,19 @@ fn edges() -> Vec<Vec<u8>> {
     for first in numbers {
         all.extend(numbers.map(|last| register(DAY, &[(DAY, first, last)])));
     }
-    for count in RANGES as u32 - 1..=RANGES as u32 + 2 {
-        let ranges: Vec<_> = (0..count).map(|place| (DAY, 5 + 2 * place, 5 + 2 * place)).collect();
-        all.push(register(DAY, &ranges));
+    for most in [OLD_RANGES as u32, RANGES as u32] {
+        for count in most - 1..=most + 2 {
+            let range = |place| (DAY, 5 + 2 * place, 5 + 2 * place);
+            all.push(register(DAY, &(0..count).map(range).collect::<Vec<_>>()));
+        }
     }
-    let mut bytes: Vec<Vec<u8>> = all.iter().map(Register::write).collect();
-    for start in
-        [&b"CRG\0\x02"[..], b"CRG\x01\0", b"CRG\x01\x01", b"CRG\0\0", b"crg\0\x01", b"GRC\0\x01"]
-    {
-        bytes.push([start, &new().write()[5..]].concat());
+    let mut bytes: Vec<Vec<u8>> =
+        [1, 2].iter().flat_map(|&version| all.iter().map(move |it| it.write_as(version))).collect();
+    bytes.extend(
+        [0, 3, 4, 255, 256, 257, 258, 512, 513, 514, u16::MAX].map(|it| new().write_as(it)),
+    );
+    for mark in [b"crg", b"GRC", b"CRF", b"BRG"] {
+        bytes.push([mark, &new().write()[3..]].concat());
     }
     bytes.push(Vec::new());
     bytes
@@ -103,20 +141,52 @@ fn edges() -> Vec<Vec<u8>> {
 
 fn each_byte(judge: &mut Judge, _: &mut Dice, place: u64) {
     for byte in 0..=255 {
-        let mut bytes = full().write();
+        let mut bytes = old();
         bytes[place as usize] = byte;
+        judge.enter(&bytes, plain().job(), OLD_ROOM);
+    }
+}
+
+/// The bytes of the head take every value, the others some.
+fn each_byte_of_full(judge: &mut Judge, dice: &mut Dice, place: u64) {
+    let changes: Vec<u8> = if place < HEAD as u64 {
+        (0..=255).collect()
+    } else {
+        vec![CHANGES[dice.place(CHANGES.len())]]
+    };
+    for change in changes {
+        let mut bytes = filled(RANGES).write();
+        bytes[place as usize] ^= change;
         judge.enter(&bytes, plain().job(), ROOM);
     }
 }
 
 fn each_length(judge: &mut Judge, _: &mut Dice, length: u64) {
-    let mut bytes = full().write();
-    bytes.resize(length as usize, 0);
+    with_length(judge, old(), length as usize);
+}
+
+/// From two ranges fewer to one more.
+fn lengths_of_full(judge: &mut Judge, _: &mut Dice, case: u64) {
+    with_length(judge, filled(RANGES + 2).write(), ROOM - 26 + case as usize);
+}
+
+/// Cut or made longer; then with the count changed along with it, where it can be.
+fn with_length(judge: &mut Judge, mut bytes: Vec<u8>, length: usize) {
+    bytes.resize(length, 0);
     judge.enter(&bytes, plain().job(), ROOM);
-    // The count changed along with it, where it can be.
-    if bytes.len() >= HEAD {
-        bytes[12] = ((bytes.len() - HEAD) / RANGE) as u8;
+    if let Some(count) = bytes.len().checked_sub(HEAD) {
+        bytes[11..HEAD].copy_from_slice(&((count / RANGE) as u16).to_be_bytes());
         judge.enter(&bytes, plain().job(), ROOM);
+    }
+}
+
+/// So many ranges, one more than version 1 may have among them, in both.
+fn versions(judge: &mut Judge, dice: &mut Dice, count: u64) {
+    let register = filled(count as usize);
+    for file in [plain(), block(&[6], 0), file_of_row(dice, DAY)] {
+        for version in [1, 2] {
+            judge.enter(&register.write_as(version), file.job(), ROOM);
+        }
     }
 }
 
@@ -161,10 +231,19 @@ fn lengths(judge: &mut Judge, _: &mut Dice, case: u64) {
 }
 
 fn targets(judge: &mut Judge, _: &mut Dice, room: u64) {
-    let mut some = full();
-    some.ranges.truncate(3);
-    for (register, file) in [(new(), plain()), (some, plain()), (full(), block(&[6], 0))] {
-        judge.enter(&register.write(), file.job(), room as usize);
+    let some = [new().write(), filled(3).write(), old()];
+    for (bytes, file) in some.iter().zip([plain(), plain(), block(&[6], 0)]) {
+        judge.enter(bytes, file.job(), room as usize);
+    }
+}
+
+/// Registers that take all or nearly all of it.
+fn long_targets(judge: &mut Judge, _: &mut Dice, case: u64) {
+    for count in RANGES - 2..=RANGES {
+        let bytes = filled(count).write();
+        for file in [plain(), block(&[6], 0), block(&[4], 0)] {
+            judge.enter(&bytes, file.job(), ROOM - 26 + case as usize);
+        }
     }
 }
 
@@ -185,9 +264,19 @@ fn tenth_day(judge: &mut Judge, _: &mut Dice, case: u64) {
 
 // Rows of files.
 
-/// Files of one day on one register, until it is full or they are through.
+/// Files of one day on one register, of either version.
 fn row(judge: &mut Judge, dice: &mut Dice, _: u64) {
-    let mut bytes = new().write();
+    let bytes = new().write_as(dice.range(1, 2) as u16);
+    files_on(judge, dice, bytes);
+}
+
+/// On one that has room for a few ranges more, or for none.
+fn full_row(judge: &mut Judge, dice: &mut Dice, _: u64) {
+    let bytes = raised(RANGES - dice.place(25), 200).write();
+    files_on(judge, dice, bytes);
+}
+
+fn files_on(judge: &mut Judge, dice: &mut Dice, mut bytes: Vec<u8>) {
     for _ in 0..dice.range(1, 12) {
         let sample = file_of_row(dice, DAY);
         bytes = judge.enter(&bytes, sample.job(), room(dice, &bytes)).unwrap_or(bytes);
@@ -247,8 +336,10 @@ fn many_blocks(judge: &mut Judge, dice: &mut Dice, case: u64) {
     for order in 0..4 {
         let sample = large::blocks_of_one(dice, large::MOST, order, step);
         let twice = dice.range(1, 60_000) as u32;
-        for bytes in [new().write(), register(DAY, &[(DAY, twice, twice)]).write()] {
-            judge.enter(&bytes, sample.job(), ROOM);
+        let once = register(DAY, &[(DAY, twice, twice)]);
+        let nearly_full = raised(RANGES - 1, 200_000);
+        for register in [new(), once, nearly_full] {
+            judge.enter(&register.write(), sample.job(), ROOM);
         }
     }
 }

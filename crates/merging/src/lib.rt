@@ -1,8 +1,11 @@
-// Keys in order and spans in order, made one row of spans that never touch.
+// Keys in order and spans in order, made one row of spans that never touch. Promised (specs/Merging.antt): whether one begins at or before
+// the end of the one before it, and if none does, the row closed up; that it is then the spans with the keys added one at a time, and that
+// it hits itself just where a number is used already, are laws (proofs/Members.antt, Clashes.antt). Stands on `register` for what spans and
+// adding are, and on `sorting` for what order is.
 ghost use mathlib.Core.Path.{_≡_};
 ghost use Prim.Native.Nat.{_+_, _≤_, _<_};
 ghost use lib.ListN.{length, set};
-ghost use Rattle.entering.specs.Merging.{Takes, Merges};
+ghost use Rattle.merging.specs.Merging.{Takes, Merges};
 
 // The next of both rows, and how many of each have gone by with it.
 pub struct Turn {

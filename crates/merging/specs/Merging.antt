@@ -6,8 +6,8 @@ use mathlib.Core.List.{List, [], _∷_}
 use lib.Dec.{eqb, leb, ltb}
 use lib.ListN.{length, take, drop}
 use Rattle.register.specs.Spans.{Span, froms, tos}
-use Rattle.entering.specs.declared.merging.Turn.{Turn}
-use Rattle.entering.specs.declared.merging.Merged.{Merged}
+use Rattle.merging.specs.declared.Turn.{Turn}
+use Rattle.merging.specs.declared.Merged.{Merged}
 
 abbrev pub one : ℕ → Span
 one k = record { from = k; to = k }

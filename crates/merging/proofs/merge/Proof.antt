@@ -1,10 +1,10 @@
 use native.Mathlib.Omega.{arith}
 use mathlib.Core.Path.{_≡_, refl, _∙_}
 use lib.ListN.{length}
-use Rattle.entering.proofs.Turns.{Going, going-start, going-hit, going-gap, going-touch, going-end, hit-merges}
+use Rattle.merging.proofs.Turns.{Going, going-start, going-hit, going-gap, going-touch, going-end, hit-merges}
 use borrow.Author.Needs.{needs}
-use Rattle.entering.proofs.merging.merge.Statement.{statement}
-use Rattle.entering.proofs.merging.merge.Tie as tie
+use Rattle.merging.proofs.merge.Statement.{statement}
+use Rattle.merging.proofs.merge.Tie as tie
 
 abbrev Inv-loop : tie.InvT-loop
 Inv-loop keys starts ends froms₀ tos₀ from₀ to₀ count₀ i₀ j₀ left₀ froms tos from to count i j left = Going keys starts ends from to count i j left froms tos × (length froms ≡ length froms₀) × (length tos ≡ length tos₀)

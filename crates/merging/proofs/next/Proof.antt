@@ -1,8 +1,8 @@
 use native.Mathlib.Omega.{arith}
-use Rattle.entering.proofs.Turns.{takes-span-alone, takes-key-alone, takes-key, takes-span}
+use Rattle.merging.proofs.Turns.{takes-span-alone, takes-key-alone, takes-key, takes-span}
 use borrow.Author.Needs.{needs}
-use Rattle.entering.proofs.merging.next.Statement.{statement}
-use Rattle.entering.proofs.merging.next.Tie as tie
+use Rattle.merging.proofs.next.Statement.{statement}
+use Rattle.merging.proofs.next.Tie as tie
 
 mul-t10 : tie.Need-mul-t10
 mul-t10 c = search needs

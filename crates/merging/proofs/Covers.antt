@@ -11,7 +11,7 @@ use borrow.Author.Tests.{ltb-true, ltb-false, leb-true, leb-false, eqb-true, eqb
 use Rattle.sorting.specs.Sorting.{count, Rises}
 use Rattle.register.specs.Spans.{Span, Has, Strung}
 use Rattle.register.proofs.Spans.{weaken}
-use Rattle.entering.specs.Merging.{one, ones, after, weave, hits, closed}
+use Rattle.merging.specs.Merging.{one, ones, after, weave, hits, closed}
 
 unfoldable pub within : Span → ℕ → ℕ
 within s j = cond (leb (s .from) j && leb j (s .to)) 1 0

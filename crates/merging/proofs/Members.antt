@@ -10,8 +10,8 @@ use borrow.Author.Tests.{leb-true, leb-false, eqb-true, eqb-false, eq-eqb}
 use Rattle.sorting.specs.Sorting.{count, Same, Rises}
 use Rattle.register.specs.Spans.{Span, Has, Strung, Least, addSpan, addKeys}
 use Rattle.register.proofs.Spans.{ordered, ordered-all, members-to, members-from, member-own, determined, weaken}
-use Rattle.entering.specs.Merging.{one, weave, hits, closed}
-use Rattle.entering.proofs.Covers.{within, cover, Held, inside, below, above, heldIs, held-in, has-cover, cover-has, cover-weave, climbs-weave, closed-strung, closed-cover}
+use Rattle.merging.specs.Merging.{one, weave, hits, closed}
+use Rattle.merging.proofs.Covers.{within, cover, Held, inside, below, above, heldIs, held-in, has-cover, cover-has, cover-weave, climbs-weave, closed-strung, closed-cover}
 
 pub count-same : (j k : ℕ) (ks : List ℕ) → k ≡ j → count j (k ∷ ks) ≡ 1 + count j ks
 unfolding count

@@ -13,9 +13,9 @@ use Rattle.register.specs.Entering.{Use, holds, standsIn, clash}
 use Rattle.register.specs.Spans.{Strung, keyOf, keysOf, spansOf, Fit, Fits, Sound}
 use Rattle.register.proofs.Sets.{both, either, agree, left, right, pair, holds-has, has-holds}
 use Rattle.register.proofs.Spans.{weaken}
-use Rattle.entering.specs.Merging.{one, weave, hits}
-use Rattle.entering.proofs.Covers.{within, cover, Held, inside, below, above, heldIs, cover-more, has-cover, cover-has, cover-weave, climbs-weave, low, strung-once, hit-found, spread}
-use Rattle.entering.proofs.Members.{count-same, count-least, count-no, Among, first, later, amongIs}
+use Rattle.merging.specs.Merging.{one, weave, hits}
+use Rattle.merging.proofs.Covers.{within, cover, Held, inside, below, above, heldIs, cover-more, has-cover, cover-has, cover-weave, climbs-weave, low, strung-once, hit-found, spread}
+use Rattle.merging.proofs.Members.{count-same, count-least, count-no, Among, first, later, amongIs}
 
 -- ---- a number that stands in a file
 stands-count : (u : Use) (us : List Use) → standsIn u us ≡ true → 1 ≤ count (keyOf u) (keysOf us)

@@ -9,8 +9,8 @@ use lib.ListN.{length, take, drop, getD, set, length-set}
 use lib.Seq.{drop-cons, take-suc-set}
 use borrow.Author.Tests.{lt-ltb, le-ltb, le-leb, lt-leb, eq-eqb, ne-eqb}
 use Rattle.register.specs.Spans.{Span, froms, tos}
-use Rattle.entering.specs.declared.merging.Turn.{Turn}
-use Rattle.entering.specs.Merging.{one, paired, after, weave, hits, closed, Takes, rowOf, Merges}
+use Rattle.merging.specs.declared.Turn.{Turn}
+use Rattle.merging.specs.Merging.{one, paired, after, weave, hits, closed, Takes, rowOf, Merges}
 
 pub drop-past : (l : List ℕ) (n : ℕ) → length l ≤ n → drop n l ≡ []
 drop-past [] zero h = refl

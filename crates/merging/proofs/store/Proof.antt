@@ -1,8 +1,8 @@
 use mathlib.Core.Path.{sym}
 use lib.Seq.{set-out}
 use borrow.Author.Needs.{needs}
-use Rattle.entering.proofs.merging.store.Statement.{statement}
-use Rattle.entering.proofs.merging.store.Tie as tie
+use Rattle.merging.proofs.store.Statement.{statement}
+use Rattle.merging.proofs.store.Tie as tie
 
 mul-row : tie.Need-mul-row
 mul-row c = search needs

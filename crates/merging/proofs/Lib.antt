@@ -1,0 +1,4 @@
+pub mod Covers
+pub mod Members
+pub mod Clashes
+pub mod Turns
