@@ -83,7 +83,7 @@ book-listed {off} {all} {ls₀} {rs₀} {ps₀} {g} {ls} {rs} {ps} B level D =
     record {
       lines = column line all (g .kept) ls₀ ls ones kept (P .lines-after);
       rules = column rule all (g .kept) rs₀ rs (firsts rule (g .kept) (pairs ls rs) (take (length rs₀) all) rs (rules-of ls rs same) (first ∙ ap (λ (k : ℕ). take k all) same₀)) (omega arith) (P .rules-after);
-      places = column (λ (f : Fault). off (f .line)) all (g .kept) ps₀ ps
+      offsets = column (λ (f : Fault). off (f .line)) all (g .kept) ps₀ ps
           (D .first ∙ ap (map off) ones ∙ map-both off line (take (length ls₀) all) ∙ ap (λ (k : ℕ). map (λ (f : Fault). off (f .line)) (take k all)) level) (omega arith) (D .after);
       kept = kept;
       total = omega (arith, B .entered .sum);
@@ -95,4 +95,4 @@ pub listed-unique : {off : ℕ → ℕ} {all : List Fault} {ls₀ rs₀ ps₀ : 
 listed-unique {g = g} {g′ = g′} L M =
     let k : g .kept ≡ g′ .kept = L .kept ∙ sym (M .kept) in
     let t : g .total ≡ g′ .total = L .total ∙ sym (M .total) in
-    (L .lines ∙ sym (M .lines), L .rules ∙ sym (M .rules), L .places ∙ sym (M .places), λ i. record { kept = k i; total = t i })
+    (L .lines ∙ sym (M .lines), L .rules ∙ sym (M .rules), L .offsets ∙ sym (M .offsets), λ i. record { kept = k i; total = t i })

@@ -61,6 +61,6 @@ Kept given n ls ps n′ ls′ ps′ = (off : ℕ → ℕ) (ps₀ : List ℕ) →
 pub record Listed (off : ℕ → ℕ) (all : List Fault) (ls₀ rs₀ ps₀ : List ℕ) (g : Ledger) (ls rs ps : List ℕ) : Type 0 where
   pub lines : ls ≡ written (λ (f : Fault). f .line) all ls₀
   pub rules : rs ≡ written (λ (f : Fault). f .rule) all rs₀
-  pub places : ps ≡ written (λ (f : Fault). off (f .line)) all ps₀
+  pub offsets : ps ≡ written (λ (f : Fault). off (f .line)) all ps₀
   pub kept : g .kept ≡ min (length ls₀) (length all)
   pub total : g .total ≡ length all

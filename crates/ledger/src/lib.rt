@@ -75,16 +75,16 @@ fn last_of(n: usize, room: usize) -> usize
 fn keep(
     lines: &mut [u32],
     rules: &mut [u32],
-    places: &mut [u32],
+    offsets: &mut [u32],
     n: usize,
     line: u32,
     rule: u32,
     at: u32,
 ) -> usize
     requires { ⌜ Ready n (now lines) (now rules) ⌝ }
-    requires { ⌜ length (now lines) ≡ length (now places) ⌝ }
+    requires { ⌜ length (now lines) ≡ length (now offsets) ⌝ }
     ensures put { λ r. ⌜ Put (fault line rule ∷ []) n (now (lines .entry)) (now (rules .entry)) r (now (lines .exit)) (now (rules .exit)) ⌝ }
-    ensures placed { λ r. ⌜ Kept (λ off. off line ≡ at) n (now (lines .entry)) (now (places .entry)) r (now (lines .exit)) (now (places .exit)) ⌝ }
+    ensures placed { λ r. ⌜ Kept (λ off. off line ≡ at) n (now (lines .entry)) (now (offsets .entry)) r (now (lines .exit)) (now (offsets .exit)) ⌝ }
 {
     let room = lines.len();
     let p = place(lines, rules, n, line, rule);
@@ -94,7 +94,7 @@ fn keep(
     let last = last_of(n, room);
     open_at(lines, p, last, line);
     open_at(rules, p, last, rule);
-    open_at(places, p, last, at);
+    open_at(offsets, p, last, at);
     last + 1
 }
 
@@ -102,18 +102,18 @@ fn keep(
 pub fn enter(
     lines: &mut [u32],
     rules: &mut [u32],
-    places: &mut [u32],
+    offsets: &mut [u32],
     g: Ledger,
     line: u32,
     at: u32,
     marks: u64,
 ) -> Ledger
     requires { ⌜ Ready (g .kept) (now lines) (now rules) ⌝ }
-    requires { ⌜ length (now lines) ≡ length (now places) ⌝ }
+    requires { ⌜ length (now lines) ≡ length (now offsets) ⌝ }
     requires { ⌜ g .total < 2 ^ 63 ⌝ }
     ensures entered { λ r. ⌜ Entered (marked line marks) g (now (lines .entry)) (now (rules .entry)) r (now (lines .exit)) (now (rules .exit)) ⌝ }
     ensures few { λ r. ⌜ r .total ≤ g .total + 64 ⌝ }
-    ensures placed { λ r. ⌜ Kept (λ off. off line ≡ at) (g .kept) (now (lines .entry)) (now (places .entry)) (r .kept) (now (lines .exit)) (now (places .exit)) ⌝ }
+    ensures placed { λ r. ⌜ Kept (λ off. off line ≡ at) (g .kept) (now (lines .entry)) (now (offsets .entry)) (r .kept) (now (lines .exit)) (now (offsets .exit)) ⌝ }
 {
     let mut kept = g.kept;
     let mut m = marks;
@@ -122,7 +122,7 @@ pub fn enter(
     }
     while m != 0 {
         let rule = u64::trailing_zeros(m);
-        kept = keep(lines, rules, places, kept, line, rule, at);
+        kept = keep(lines, rules, offsets, kept, line, rule, at);
         m = m & (m - 1);
     }
     let size = u64::count_ones(marks) as u64;

@@ -82,7 +82,7 @@ fn start_of(starts: Starts, line: u32, no: u32) -> u32
 fn shut_item(
     lines: &mut [u32],
     rules: &mut [u32],
-    places: &mut [u32],
+    offsets: &mut [u32],
     g: Ledger,
     starts: Starts,
     basis: Basis,
@@ -94,19 +94,19 @@ fn shut_item(
     w: Wait,
 ) -> Closed
     requires { ⌜ Ready (g .kept) (now lines) (now rules) ⌝ }
-    requires { ⌜ length (now lines) ≡ length (now places) ⌝ }
+    requires { ⌜ length (now lines) ≡ length (now offsets) ⌝ }
     requires { ⌜ (g .total < 2 ^ 62) × (w .marks < 2 ^ 40) × (own ≤ 18) ⌝ }
     ensures { λ r. ⌜ Entered (closeFaults basis b w no own read claims) g (now (lines .entry)) (now (rules .entry)) (r .ledger) (now (lines .exit)) (now (rules .exit)) ⌝ }
     ensures { λ r. ⌜ (r .block ≡ closeAs basis b w no own read claims .block) × (r .wait ≡ closeAs basis b w no own read claims .wait) × (r .wait .marks < 2 ^ 40) ⌝ }
-    ensures { λ r. ⌜ Kept (λ off. Stands off starts no (w .line)) (g .kept) (now (lines .entry)) (now (places .entry)) (r .ledger .kept) (now (lines .exit)) (now (places .exit)) ⌝ }
+    ensures { λ r. ⌜ Kept (λ off. Stands off starts no (w .line)) (g .kept) (now (lines .entry)) (now (offsets .entry)) (r .ledger .kept) (now (lines .exit)) (now (offsets .exit)) ⌝ }
     ensures { λ r. ⌜ WaitsAt starts no (w .line) (r .wait .line) (r .start) ⌝ }
 {
     let c = closing::close_item(basis, b, w, no, own, read, claims);
     let block = c.block;
     let wait = c.wait;
     let start = start_of(starts, wait.line, no);
-    let first = ledger::enter(lines, rules, places, g, w.line, starts.wait, c.told);
-    let ledger = ledger::enter(lines, rules, places, first, no, starts.head, c.marks);
+    let first = ledger::enter(lines, rules, offsets, g, w.line, starts.wait, c.told);
+    let ledger = ledger::enter(lines, rules, offsets, first, no, starts.head, c.marks);
     Closed {
         ledger,
         block,
@@ -119,7 +119,7 @@ fn shut_item(
 fn shut_all(
     lines: &mut [u32],
     rules: &mut [u32],
-    places: &mut [u32],
+    offsets: &mut [u32],
     g: Ledger,
     starts: Starts,
     basis: Basis,
@@ -134,20 +134,20 @@ fn shut_all(
     w: Wait,
 ) -> Closed
     requires { ⌜ Ready (g .kept) (now lines) (now rules) ⌝ }
-    requires { ⌜ length (now lines) ≡ length (now places) ⌝ }
+    requires { ⌜ length (now lines) ≡ length (now offsets) ⌝ }
     requires { ⌜ (g .total < 2 ^ 61) × (w .marks < 2 ^ 40) × (own ≤ 18) ⌝ }
     ensures { λ r. ⌜ Entered (marked (o .no) (o .marks) ++ closeFaults basis b w no own (readAs reads h) (closeClaims claims o p)) g (now (lines .entry)) (now (rules .entry)) (r .ledger) (now (lines .exit)) (now (rules .exit)) ⌝ }
     ensures { λ r. ⌜ (r .block ≡ closeAs basis b w no own (readAs reads h) (closeClaims claims o p) .block) × (r .wait ≡ closeAs basis b w no own (readAs reads h) (closeClaims claims o p) .wait) × (r .wait .marks < 2 ^ 40) ⌝ }
-    ensures { λ r. ⌜ Kept (λ off. (off (o .no) ≡ starts .field) × Stands off starts no (w .line)) (g .kept) (now (lines .entry)) (now (places .entry)) (r .ledger .kept) (now (lines .exit)) (now (places .exit)) ⌝ }
+    ensures { λ r. ⌜ Kept (λ off. (off (o .no) ≡ starts .field) × Stands off starts no (w .line)) (g .kept) (now (lines .entry)) (now (offsets .entry)) (r .ledger .kept) (now (lines .exit)) (now (offsets .exit)) ⌝ }
     ensures { λ r. ⌜ WaitsAt starts no (w .line) (r .wait .line) (r .start) ⌝ }
 {
-    let g1 = ledger::enter(lines, rules, places, g, o.no, starts.field, o.marks);
+    let g1 = ledger::enter(lines, rules, offsets, g, o.no, starts.field, o.marks);
     let all = opening::claims_after(claims, o, p);
     let read = opening::read_as(reads, h);
     shut_item(
         lines,
         rules,
-        places,
+        offsets,
         g1,
         starts,
         basis,
@@ -164,7 +164,7 @@ fn shut_all(
 fn shut_file(
     lines: &mut [u32],
     rules: &mut [u32],
-    places: &mut [u32],
+    offsets: &mut [u32],
     g: Ledger,
     starts: Starts,
     basis: Basis,
@@ -179,15 +179,15 @@ fn shut_file(
     w: Wait,
 ) -> Ledger
     requires { ⌜ Ready (g .kept) (now lines) (now rules) ⌝ }
-    requires { ⌜ length (now lines) ≡ length (now places) ⌝ }
+    requires { ⌜ length (now lines) ≡ length (now offsets) ⌝ }
     requires { ⌜ (g .total < 2 ^ 61) × (w .marks < 2 ^ 40) × (own ≤ 18) ⌝ }
     ensures { λ r. ⌜ Entered ((marked (o .no) (o .marks) ++ closeFaults basis b w no own (readAs reads h) (closeClaims claims o p)) ++ marked (closeAs basis b w no own (readAs reads h) (closeClaims claims o p) .wait .line) (lastMarks (closeAs basis b w no own (readAs reads h) (closeClaims claims o p) .block) (closeAs basis b w no own (readAs reads h) (closeClaims claims o p) .wait))) g (now (lines .entry)) (now (rules .entry)) r (now (lines .exit)) (now (rules .exit)) ⌝ }
-    ensures { λ r. ⌜ Kept (λ off. (off (o .no) ≡ starts .field) × Stands off starts no (w .line)) (g .kept) (now (lines .entry)) (now (places .entry)) (r .kept) (now (lines .exit)) (now (places .exit)) ⌝ }
+    ensures { λ r. ⌜ Kept (λ off. (off (o .no) ≡ starts .field) × Stands off starts no (w .line)) (g .kept) (now (lines .entry)) (now (offsets .entry)) (r .kept) (now (lines .exit)) (now (offsets .exit)) ⌝ }
 {
     let t = shut_all(
         lines,
         rules,
-        places,
+        offsets,
         g,
         starts,
         basis,
@@ -202,7 +202,7 @@ fn shut_file(
         w,
     );
     let last = closing::last_marks(t.block, t.wait);
-    ledger::enter(lines, rules, places, t.ledger, t.wait.line, t.start, last)
+    ledger::enter(lines, rules, offsets, t.ledger, t.wait.line, t.start, last)
 }
 
 // No heading yet.
@@ -225,12 +225,12 @@ pub fn enter_faults(
     day: u32,
     lines: &mut [u32],
     rules: &mut [u32],
-    places: &mut [u32],
+    offsets: &mut [u32],
 ) -> Ledger
     requires { ⌜ length (now s) ≤ 10000000 ⌝ }
     requires { ⌜ length (now lines) ≡ length (now rules) ⌝ }
-    requires { ⌜ length (now lines) ≡ length (now places) ⌝ }
-    ensures { λ r. ⌜ Listed (offsetOf (now (s .entry))) (faultsIn (input code day) (now (s .entry))) (now (lines .entry)) (now (rules .entry)) (now (places .entry)) r (now (lines .exit)) (now (rules .exit)) (now (places .exit)) ⌝ }
+    requires { ⌜ length (now lines) ≡ length (now offsets) ⌝ }
+    ensures { λ r. ⌜ Listed (offsetOf (now (s .entry))) (faultsIn (input code day) (now (s .entry))) (now (lines .entry)) (now (rules .entry)) (now (offsets .entry)) r (now (lines .exit)) (now (rules .exit)) (now (offsets .exit)) ⌝ }
 {
     let basis = blocks::own_rules::basis_of(Code(code), day);
     let table = text::characters::table();
@@ -267,7 +267,7 @@ pub fn enter_faults(
                 let t = shut_all(
                     lines,
                     rules,
-                    places,
+                    offsets,
                     g,
                     starts,
                     basis,
@@ -301,7 +301,7 @@ pub fn enter_faults(
                 g = ledger::enter(
                     lines,
                     rules,
-                    places,
+                    offsets,
                     g,
                     n,
                     here,
@@ -311,7 +311,7 @@ pub fn enter_faults(
                 open = opening::with_low(open, true, end - from);
             }
             Kind::Field(ident) => {
-                g = ledger::enter(lines, rules, places, g, open.no, starts.field, open.marks);
+                g = ledger::enter(lines, rules, offsets, g, open.no, starts.field, open.marks);
                 starts.field = here;
                 if 5 <= open.class {
                     claims = opening::claim_closed(claims, open, pend);
@@ -343,7 +343,7 @@ pub fn enter_faults(
                 g = ledger::enter(
                     lines,
                     rules,
-                    places,
+                    offsets,
                     g,
                     n,
                     here,
@@ -355,7 +355,7 @@ pub fn enter_faults(
     shut_file(
         lines,
         rules,
-        places,
+        offsets,
         g,
         starts,
         basis,

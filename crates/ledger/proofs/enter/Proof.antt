@@ -11,11 +11,11 @@ use Rattle.ledger.proofs.enter.Statement.{statement}
 use Rattle.ledger.proofs.enter.Tie as tie
 
 abbrev Inv-loop : tie.InvT-loop
-Inv-loop lines₀ rules₀ places₀ g line at marks kept₀ m₀ lines rules places kept m =
-    Entering lines₀ rules₀ kept₀ line marks lines rules kept m × (length places ≡ length places₀) × Kept (λ (off : ℕ → ℕ). off line ≡ at) kept₀ lines₀ places₀ kept lines places
+Inv-loop lines₀ rules₀ offsets₀ g line at marks kept₀ m₀ lines rules offsets kept m =
+    Entering lines₀ rules₀ kept₀ line marks lines rules kept m × (length offsets ≡ length offsets₀) × Kept (λ (off : ℕ → ℕ). off line ≡ at) kept₀ lines₀ offsets₀ kept lines offsets
 
 abbrev μ-loop : tie.MeasureT-loop
-μ-loop lines₀ rules₀ places₀ g line at marks kept₀ m₀ lines rules places kept m = m
+μ-loop lines₀ rules₀ offsets₀ g line at marks kept₀ m₀ lines rules offsets kept m = m
 
 returns : tie.Need-returns Inv-loop μ-loop
 returns c = (enter-nothing _ _ (c .before .before .before .before .pre .0) (c .if1 .taken), (omega arith, λ off ps₀ h B. B))

@@ -17,11 +17,11 @@ use borrow.Author.Needs.{needs}
 use Rattle.pass.proofs.enter_faults.Tie as tie
 
 abbrev Inv-loop : tie.InvT-loop
-Inv-loop s code day lines₀ rules₀ places₀ basis table stood₀ g₀ open₀ pend₀ since₀ top₀ reads₀ h₀ claims₀ block₀ wait₀ starts₀ at₀ n₀ lines rules places stood g «open» pend since top reads h claims block wait starts at n =
-    Walking (input code day) s lines₀ rules₀ places₀ basis lines rules places stood g «open» pend since top reads h claims block wait starts at n
+Inv-loop s code day lines₀ rules₀ offsets₀ basis table stood₀ g₀ open₀ pend₀ since₀ top₀ reads₀ h₀ claims₀ block₀ wait₀ starts₀ at₀ n₀ lines rules offsets stood g «open» pend since top reads h claims block wait starts at n =
+    Walking (input code day) s lines₀ rules₀ offsets₀ basis lines rules offsets stood g «open» pend since top reads h claims block wait starts at n
 
 abbrev μ-loop : tie.MeasureT-loop
-μ-loop s code day lines₀ rules₀ places₀ basis table stood₀ g₀ open₀ pend₀ since₀ top₀ reads₀ h₀ claims₀ block₀ wait₀ starts₀ at₀ n₀ lines rules places stood g «open» pend since top reads h claims block wait starts at n =
+μ-loop s code day lines₀ rules₀ offsets₀ basis table stood₀ g₀ open₀ pend₀ since₀ top₀ reads₀ h₀ claims₀ block₀ wait₀ starts₀ at₀ n₀ lines rules offsets stood g «open» pend since top reads h claims block wait starts at n =
     length s - at
 
 -- the line that was found
