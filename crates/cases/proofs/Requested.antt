@@ -20,7 +20,7 @@ use Rattle.fields.specs.Kinds.{place, kindOf}
 use Rattle.fields.specs.Classes.{classOf, sumGroup}
 use Rattle.fields.specs.Readings.{textOf, readingOf}
 use Rattle.fields.specs.Tails.{takes, reads, saysOf, allFit}
-use Rattle.lines.specs.Lines.{behindMark, body, crlf, onto, lines}
+use Rattle.lines.specs.Lines.{behindMark, body, crlf, onto, lines, takenBy, offsetOf}
 use Rattle.rules.specs.Faults.{faultsOf, faultsIn, faults}
 use Rattle.rules.specs.Rows.{sorted, rowsFrom}
 use Rattle.rules.specs.LineRules.{rule1}
@@ -29,5 +29,5 @@ use Rattle.rules.specs.Spots.{fieldTests, ownTests, blockTests, headTests, fiel
 use Rattle.cases.specs.Requested.{requested}
 
 pub every-requested : every requested ≡ true
-unfolding anyOf isAdmissible valueAfter digits isLeap row monthLength isReal dayNumber begins template hasForm numbers formText isInput isTrilateral isPriority isPayment rule10 rule13 rule14 headingOf headingText outgoing codes inClass barred barredTo turned tellRefusals outgoingKind recipient numberRefusals deriveRefusals derivedTarget run isEmpty headIs fits part place kindOf classOf sumGroup weight weighed passes accountOf textOf readingOf takes reads saysOf body crlf onto lines faultsOf sorted rowsFrom rule1 continuations says stands fieldTests continued headOf firstSaid digest ownTests blockTests headTests fieldSpot faultsIn faults behindMark halvesOf allFit lowTests looseTests lowSpot
+unfolding anyOf isAdmissible valueAfter digits isLeap row monthLength isReal dayNumber begins template hasForm numbers formText isInput isTrilateral isPriority isPayment rule10 rule13 rule14 headingOf headingText outgoing codes inClass barred barredTo turned tellRefusals outgoingKind recipient numberRefusals deriveRefusals derivedTarget run isEmpty headIs fits part place kindOf classOf sumGroup weight weighed passes accountOf textOf readingOf takes reads saysOf body crlf onto lines faultsOf sorted rowsFrom rule1 continuations says stands fieldTests continued headOf firstSaid digest ownTests blockTests headTests fieldSpot faultsIn faults behindMark halvesOf allFit lowTests looseTests lowSpot takenBy offsetOf
 every-requested = refl

@@ -1,5 +1,6 @@
 -- Cases of document 02's requests on checking, deriving and the account check, for the submitter 300 and the accounting day 4 March 2024: a
--- file's bytes and the number of the refusal, 0 for none; a file and all its faults; a heading and what deriving answers; an account.
+-- file's bytes and the number of the refusal, 0 for none; a file and all its faults; a heading and what deriving answers; an account;
+-- where a line starts.
 use Prim.Native.Nat.{ℕ}
 use Prim.Native.String.{String, _++_ as _++ˢ_}
 use mathlib.Core.Bool.{Bool}
@@ -10,7 +11,7 @@ use Rattle.laws.specs.Refusals.{first}
 use Rattle.laws.specs.Tests.{every}
 use Rattle.rules.specs.Terms.{input}
 use Rattle.rules.specs.Faults.{Fault, fault}
-use Rattle.listing.specs.Checking.{checkRefusals}
+use Rattle.listing.specs.Checking.{checkRefusals, offsetAt}
 use Rattle.cases.specs.Cases.{account, faulty, refuses, untold, holds, bytesOf, example}
 use Rattle.cases.specs.EachRule.{with}
 
@@ -20,7 +21,15 @@ breaks field rules = holds (faulty 300 20240304 (with field) (map (fault 3) rule
 
 -- a file's bytes, and the number of the refusal, 0 for none
 abbrev answers : ℕ → List ℕ → Bool
-answers k file = eqb (first (checkRefusals file (input 300 20240304) 0 0)) k
+answers k file = eqb (first (checkRefusals file (input 300 20240304) 0 0 0)) k
+
+-- .. with slices of these lengths lent
+abbrev lent : ℕ → ℕ → ℕ → ℕ → Bool
+lent k m n o = eqb (first (checkRefusals (bytesOf example) (input 300 20240304) m n o)) k
+
+-- what stands beside a fault at a line
+abbrev starts : List ℕ → ℕ → ℕ → Bool
+starts file line k = eqb (offsetAt file (fault line 1)) k
 
 abbrev mark : List ℕ
 mark = 0x1A ∷ []
@@ -97,4 +106,16 @@ requested =
     holds (refuses (headed "97" "0000017" "0000000") 1 1 7 14) ∷
     holds (refuses (headed "97" "0000017" "0000000") 9 1 7 13) ∷
     holds (refuses (headed "96" "0000017" "0000000") 1 2 7 12) ∷
-    holds (refuses (headed "98" "0000017" "0000990") 1 1 7 12) ∷ []
+    holds (refuses (headed "98" "0000017" "0000990") 1 1 7 12) ∷
+    -- A11: 'the offset of the line's first byte', of the lines of the example's faults, and of two empty lines and a rest
+    starts (bytesOf example) 1 0 ∷
+    starts (bytesOf example) 3 75 ∷
+    starts (bytesOf example) 4 91 ∷
+    starts (ascii "\r\n\r\nx" ++ mark) 1 0 ∷
+    starts (ascii "\r\n\r\nx" ++ mark) 2 2 ∷
+    starts (ascii "\r\n\r\nx" ++ mark) 3 4 ∷
+    -- 'Refusal 4 now covers three slices'
+    lent 4 1 1 0 ∷
+    lent 4 1 0 1 ∷
+    lent 4 0 1 1 ∷
+    lent 0 1 1 1 ∷ []

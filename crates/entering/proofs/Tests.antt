@@ -74,23 +74,23 @@ module _ (register file : List ℕ) (code day : ℕ) (before : List ℕ) where
     pub refused-by : (u : Unchecked) → c ≡ Refused u → Enters register file code day before (RefusedBy u) before
     refused-by u e =
         refused (RefusedBy u)
-        (sym (first-here (checkRefusals file (input code day) 0 0) ((23 if not (isRegister register)) ∷ from-24) (uncheckedNumber u) (sym (sym (ap checkedNumber e) ∙ C .number)) (some-number u)))
+        (sym (first-here (checkRefusals file (input code day) 0 0 0) ((23 if not (isRegister register)) ∷ from-24) (uncheckedNumber u) (sym (sym (ap checkedNumber e) ∙ C .number)) (some-number u)))
         (some-number u) (λ old. refl)
 
     module _ (n : ℕ) (e : c ≡ Total n) where
-      none : first (checkRefusals file (input code day) 0 0) ≡ 0
+      none : first (checkRefusals file (input code day) 0 0 0) ≡ 0
       none = sym (sym (ap checkedNumber e) ∙ C .number)
 
       pub total-is : n ≡ length (faults (input code day) file)
       total-is =
           sym (ap (λ (c : Checked). checkedOr c 0) e) ∙ C .total 0
-          ∙ ap (λ (b : Bool). cond b (length (faults (input code day) file)) 0) (eq-eqb (first (checkRefusals file (input code day) 0 0)) 0 none)
+          ∙ ap (λ (b : Bool). cond b (length (faults (input code day) file)) 0) (eq-eqb (first (checkRefusals file (input code day) 0 0 0)) 0 none)
 
       pub not-long : length file ≤ 10000000
-      not-long = ltb-false 10000000 (length file) (none-applies (checkRefusals file (input code day) 0 0) tt none .1 .1 .0)
+      not-long = ltb-false 10000000 (length file) (none-applies (checkRefusals file (input code day) 0 0 0) tt none .1 .1 .0)
 
       past : refusal ≡ first ((23 if not (isRegister register)) ∷ from-24)
-      past = first-past (checkRefusals file (input code day) 0 0) ((23 if not (isRegister register)) ∷ from-24) tt none
+      past = first-past (checkRefusals file (input code day) 0 0 0) ((23 if not (isRegister register)) ∷ from-24) tt none
 
       pub not-register : isRegister register ≡ false → Enters register file code day before NotRegister before
       not-register a = refused NotRegister (sym (past ∙ ap (λ (b : Bool). first ((23 if not b) ∷ from-24)) a)) (omega arith) (λ old. refl)

@@ -32,7 +32,7 @@ usesRefusals g us day room =
 -- 'checking's own; 23, not a well-formed register; 24, its code differs; 25, day before its latest; 26, the file has faults', and the above
 abbrev pub enterRefusals : List ℕ → List ℕ → ℕ → ℕ → ℕ → List Refusal
 enterRefusals register file code day room =
-    checkRefusals file (input code day) 0 0 ++
+    checkRefusals file (input code day) 0 0 0 ++
     ((23 if not (isRegister register)) ∷
     (24 if not (eqb (registerOf register .code) code)) ∷
     (25 if ltb day (registerOf register .latest)) ∷

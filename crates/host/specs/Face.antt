@@ -10,7 +10,7 @@ use Rattle.laws.specs.Refusals.{first}
 use Rattle.figures.specs.Accounts.{accountRefusals, halvesOf, prefixAnswer, numberAnswer}
 use Rattle.rules.specs.Terms.{input}
 use Rattle.rules.specs.Faults.{Fault, faults}
-use Rattle.listing.specs.Checking.{checkRefusals, slicesAfter}
+use Rattle.listing.specs.Checking.{checkRefusals, slicesAfter, offsetAt}
 use Rattle.outcomes.specs.Deriving.{tellRefusals, outgoingKind, recipient, deriveRefusals, derivedTarget}
 use Rattle.sheet.specs.Posting.{openRefusals, opened, postRefusals, posted}
 use Rattle.register.specs.Register.{registerOf}
@@ -23,15 +23,16 @@ storedAt refusal value before = cond (eqb refusal 0) value before
 
 -- certis_total: the refusal or 0, and the true total
 pub record TotalAt (file : List ℕ) (code day before r after : ℕ) : Type 0 where
-  pub number : r ≡ first (checkRefusals file (input code day) 0 0)
+  pub number : r ≡ first (checkRefusals file (input code day) 0 0 0)
   pub total : after ≡ storedAt r (length (faults (input code day) file)) before
 
--- certis_check: the same with two lent slices, and these
-pub record CheckedAt (file : List ℕ) (code day : ℕ) (ls₀ rs₀ : List ℕ) (before r : ℕ) (ls rs : List ℕ) (after : ℕ) : Type 0 where
-  pub number : r ≡ first (checkRefusals file (input code day) (length ls₀) (length rs₀))
+-- certis_check: the same with three lent slices, and these
+pub record CheckedAt (file : List ℕ) (code day : ℕ) (ls₀ rs₀ ps₀ : List ℕ) (before r : ℕ) (ls rs ps : List ℕ) (after : ℕ) : Type 0 where
+  pub number : r ≡ first (checkRefusals file (input code day) (length ls₀) (length rs₀) (length ps₀))
   pub total : after ≡ storedAt r (length (faults (input code day) file)) before
   pub lines : ls ≡ slicesAfter r (λ (f : Fault). f .line) (faults (input code day) file) ls₀
   pub rules : rs ≡ slicesAfter r (λ (f : Fault). f .rule) (faults (input code day) file) rs₀
+  pub offsets : ps ≡ slicesAfter r (offsetAt file) (faults (input code day) file) ps₀
 
 -- certis_tell: the refusal or 0, the outgoing type and the recipient's code
 pub record ToldAt (s : List ℕ) (o p kind₀ code₀ r kind₁ code₁ : ℕ) : Type 0 where

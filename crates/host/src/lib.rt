@@ -71,11 +71,12 @@ pub extern "C" fn certis_check(
     day: u32,
     lines: &mut [u32],
     rules: &mut [u32],
+    offsets: &mut [u32],
     total: &mut u64,
 ) -> u32
-    ensures { λ r. ⌜ CheckedAt (now (file .entry)) code day (now (lines .entry)) (now (rules .entry)) (now (total .entry)) r (now (lines .exit)) (now (rules .exit)) (now (total .exit)) ⌝ }
+    ensures { λ r. ⌜ CheckedAt (now (file .entry)) code day (now (lines .entry)) (now (rules .entry)) (now (offsets .entry)) (now (total .entry)) r (now (lines .exit)) (now (rules .exit)) (now (offsets .exit)) (now (total .exit)) ⌝ }
 {
-    let answer = checking::check(file, code, day, lines, rules);
+    let answer = checking::check(file, code, day, lines, rules, offsets);
     leave_total(answer, total)
 }
 

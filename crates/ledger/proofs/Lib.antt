@@ -6,5 +6,6 @@ pub mod Pairs
 pub mod Opening
 pub mod Placing
 pub mod Putting
+pub mod Beside
 pub mod Entering
 pub mod Book

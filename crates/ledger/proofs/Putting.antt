@@ -20,7 +20,7 @@ take-min (suc m) zero l = rw min-zero
 take-min (suc m) (suc n) [] = rw suc-min-suc
 take-min (suc m) (suc n) (a ∷ l) = rw suc-min-suc (ap (λ (t : List Fault). a ∷ t) (take-min m n l))
 
-drop-take : (p n : ℕ) (l : List Fault) → drop p (take n l) ≡ take (n - p) (drop p l)
+pub drop-take : {A : Type 0} (p n : ℕ) (l : List A) → drop p (take n l) ≡ take (n - p) (drop p l)
 drop-take zero n l = let e : n - 0 ≡ n = omega arith in rw e
 drop-take (suc p) zero l = let e : 0 - suc p ≡ 0 = omega arith in rw e
 drop-take (suc p) (suc n) [] = sym (take-nil (suc n - suc p))
@@ -103,7 +103,8 @@ put-none n ls rs R = record {
   ready = R;
 }
 
-after : (n n′ : ℕ) (a b : List ℕ) → n ≤ n′ → drop n a ≡ drop n b → drop n′ a ≡ drop n′ b
+-- what stands after a place stands after a later one
+pub after : (n n′ : ℕ) (a b : List ℕ) → n ≤ n′ → drop n a ≡ drop n b → drop n′ a ≡ drop n′ b
 after n n′ a b h e =
     let k : n′ ≡ n + (n′ - n) = omega arith in
     ap (λ (i : ℕ). drop i a) k ∙ sym (drop-drop (n′ - n) n a) ∙ ap (drop (n′ - n)) e ∙ drop-drop (n′ - n) n b ∙ ap (λ (i : ℕ). drop i b) (sym k)

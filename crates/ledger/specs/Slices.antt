@@ -1,8 +1,8 @@
 -- Model of the code, not part of the statement: what two lent slices, for line numbers and rule numbers, hold of the list of faults while
--- the code enters them.
+-- the code enters them, and a third one beside them.
 use Prim.Native.Nat.{ℕ, suc, _+_, _-_, _≤_, min}
 use mathlib.Core.Path.{_≡_}
-use mathlib.Core.List.{List, [], _∷_, _++_, zipWith}
+use mathlib.Core.List.{List, [], _∷_, _++_, map, zipWith}
 use lib.ListN.{length, take, drop}
 use Rattle.rules.specs.Faults.{Fault, fault, written}
 use Rattle.ledger.specs.declared.Ledger.{Ledger}
@@ -46,9 +46,21 @@ pub record Entered (xs : List Fault) (g : Ledger) (ls rs : List ℕ) (g′ : Led
   pub put : Put xs (g .kept) ls rs (g′ .kept) ls′ rs′
   pub sum : g′ .total ≡ g .total + length xs
 
--- the slices hold the list as far as it fits, and 'the total is the true total all the same' (the mission, demand 3)
-pub record Listed (all : List Fault) (ls₀ rs₀ : List ℕ) (g : Ledger) (ls rs : List ℕ) : Type 0 where
+-- a third slice, that came as ps₀: its first n places hold what a function of lines gives for the lines beside them
+pub record Beside (off : ℕ → ℕ) (ps₀ : List ℕ) (n : ℕ) (ls ps : List ℕ) : Type 0 where
+  pub first : take n ps ≡ map off (take n ls)
+  pub after : drop n ps ≡ drop n ps₀
+  pub long : length ps ≡ length ps₀
+
+-- it stays so, for every function of which this is given
+abbrev pub Kept : ((ℕ → ℕ) → Type 0) → ℕ → List ℕ → List ℕ → ℕ → List ℕ → List ℕ → Type 0
+Kept given n ls ps n′ ls′ ps′ = (off : ℕ → ℕ) (ps₀ : List ℕ) → given off → Beside off ps₀ n ls ps → Beside off ps₀ n′ ls′ ps′
+
+-- the slices hold the list as far as it fits, beside each fault what a function gives for its line, and 'the total is the true total all
+-- the same' (the mission, demand 3)
+pub record Listed (off : ℕ → ℕ) (all : List Fault) (ls₀ rs₀ ps₀ : List ℕ) (g : Ledger) (ls rs ps : List ℕ) : Type 0 where
   pub lines : ls ≡ written (λ (f : Fault). f .line) all ls₀
   pub rules : rs ≡ written (λ (f : Fault). f .rule) all rs₀
+  pub offsets : ps ≡ written (λ (f : Fault). off (f .line)) all ps₀
   pub kept : g .kept ≡ min (length ls₀) (length all)
   pub total : g .total ≡ length all

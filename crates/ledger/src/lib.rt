@@ -1,14 +1,14 @@
-// The list of faults, in two lent slices of equal length: line numbers and rule numbers, in the order of lines and, at one
-// line, of rules. It promises that the slices hold the first pairs that fit, wherever they come from, that places after the
-// last pair keep what they held, and that the total counts every pair. It names no rule: what a fault is stands in `rules`, and its
-// laws on `laws`.
+// The list of faults, in three lent slices of equal length: line numbers, rule numbers and the offsets of the lines, in the order of
+// lines and, at one line, of rules. It promises that the slices hold the first pairs that fit, wherever they come from, beside each its
+// line's offset, that places after the last pair keep what they held, and that the total counts every pair. It names no rule: what a
+// fault is stands in `rules`, and its laws on `laws`.
 ghost use mathlib.Core.Path.{_≡_};
 ghost use mathlib.Core.List.{[], _∷_, _++_};
 ghost use Prim.Native.Nat.{_+_, _-_, _*_, _^_, _<_, _≤_, min};
 ghost use lib.ListN.{length, take, drop};
 ghost use Rattle.rules.specs.Faults.{fault};
 ghost use Rattle.ledger.specs.Marks.{insert, marked};
-ghost use Rattle.ledger.specs.Slices.{opened, held, Ready, Put, Entered};
+ghost use Rattle.ledger.specs.Slices.{opened, held, Ready, Put, Entered, Kept};
 
 // How many pairs the slices hold, and how many faults there are in all.
 pub struct Ledger {
@@ -71,10 +71,20 @@ fn last_of(n: usize, room: usize) -> usize
     if n == room { n - 1 } else { n }
 }
 
-// Keeps one fault more, if it is among the first that fit.
-fn keep(lines: &mut [u32], rules: &mut [u32], n: usize, line: u32, rule: u32) -> usize
+// Keeps one fault more, if it is among the first that fit; its line's offset is `at`.
+fn keep(
+    lines: &mut [u32],
+    rules: &mut [u32],
+    offsets: &mut [u32],
+    n: usize,
+    line: u32,
+    rule: u32,
+    at: u32,
+) -> usize
     requires { ⌜ Ready n (now lines) (now rules) ⌝ }
-    ensures { λ r. ⌜ Put (fault line rule ∷ []) n (now (lines .entry)) (now (rules .entry)) r (now (lines .exit)) (now (rules .exit)) ⌝ }
+    requires { ⌜ length (now lines) ≡ length (now offsets) ⌝ }
+    ensures put { λ r. ⌜ Put (fault line rule ∷ []) n (now (lines .entry)) (now (rules .entry)) r (now (lines .exit)) (now (rules .exit)) ⌝ }
+    ensures placed { λ r. ⌜ Kept (λ off. off line ≡ at) n (now (lines .entry)) (now (offsets .entry)) r (now (lines .exit)) (now (offsets .exit)) ⌝ }
 {
     let room = lines.len();
     let p = place(lines, rules, n, line, rule);
@@ -84,15 +94,26 @@ fn keep(lines: &mut [u32], rules: &mut [u32], n: usize, line: u32, rule: u32) ->
     let last = last_of(n, room);
     open_at(lines, p, last, line);
     open_at(rules, p, last, rule);
+    open_at(offsets, p, last, at);
     last + 1
 }
 
-// Enters the rules of a set of marks at a line; the empty set enters nothing.
-pub fn enter(lines: &mut [u32], rules: &mut [u32], g: Ledger, line: u32, marks: u64) -> Ledger
+// Enters the rules of a set of marks at a line whose offset is `at`; the empty set enters nothing.
+pub fn enter(
+    lines: &mut [u32],
+    rules: &mut [u32],
+    offsets: &mut [u32],
+    g: Ledger,
+    line: u32,
+    at: u32,
+    marks: u64,
+) -> Ledger
     requires { ⌜ Ready (g .kept) (now lines) (now rules) ⌝ }
+    requires { ⌜ length (now lines) ≡ length (now offsets) ⌝ }
     requires { ⌜ g .total < 2 ^ 63 ⌝ }
     ensures entered { λ r. ⌜ Entered (marked line marks) g (now (lines .entry)) (now (rules .entry)) r (now (lines .exit)) (now (rules .exit)) ⌝ }
     ensures few { λ r. ⌜ r .total ≤ g .total + 64 ⌝ }
+    ensures placed { λ r. ⌜ Kept (λ off. off line ≡ at) (g .kept) (now (lines .entry)) (now (offsets .entry)) (r .kept) (now (lines .exit)) (now (offsets .exit)) ⌝ }
 {
     let mut kept = g.kept;
     let mut m = marks;
@@ -101,7 +122,7 @@ pub fn enter(lines: &mut [u32], rules: &mut [u32], g: Ledger, line: u32, marks: 
     }
     while m != 0 {
         let rule = u64::trailing_zeros(m);
-        kept = keep(lines, rules, kept, line, rule);
+        kept = keep(lines, rules, offsets, kept, line, rule, at);
         m = m & (m - 1);
     }
     let size = u64::count_ones(marks) as u64;

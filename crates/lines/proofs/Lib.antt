@@ -5,3 +5,4 @@ pub mod Reading
 pub mod Words
 pub mod Joining
 pub mod Searching
+pub mod Offsets

@@ -5,7 +5,7 @@ use mathlib.Core.List.{List, [], _∷_}
 use Prim.Native.Nat.{ℕ, suc, _+_, _<_, _≤_}
 use native.Mathlib.Omega.{arith}
 use lib.ListN.{length, take, drop, drop-of-length-le}
-use Rattle.lines.specs.Lines.{isByte, Line, crlf, onto, lines}
+use Rattle.lines.specs.Lines.{isByte, Line, crlf, onto, lines, taken}
 
 pub lines-none : lines [] ≡ []
 unfolding lines
@@ -41,10 +41,6 @@ crlf-not b [] e = refl
 crlf-not b (c ∷ s) e = rw e
 
 -- ---- the first line
-
--- how many bytes a line takes, its CR LF included
-abbrev pub taken : Line → ℕ
-taken l = length (l .bytes) + cond (l .ended) 2 0
 
 -- bytes of which there is one at least have a first line: their front; what stands after it has the others
 pub record Cut (s : List ℕ) : Type 0 where

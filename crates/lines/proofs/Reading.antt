@@ -14,9 +14,9 @@ use Rattle.laws.specs.Lists.{anyOf}
 use Rattle.laws.proofs.Any.{or-left, or-right}
 use Rattle.text.specs.Characters.{isPlain, isOdd}
 use Rattle.lines.specs.declared.Found.{Found}
-use Rattle.lines.specs.Lines.{isByte, Line, crlf, onto, lines}
+use Rattle.lines.specs.Lines.{isByte, Line, crlf, onto, lines, taken}
 use Rattle.lines.specs.Reading.{restTo, firstAt, after, lineAt, span, IsNext}
-use Rattle.lines.proofs.Lines.{lines-past, lines-cut, lines-on, crlf-short, crlf-not, taken, Cut, cut}
+use Rattle.lines.proofs.Lines.{lines-past, lines-cut, lines-on, crlf-short, crlf-not, Cut, cut}
 
 -- ---- CR LF at a place
 

@@ -1,10 +1,10 @@
 -- The lines of a file, as document 01 says them ('Lines, fields, items, blocks'): 'Only bytes before the first 1A are read. They
 -- are cut at each CR LF; a non-empty rest is a last line. Lines count from 1.' A CR or LF alone is a byte of its line.
-use Prim.Native.Nat.{ℕ}
+use Prim.Native.Nat.{ℕ, _+_, _-_}
 use mathlib.Core.Bool.{Bool, true, false, cond, _&&_}
 use mathlib.Core.List.{List, [], _∷_}
 use lib.Dec.{ltb, eqb}
-use lib.ListN.{length}
+use lib.ListN.{length, take}
 use Rattle.laws.specs.Lists.{anyOf}
 
 -- x is the byte b
@@ -55,3 +55,16 @@ unfoldable pub lines : List ℕ → List Line
 lines [] = []
 lines (b ∷ []) = onto b []
 lines (b ∷ c ∷ s) = cond (crlf (b ∷ c ∷ s)) (record { bytes = []; ended = true } ∷ lines s) (onto b (lines (c ∷ s)))
+
+-- how many bytes a line takes, its CR LF included
+abbrev pub taken : Line → ℕ
+taken l = length (l .bytes) + cond (l .ended) 2 0
+
+-- how many some lines take together
+unfoldable pub takenBy : List Line → ℕ
+takenBy [] = 0
+takenBy (l ∷ ls) = taken l + takenBy ls
+
+-- 'the offset of the line's first byte' (A11): what the lines above it take
+unfoldable pub offsetOf : List ℕ → ℕ → ℕ
+offsetOf s n = takenBy (take (n - 1) (lines s))

@@ -2,13 +2,13 @@
 use Prim.Native.Nat.{ℕ, suc, _+_, _≤_, _<_}
 use native.Mathlib.Omega.{arith}
 use mathlib.Core.Path.{_≡_, refl, sym, ap, _∙_}
-use mathlib.Core.Bool.{true, false, not}
+use mathlib.Core.Bool.{Bool, true, false, not, _&&_, true≢false}
 use mathlib.Core.List.{List}
 use lib.Dec.{ltb, eqb}
 use lib.ListN.{length, take}
-use borrow.Author.Tests.{lt-ltb, le-ltb, eq-eqb, ne-eqb}
+use borrow.Author.Tests.{lt-ltb, le-ltb, eq-eqb, ne-eqb, eqb-true}
 use Rattle.laws.specs.Refusals.{first}
-use Rattle.lines.specs.Lines.{body, hasMark, hasLeftovers, startsWithMark}
+use Rattle.lines.specs.Lines.{body, hasMark, hasLeftovers, startsWithMark, offsetOf}
 use Rattle.lines.proofs.Body.{body-take, body-shorter, leftovers-long, body-empty}
 use Rattle.rules.specs.Terms.{Terms}
 use Rattle.rules.specs.Faults.{faults, faultsIn}
@@ -18,39 +18,45 @@ use Rattle.listing.specs.declared.checking.Checked.{Checked}
 use Rattle.listing.specs.declared.checking.Checked.the-variants.{Total, Refused}
 use Rattle.listing.specs.declared.checking.Unchecked.{Unchecked}
 use Rattle.listing.specs.declared.checking.Unchecked.the-variants.{BadCode, BadDay, TooLong, UnequalRooms, NoMark, Leftovers, StartsWithMark}
-use Rattle.listing.specs.Checking.{isCode, isAccountingDay, checkRefusals, uncheckedNumber, checkedNumber, checkedOr, Checks}
+use Rattle.listing.specs.Checking.{isCode, isAccountingDay, areLevel, checkRefusals, uncheckedNumber, checkedNumber, checkedOr, Checks}
 
-module _ (file : List ℕ) (terms : Terms) (ls rs : List ℕ) where
+-- lengths that are level are equal
+pub level : (m n k : ℕ) → not (areLevel m n k) ≡ false → (m ≡ n) × (m ≡ k)
+level m n k e = go (eqb m n) refl (eqb m k) refl e
+  where
+    go : (a : Bool) → eqb m n ≡ a → (b : Bool) → eqb m k ≡ b → not (a && b) ≡ false → (m ≡ n) × (m ≡ k)
+    go true ea true eb e = (eqb-true m n ea, eqb-true m k eb)
+    go true ea false eb e = absurd (true≢false e)
+    go false ea b eb e = absurd (true≢false e)
+
+module _ (file : List ℕ) (terms : Terms) (ls rs ps : List ℕ) where
   abbrev refusal : ℕ
-  refusal = first (checkRefusals file terms (length ls) (length rs))
+  refusal = first (checkRefusals file terms (length ls) (length rs) (length ps))
 
   -- a refusal leaves all as it was
-  refused : (u : Unchecked) → uncheckedNumber u ≡ refusal → eqb refusal 0 ≡ false → Checks file terms ls rs (Refused u) ls rs
-  refused u e z = record { number = e; total = λ old. rw z; lines = rw z; rules = rw z }
+  refused : (u : Unchecked) → uncheckedNumber u ≡ refusal → eqb refusal 0 ≡ false → Checks file terms ls rs ps (Refused u) ls rs ps
+  refused u e z = record { number = e; total = λ old. rw z; lines = rw z; rules = rw z; offsets = rw z }
 
-  pub bad-code : not (isCode (terms .code .0)) ≡ true → Checks file terms ls rs (Refused BadCode) ls rs
+  pub bad-code : not (isCode (terms .code .0)) ≡ true → Checks file terms ls rs ps (Refused BadCode) ls rs ps
   bad-code a = refused BadCode (rw a) (rw a)
 
   module _ (a : not (isCode (terms .code .0)) ≡ false) where
-    pub bad-day : not (isAccountingDay (terms .today)) ≡ true → Checks file terms ls rs (Refused BadDay) ls rs
+    pub bad-day : not (isAccountingDay (terms .today)) ≡ true → Checks file terms ls rs ps (Refused BadDay) ls rs ps
     bad-day b = refused BadDay (rw (a, b)) (rw (a, b))
 
     module _ (b : not (isAccountingDay (terms .today)) ≡ false) where
-      pub too-long : 10000000 < length file → Checks file terms ls rs (Refused TooLong) ls rs
+      pub too-long : 10000000 < length file → Checks file terms ls rs ps (Refused TooLong) ls rs ps
       too-long h = let c = lt-ltb 10000000 (length file) h in refused TooLong (rw (a, b, c)) (rw (a, b, c))
 
       module _ (h : length file ≤ 10000000) where
         c : ltb 10000000 (length file) ≡ false
         c = le-ltb 10000000 (length file) h
 
-        pub unequal-rooms : (length ls ≡ length rs → ⊥) → Checks file terms ls rs (Refused UnequalRooms) ls rs
-        unequal-rooms n = let d = ne-eqb (length ls) (length rs) n in refused UnequalRooms (rw (a, b, c, d)) (rw (a, b, c, d))
+        pub unequal-rooms : not (areLevel (length ls) (length rs) (length ps)) ≡ true → Checks file terms ls rs ps (Refused UnequalRooms) ls rs ps
+        unequal-rooms d = refused UnequalRooms (rw (a, b, c, d)) (rw (a, b, c, d))
 
-        module _ (e : length ls ≡ length rs) where
-          d : eqb (length ls) (length rs) ≡ true
-          d = eq-eqb (length ls) (length rs) e
-
-          pub no-mark : (n : ℕ) → n ≡ length (body file) → length file ≤ n → Checks file terms ls rs (Refused NoMark) ls rs
+        module _ (d : not (areLevel (length ls) (length rs) (length ps)) ≡ false) where
+          pub no-mark : (n : ℕ) → n ≡ length (body file) → length file ≤ n → Checks file terms ls rs ps (Refused NoMark) ls rs ps
           no-mark n q k =
               let m : hasMark file ≡ false = sym (body-shorter file) ∙ le-ltb (length (body file)) (length file) (omega arith) in
               refused NoMark (rw (a, b, c, d, m)) (rw (a, b, c, d, m))
@@ -59,7 +65,7 @@ module _ (file : List ℕ) (terms : Terms) (ls rs : List ℕ) where
             m : hasMark file ≡ true
             m = sym (body-shorter file) ∙ lt-ltb (length (body file)) (length file) (omega arith)
 
-            pub leftovers : n + 1 < length file → Checks file terms ls rs (Refused Leftovers) ls rs
+            pub leftovers : n + 1 < length file → Checks file terms ls rs ps (Refused Leftovers) ls rs ps
             leftovers h =
                 let t : hasLeftovers file ≡ true = sym (leftovers-long file) ∙ lt-ltb (suc (length (body file))) (length file) (omega arith) in
                 refused Leftovers (rw (a, b, c, d, m, t)) (rw (a, b, c, d, m, t))
@@ -68,7 +74,7 @@ module _ (file : List ℕ) (terms : Terms) (ls rs : List ℕ) where
               t : hasLeftovers file ≡ false
               t = sym (leftovers-long file) ∙ le-ltb (suc (length (body file))) (length file) (omega arith)
 
-              pub starts-with-mark : n ≡ 0 → Checks file terms ls rs (Refused StartsWithMark) ls rs
+              pub starts-with-mark : n ≡ 0 → Checks file terms ls rs ps (Refused StartsWithMark) ls rs ps
               starts-with-mark z =
                   let s : startsWithMark file ≡ true = body-empty file ∙ rw (eq-eqb (length (body file)) 0 (omega arith), m) in
                   refused StartsWithMark (rw (a, b, c, d, m, t, s)) (rw (a, b, c, d, m, t, s))
@@ -76,9 +82,9 @@ module _ (file : List ℕ) (terms : Terms) (ls rs : List ℕ) where
               pub body-is : take n file ≡ body file
               body-is = rw q (body-take file)
 
-              pub checked : (n ≡ 0 → ⊥) → {g : Ledger} {ls′ rs′ : List ℕ} → Listed (faultsIn terms (take n file)) ls rs g ls′ rs′ → Checks file terms ls rs (Total (g .total)) ls′ rs′
+              pub checked : (n ≡ 0 → ⊥) → {g : Ledger} {ls′ rs′ ps′ : List ℕ} → Listed (offsetOf (take n file)) (faultsIn terms (take n file)) ls rs ps g ls′ rs′ ps′ → Checks file terms ls rs ps (Total (g .total)) ls′ rs′ ps′
               unfolding faults
-              checked z {g} {ls′} {rs′} L =
+              checked z {g} {ls′} {rs′} {ps′} L =
                   let s : startsWithMark file ≡ false = body-empty file ∙ rw (ne-eqb (length (body file)) 0 (λ e. z (omega arith))) in
                   let o : refusal ≡ 0 = rw (a, b, c, d, m, t, s) in
                   let f : faultsIn terms (take n file) ≡ faultsIn terms (body file) = ap (faultsIn terms) body-is in
@@ -87,4 +93,5 @@ module _ (file : List ℕ) (terms : Terms) (ls rs : List ℕ) where
                     total = λ old. L .total ∙ ap length f ∙ (rw o refl);
                     lines = L .lines ∙ rw (f, o);
                     rules = L .rules ∙ rw (f, o);
+                    offsets = L .offsets ∙ rw (f, o, body-is);
                   }

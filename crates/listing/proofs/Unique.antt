@@ -46,10 +46,11 @@ told (Refused u) =
     ap (λ (b : Bool). cond b (Total 0) (Refused (refusalOf (uncheckedNumber u)))) (ne-eqb (uncheckedNumber u) 0 (λ e. omega (arith, e, some-number u)))
     ∙ ap Refused (refusal-told u)
 
-pub check-unique : {file : List ℕ} {terms : Terms} {ls₀ rs₀ : List ℕ} {r r′ : Checked} {ls ls′ rs rs′ : List ℕ} → Checks file terms ls₀ rs₀ r ls rs → Checks file terms ls₀ rs₀ r′ ls′ rs′
-    → (r ≡ r′) × (ls ≡ ls′) × (rs ≡ rs′)
+pub check-unique : {file : List ℕ} {terms : Terms} {ls₀ rs₀ ps₀ : List ℕ} {r r′ : Checked} {ls ls′ rs rs′ ps ps′ : List ℕ} → Checks file terms ls₀ rs₀ ps₀ r ls rs ps
+    → Checks file terms ls₀ rs₀ ps₀ r′ ls′ rs′ ps′ → (r ≡ r′) × (ls ≡ ls′) × (rs ≡ rs′) × (ps ≡ ps′)
 check-unique {r} {r′} C D = (
   sym (told r) ∙ (λ i. answerOf ((C .number ∙ sym (D .number)) i) ((C .total 0 ∙ sym (D .total 0)) i)) ∙ told r′,
   C .lines ∙ sym (D .lines),
   C .rules ∙ sym (D .rules),
+  C .offsets ∙ sym (D .offsets),
 )

@@ -7,7 +7,7 @@ use lib.Dec.{leb, ltb, eqb}
 use lib.ListN.{length}
 use Rattle.laws.specs.Refusals.{Refusal, _if_, first}
 use Rattle.days.specs.Days.{isReal}
-use Rattle.lines.specs.Lines.{hasMark, hasLeftovers, startsWithMark}
+use Rattle.lines.specs.Lines.{hasMark, hasLeftovers, startsWithMark, body, offsetOf}
 use Rattle.rules.specs.Terms.{Terms}
 use Rattle.rules.specs.Faults.{Fault, written, faults}
 use Rattle.listing.specs.declared.checking.Unchecked.{Unchecked}
@@ -22,13 +22,17 @@ isCode code = leb 1 code && leb code 9999
 abbrev pub isAccountingDay : ℕ → Bool
 isAccountingDay day = isReal day && (leb 20000101 day && leb day 20991231)
 
--- of a file, its terms, and the lengths of the two slices
-abbrev pub checkRefusals : List ℕ → Terms → ℕ → ℕ → List Refusal
-checkRefusals file terms m n =
+-- the three slices have one length (if not: refusal 4)
+abbrev pub areLevel : ℕ → ℕ → ℕ → Bool
+areLevel m n k = eqb m n && eqb m k
+
+-- of a file, its terms, and the lengths of the three slices
+abbrev pub checkRefusals : List ℕ → Terms → ℕ → ℕ → ℕ → List Refusal
+checkRefusals file terms m n k =
     (1 if not (isCode (terms .code .0))) ∷
     (2 if not (isAccountingDay (terms .today))) ∷
     (3 if ltb 10000000 (length file)) ∷
-    (4 if not (eqb m n)) ∷
+    (4 if not (areLevel m n k)) ∷
     (5 if not (hasMark file)) ∷
     (9 if hasLeftovers file) ∷
     (6 if startsWithMark file) ∷ []
@@ -56,14 +60,19 @@ checkedOr (Refused u) old = old
 abbrev pub slicesAfter : ℕ → (Fault → ℕ) → List Fault → List ℕ → List ℕ
 slicesAfter refusal part all before = cond (eqb refusal 0) (written part all before) before
 
--- what checking answers, and the two slices after
-pub record Checks (file : List ℕ) (terms : Terms) (ls₀ rs₀ : List ℕ) (r : Checked) (ls rs : List ℕ) : Type 0 where
-  pub number : checkedNumber r ≡ first (checkRefusals file terms (length ls₀) (length rs₀))
-  pub total : (old : ℕ) → checkedOr r old ≡ cond (eqb (first (checkRefusals file terms (length ls₀) (length rs₀))) 0) (length (faults terms file)) old
-  pub lines : ls ≡ slicesAfter (first (checkRefusals file terms (length ls₀) (length rs₀))) (λ (f : Fault). f .line) (faults terms file) ls₀
-  pub rules : rs ≡ slicesAfter (first (checkRefusals file terms (length ls₀) (length rs₀))) (λ (f : Fault). f .rule) (faults terms file) rs₀
+-- 'the offset of the line's first byte' (A11): of the line at which the fault is
+abbrev pub offsetAt : List ℕ → Fault → ℕ
+offsetAt file f = offsetOf (body file) (f .line)
+
+-- what checking answers, and the three slices after
+pub record Checks (file : List ℕ) (terms : Terms) (ls₀ rs₀ ps₀ : List ℕ) (r : Checked) (ls rs ps : List ℕ) : Type 0 where
+  pub number : checkedNumber r ≡ first (checkRefusals file terms (length ls₀) (length rs₀) (length ps₀))
+  pub total : (old : ℕ) → checkedOr r old ≡ cond (eqb (first (checkRefusals file terms (length ls₀) (length rs₀) (length ps₀))) 0) (length (faults terms file)) old
+  pub lines : ls ≡ slicesAfter (first (checkRefusals file terms (length ls₀) (length rs₀) (length ps₀))) (λ (f : Fault). f .line) (faults terms file) ls₀
+  pub rules : rs ≡ slicesAfter (first (checkRefusals file terms (length ls₀) (length rs₀) (length ps₀))) (λ (f : Fault). f .rule) (faults terms file) rs₀
+  pub offsets : ps ≡ slicesAfter (first (checkRefusals file terms (length ls₀) (length rs₀) (length ps₀))) (offsetAt file) (faults terms file) ps₀
 
 -- .. with no slices lent
 pub record Totals (file : List ℕ) (terms : Terms) (r : Checked) : Type 0 where
-  pub number : checkedNumber r ≡ first (checkRefusals file terms 0 0)
-  pub total : (old : ℕ) → checkedOr r old ≡ cond (eqb (first (checkRefusals file terms 0 0)) 0) (length (faults terms file)) old
+  pub number : checkedNumber r ≡ first (checkRefusals file terms 0 0 0)
+  pub total : (old : ℕ) → checkedOr r old ≡ cond (eqb (first (checkRefusals file terms 0 0 0)) 0) (length (faults terms file)) old

@@ -1,8 +1,8 @@
 // The job at the counter: a file, the submitter's code and the accounting day are checked, and the first pairs of a line and a rule
-// broken there are written into two lent slices.
+// broken there are written into two lent slices, and the offset of the line into a third.
 ghost use mathlib.Core.Path.{_≡_};
 ghost use Rattle.rules.specs.Terms.{input};
-ghost use Rattle.listing.specs.Checking.{isCode, isAccountingDay, Checks, Totals, uncheckedNumber, checkedNumber, checkedOr};
+ghost use Rattle.listing.specs.Checking.{isCode, isAccountingDay, areLevel, Checks, Totals, uncheckedNumber, checkedNumber, checkedOr};
 
 // Checking's own refusals, which other jobs answer too.
 pub enum Unchecked {
@@ -34,8 +34,21 @@ fn is_accounting_day(day: u32) -> bool
     real & ((20000101 <= day) & (day <= 20991231))
 }
 
-pub fn check(file: &[u8], code: u32, day: u32, lines: &mut [u32], rules: &mut [u32]) -> Checked
-    ensures { λ r. ⌜ Checks (now (file .entry)) (input code day) (now (lines .entry)) (now (rules .entry)) r (now (lines .exit)) (now (rules .exit)) ⌝ }
+fn are_level(m: usize, n: usize, k: usize) -> bool
+    ensures { λ r. ⌜ r ≡ areLevel m n k ⌝ }
+{
+    (m == n) & (m == k)
+}
+
+pub fn check(
+    file: &[u8],
+    code: u32,
+    day: u32,
+    lines: &mut [u32],
+    rules: &mut [u32],
+    offsets: &mut [u32],
+) -> Checked
+    ensures { λ r. ⌜ Checks (now (file .entry)) (input code day) (now (lines .entry)) (now (rules .entry)) (now (offsets .entry)) r (now (lines .exit)) (now (rules .exit)) (now (offsets .exit)) ⌝ }
 {
     if !is_code(code) {
         return Checked::Refused(Unchecked::BadCode);
@@ -46,7 +59,7 @@ pub fn check(file: &[u8], code: u32, day: u32, lines: &mut [u32], rules: &mut [u
     if 10000000 < file.len() {
         return Checked::Refused(Unchecked::TooLong);
     }
-    if lines.len() != rules.len() {
+    if !are_level(lines.len(), rules.len(), offsets.len()) {
         return Checked::Refused(Unchecked::UnequalRooms);
     }
     let n = lines::body_len(file);
@@ -59,7 +72,7 @@ pub fn check(file: &[u8], code: u32, day: u32, lines: &mut [u32], rules: &mut [u
     if n == 0 {
         return Checked::Refused(Unchecked::StartsWithMark);
     }
-    let g = pass::enter_faults(&file[..n], code, day, lines, rules);
+    let g = pass::enter_faults(&file[..n], code, day, lines, rules, offsets);
     Checked::Total(g.total)
 }
 
@@ -69,7 +82,8 @@ pub fn total(file: &[u8], code: u32, day: u32) -> Checked
 {
     let mut lines = [0u32; 0];
     let mut rules = [0u32; 0];
-    check(file, code, day, &mut lines, &mut rules)
+    let mut offsets = [0u32; 0];
+    check(file, code, day, &mut lines, &mut rules, &mut offsets)
 }
 
 // Document 01's number of a refusal.

@@ -1,8 +1,8 @@
 // One forward pass over the lines of a body: no line is looked at again, and none ahead. A field is judged at its own line and entered
 // when the next heading or field comes, a heading when the next heading comes, and the first heading of a block when the block ends or the file does.
-// Promised by `enter_faults`, for every body of at most 10,000,000 bytes and two lent slices of equal length: the slices and the
-// total are those of `faultsIn` of `rules`. It judges no rule: lines, fields and items are judged by `judging`. The list stands in `ledger`,
-// the cut in `lines`, the table of characters in `text`.
+// Promised by `enter_faults`, for every body of at most 10,000,000 bytes and three lent slices of equal length: the slices and the
+// total are those of `faultsIn` of `rules`, beside each fault the offset of its line. It judges no rule: lines, fields and items are
+// judged by `judging`. The list stands in `ledger`, the cut in `lines`, the table of characters in `text`.
 use blocks::Basis;
 use blocks::Block;
 use fields::classes;
@@ -27,12 +27,14 @@ ghost use mathlib.Core.List.{_++_};
 ghost use Prim.Native.Nat.{_≤_, _<_, _^_};
 ghost use lib.Dec.{ltb};
 ghost use lib.ListN.{length, getD, set, replicate};
+ghost use Rattle.lines.specs.Lines.{offsetOf};
 ghost use Rattle.rules.specs.Terms.{input};
 ghost use Rattle.rules.specs.Faults.{faultsIn};
-ghost use Rattle.ledger.specs.Slices.{Ready, Entered, Listed};
+ghost use Rattle.ledger.specs.Slices.{Ready, Entered, Kept, Listed};
 ghost use Rattle.ledger.specs.Marks.{marked};
 ghost use Rattle.judging.specs.Closing.{lastMarks, closeAs, closeFaults};
 ghost use Rattle.judging.specs.Opening.{readAs, closeClaims};
+ghost use Rattle.pass.specs.Starts.{Stands, WaitsAt, startOf};
 
 // No identifier stood.
 fn unseen() -> [u32; 1296]
@@ -52,17 +54,37 @@ fn again(stood: &mut [u32; 1296], ident: usize, no: u32, since: u32) -> bool
     since < last
 }
 
+// Where the lines start that are not entered yet: that of the open field, of the open heading, and of the heading that waits.
+pub struct Starts {
+    pub field: u32,
+    pub head: u32,
+    pub wait: u32,
+}
+
 pub struct Closed {
     pub ledger: Ledger,
     pub block: Block,
     pub wait: Wait,
+    pub start: u32,
+}
+
+// Where the heading starts that waits when an item has closed: none (0), the item's own, or the one that waited.
+fn start_of(starts: Starts, line: u32, no: u32) -> u32
+    ensures { λ r. ⌜ r ≡ startOf starts line no ⌝ }
+{
+    if line == 0 {
+        return 0;
+    }
+    if line == no { starts.head } else { starts.wait }
 }
 
 // The open item closes, whose heading stands at the line `no` (0: none).
 fn shut_item(
     lines: &mut [u32],
     rules: &mut [u32],
+    offsets: &mut [u32],
     g: Ledger,
+    starts: Starts,
     basis: Basis,
     no: u32,
     own: u64,
@@ -72,19 +94,24 @@ fn shut_item(
     w: Wait,
 ) -> Closed
     requires { ⌜ Ready (g .kept) (now lines) (now rules) ⌝ }
+    requires { ⌜ length (now lines) ≡ length (now offsets) ⌝ }
     requires { ⌜ (g .total < 2 ^ 62) × (w .marks < 2 ^ 41) × (own ≤ 18) ⌝ }
     ensures { λ r. ⌜ Entered (closeFaults basis b w no own read claims) g (now (lines .entry)) (now (rules .entry)) (r .ledger) (now (lines .exit)) (now (rules .exit)) ⌝ }
     ensures { λ r. ⌜ (r .block ≡ closeAs basis b w no own read claims .block) × (r .wait ≡ closeAs basis b w no own read claims .wait) × (r .wait .marks < 2 ^ 41) ⌝ }
+    ensures { λ r. ⌜ Kept (λ off. Stands off starts no (w .line)) (g .kept) (now (lines .entry)) (now (offsets .entry)) (r .ledger .kept) (now (lines .exit)) (now (offsets .exit)) ⌝ }
+    ensures { λ r. ⌜ WaitsAt starts no (w .line) (r .wait .line) (r .start) ⌝ }
 {
     let c = closing::close_item(basis, b, w, no, own, read, claims);
     let block = c.block;
     let wait = c.wait;
-    let first = ledger::enter(lines, rules, g, w.line, c.told);
-    let ledger = ledger::enter(lines, rules, first, no, c.marks);
+    let start = start_of(starts, wait.line, no);
+    let first = ledger::enter(lines, rules, offsets, g, w.line, starts.wait, c.told);
+    let ledger = ledger::enter(lines, rules, offsets, first, no, starts.head, c.marks);
     Closed {
         ledger,
         block,
         wait,
+        start,
     }
 }
 
@@ -92,7 +119,9 @@ fn shut_item(
 fn shut_all(
     lines: &mut [u32],
     rules: &mut [u32],
+    offsets: &mut [u32],
     g: Ledger,
+    starts: Starts,
     basis: Basis,
     o: Open,
     p: Pend,
@@ -105,21 +134,39 @@ fn shut_all(
     w: Wait,
 ) -> Closed
     requires { ⌜ Ready (g .kept) (now lines) (now rules) ⌝ }
+    requires { ⌜ length (now lines) ≡ length (now offsets) ⌝ }
     requires { ⌜ (g .total < 2 ^ 61) × (w .marks < 2 ^ 41) × (own ≤ 18) ⌝ }
     ensures { λ r. ⌜ Entered (marked (o .no) (o .marks) ++ closeFaults basis b w no own (readAs reads h) (closeClaims claims o p)) g (now (lines .entry)) (now (rules .entry)) (r .ledger) (now (lines .exit)) (now (rules .exit)) ⌝ }
     ensures { λ r. ⌜ (r .block ≡ closeAs basis b w no own (readAs reads h) (closeClaims claims o p) .block) × (r .wait ≡ closeAs basis b w no own (readAs reads h) (closeClaims claims o p) .wait) × (r .wait .marks < 2 ^ 41) ⌝ }
+    ensures { λ r. ⌜ Kept (λ off. (off (o .no) ≡ starts .field) × Stands off starts no (w .line)) (g .kept) (now (lines .entry)) (now (offsets .entry)) (r .ledger .kept) (now (lines .exit)) (now (offsets .exit)) ⌝ }
+    ensures { λ r. ⌜ WaitsAt starts no (w .line) (r .wait .line) (r .start) ⌝ }
 {
-    let g1 = ledger::enter(lines, rules, g, o.no, o.marks);
+    let g1 = ledger::enter(lines, rules, offsets, g, o.no, starts.field, o.marks);
     let all = opening::claims_after(claims, o, p);
     let read = opening::read_as(reads, h);
-    shut_item(lines, rules, g1, basis, no, own, read, all, b, w)
+    shut_item(
+        lines,
+        rules,
+        offsets,
+        g1,
+        starts,
+        basis,
+        no,
+        own,
+        read,
+        all,
+        b,
+        w,
+    )
 }
 
 // The file ends: all that is open closes, and the heading that waits for rule 16 has it.
 fn shut_file(
     lines: &mut [u32],
     rules: &mut [u32],
+    offsets: &mut [u32],
     g: Ledger,
+    starts: Starts,
     basis: Basis,
     o: Open,
     p: Pend,
@@ -132,13 +179,17 @@ fn shut_file(
     w: Wait,
 ) -> Ledger
     requires { ⌜ Ready (g .kept) (now lines) (now rules) ⌝ }
+    requires { ⌜ length (now lines) ≡ length (now offsets) ⌝ }
     requires { ⌜ (g .total < 2 ^ 61) × (w .marks < 2 ^ 41) × (own ≤ 18) ⌝ }
     ensures { λ r. ⌜ Entered ((marked (o .no) (o .marks) ++ closeFaults basis b w no own (readAs reads h) (closeClaims claims o p)) ++ marked (closeAs basis b w no own (readAs reads h) (closeClaims claims o p) .wait .line) (lastMarks (closeAs basis b w no own (readAs reads h) (closeClaims claims o p) .block) (closeAs basis b w no own (readAs reads h) (closeClaims claims o p) .wait))) g (now (lines .entry)) (now (rules .entry)) r (now (lines .exit)) (now (rules .exit)) ⌝ }
+    ensures { λ r. ⌜ Kept (λ off. (off (o .no) ≡ starts .field) × Stands off starts no (w .line)) (g .kept) (now (lines .entry)) (now (offsets .entry)) (r .kept) (now (lines .exit)) (now (offsets .exit)) ⌝ }
 {
     let t = shut_all(
         lines,
         rules,
+        offsets,
         g,
+        starts,
         basis,
         o,
         p,
@@ -151,7 +202,7 @@ fn shut_file(
         w,
     );
     let last = closing::last_marks(t.block, t.wait);
-    ledger::enter(lines, rules, t.ledger, t.wait.line, last)
+    ledger::enter(lines, rules, offsets, t.ledger, t.wait.line, t.start, last)
 }
 
 // No heading yet.
@@ -168,10 +219,18 @@ fn no_heading() -> Heading {
 }
 
 // Enters the faults of a body, for the submitter's code and the accounting day.
-pub fn enter_faults(s: &[u8], code: u32, day: u32, lines: &mut [u32], rules: &mut [u32]) -> Ledger
+pub fn enter_faults(
+    s: &[u8],
+    code: u32,
+    day: u32,
+    lines: &mut [u32],
+    rules: &mut [u32],
+    offsets: &mut [u32],
+) -> Ledger
     requires { ⌜ length (now s) ≤ 10000000 ⌝ }
     requires { ⌜ length (now lines) ≡ length (now rules) ⌝ }
-    ensures { λ r. ⌜ Listed (faultsIn (input code day) (now (s .entry))) (now (lines .entry)) (now (rules .entry)) r (now (lines .exit)) (now (rules .exit)) ⌝ }
+    requires { ⌜ length (now lines) ≡ length (now offsets) ⌝ }
+    ensures { λ r. ⌜ Listed (offsetOf (now (s .entry))) (faultsIn (input code day) (now (s .entry))) (now (lines .entry)) (now (rules .entry)) (now (offsets .entry)) r (now (lines .exit)) (now (rules .exit)) (now (offsets .exit)) ⌝ }
 {
     let basis = blocks::own_rules::basis_of(Code(code), day);
     let table = text::characters::table();
@@ -186,12 +245,18 @@ pub fn enter_faults(s: &[u8], code: u32, day: u32, lines: &mut [u32], rules: &mu
     let mut claims = claiming::no_claims();
     let mut block = account::start();
     let mut wait = closing::no_wait();
+    let mut starts = Starts {
+        field: 0,
+        head: 0,
+        wait: 0,
+    };
     let mut at = 0;
     let mut n: u32 = 0;
     while at < s.len() {
         let f = lines::line_from(s, at);
         let end = f.end;
         let from = at;
+        let here = at as u32;
         n += 1;
         let bad = text::characters::holds_inadmissible(&table, &s[from..end], f.odd);
         let own = marking::line_marks(bad, f.ended);
@@ -202,7 +267,9 @@ pub fn enter_faults(s: &[u8], code: u32, day: u32, lines: &mut [u32], rules: &mu
                 let t = shut_all(
                     lines,
                     rules,
+                    offsets,
                     g,
+                    starts,
                     basis,
                     open,
                     pend,
@@ -217,6 +284,11 @@ pub fn enter_faults(s: &[u8], code: u32, day: u32, lines: &mut [u32], rules: &mu
                 g = t.ledger;
                 block = t.block;
                 wait = t.wait;
+                starts = Starts {
+                    field: 0,
+                    head: here,
+                    wait: t.start,
+                };
                 claims = claiming::no_claims();
                 open = opening::none_open();
                 let read = headings::reading::read(&s[from..end]);
@@ -229,15 +301,18 @@ pub fn enter_faults(s: &[u8], code: u32, day: u32, lines: &mut [u32], rules: &mu
                 g = ledger::enter(
                     lines,
                     rules,
+                    offsets,
                     g,
                     n,
+                    here,
                     opening::low_marks(own, since, open.no, true),
                 );
                 reads = reads & !(open.no == 0);
                 open = opening::with_low(open, true, end - from);
             }
             Kind::Field(ident) => {
-                g = ledger::enter(lines, rules, g, open.no, open.marks);
+                g = ledger::enter(lines, rules, offsets, g, open.no, starts.field, open.marks);
+                starts.field = here;
                 if 5 <= open.class {
                     claims = opening::claim_closed(claims, open, pend);
                 }
@@ -268,8 +343,10 @@ pub fn enter_faults(s: &[u8], code: u32, day: u32, lines: &mut [u32], rules: &mu
                 g = ledger::enter(
                     lines,
                     rules,
+                    offsets,
                     g,
                     n,
+                    here,
                     opening::low_marks(own, since, open.no, false),
                 );
             }
@@ -278,7 +355,9 @@ pub fn enter_faults(s: &[u8], code: u32, day: u32, lines: &mut [u32], rules: &mu
     shut_file(
         lines,
         rules,
+        offsets,
         g,
+        starts,
         basis,
         open,
         pend,

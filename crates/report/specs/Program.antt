@@ -30,7 +30,7 @@ module _ (refusal : List ℕ → ℕ → ℕ → ℕ) (faults : List ℕ → ℕ
 
 -- checking's own refusal, for two slices of 256
 abbrev checkRefusal : List ℕ → ℕ → ℕ → ℕ
-checkRefusal file code day = first (checkRefusals file (input code day) 256 256)
+checkRefusal file code day = first (checkRefusals file (input code day) 256 256 256)
 
 abbrev faultsFor : List ℕ → ℕ → ℕ → List Fault
 faultsFor file code day = faults (input code day) file

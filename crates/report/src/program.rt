@@ -41,14 +41,15 @@ pub fn put_answer(
     put_listing(out, code, day, lines, rules, n, total)
 }
 
-// Checks the file of a job, with room for 256 pairs.
+// Checks the file of a job, with room for 256 pairs. The listing has no offsets: document 01 fixes its lines.
 fn list_file(file: &[u8], code: u32, day: u32, out: &mut [u8]) -> usize
     requires { ⌜ 13362 ≤ length (now out) ⌝ }
     ensures { λ r. ⌜ Begins (now (out .entry)) (fileText (Of code day) (now (file .entry))) (now (out .exit)) r ⌝ }
 {
     let mut lines: [u32; 256] = [0; 256];
     let mut rules: [u32; 256] = [0; 256];
-    let c = check(file, code, day, &mut lines, &mut rules);
+    let mut offsets: [u32; 256] = [0; 256];
+    let c = check(file, code, day, &mut lines, &mut rules, &mut offsets);
     put_answer(out, number_of(c), code, day, &lines, &rules, total_or(c, 0))
 }
 

@@ -1,4 +1,4 @@
-use mathlib.Core.Path.{ap, _∙_}
+use mathlib.Core.Path.{sym, ap, _∙_}
 use native.Mathlib.Omega.{arith}
 use Rattle.ledger.specs.Marks.{marked}
 use Rattle.ledger.proofs.Entering.{entered-both}
@@ -10,17 +10,18 @@ use borrow.Author.Needs.{needs}
 use Rattle.pass.proofs.shut_file.Tie as tie
 
 shut-all-requires : tie.Need-shut-all-requires
-shut-all-requires c κs = search needs
+shut-all-requires c κs = c .before .before .before .before .before .before .pre
 
 last-marks-requires : tie.Need-last-marks-requires
-last-marks-requires c κs = c .before .before .before .before .shut-all .ensures .1 .2
+last-marks-requires c κs = c .before .before .before .before .before .before .shut-all .ensures .1 .0 .2
 
 enter-requires : tie.Need-enter-requires
 enter-requires c κs =
-    let start = c .before .before .before .before .before .before .before .before .before .before .before .before in
+    let start = c .before .before .before .before .before .before .before .before .before .before .before .before .before .before .before .before .before in
     let a = start .args in
-    let E = c .before .before .before .before .before .before .before .shut-all .ensures .0 in
-    (E .put .ready, omega (arith, E .sum, start .pre .1 .0, close-few (a .o) (a .basis) (a .b) (a .w) (a .no) (a .own) (readAs (a .reads) (a .h)) (closeClaims (a .claims) (a .o) (a .p))))
+    let E = c .before .before .before .before .before .before .before .before .before .before .shut-all .ensures .0 in
+    let kept = c .before .before .before .before .before .before .before .before .before .before .shut-all .kept in
+    (E .put .ready, (kept .0 ∙ start .pre .1 .0 ∙ sym (kept .1 .1 .0), omega (arith, E .sum, start .pre .1 .1 .0, close-few (a .o) (a .basis) (a .b) (a .w) (a .no) (a .own) (readAs (a .reads) (a .h)) (closeClaims (a .claims) (a .o) (a .p)))))
 
 same-length : tie.Need-same-length
 same-length c = search needs
@@ -28,15 +29,20 @@ same-length c = search needs
 same-length-2 : tie.Need-same-length-2
 same-length-2 c = search needs
 
+same-length-3 : tie.Need-same-length-3
+same-length-3 c = search needs
+
 returns : tie.Need-returns
 returns c =
-    let start = c .before .before .before .before .before .before .before .before .before .before .before .before .before .before .before .before .before in
-    let all = c .before .before .before .before .before .before .before .before .before .before .before .before .shut-all .ensures in
-    let last = c .before .before .before .before .before .before .before .last-marks .ensures .0 in
-    let eb = all .1 .0 in
-    let ew = all .1 .1 in
-    entered-both (start .pre .0) (all .0)
-    (entered-list (ap (marked _) last ∙ (λ i. marked (ew i .line) (lastMarks (eb i) (ew i)))) (c .before .before .before .before .enter .ensures .0))
+    let start = c .before .before .before .before .before .before .before .before .before .before .before .before .before .before .before .before .before .before .before .before .before .before .before .before in
+    let all = c .before .before .before .before .before .before .before .before .before .before .before .before .before .before .before .before .before .shut-all .ensures in
+    let last = c .before .before .before .before .before .before .before .before .before .before .last-marks .ensures .0 in
+    let eb = all .1 .0 .0 in
+    let ew = all .1 .0 .1 in
+    let one = c .before .before .before .before .before .before .enter .ensures in (
+      entered-both (start .pre .0) (all .0) (entered-list (ap (marked _) last ∙ (λ i. marked (ew i .line) (lastMarks (eb i) (ew i)))) (one .0)),
+      λ off ps₀ S B. one .1 .1 off ps₀ (all .1 .1 .1 off (S .1)) (all .1 .1 .0 off ps₀ S B),
+    )
 
 pub shut-file-spec : {M : Type 1} → statement M
 shut-file-spec =
@@ -47,4 +53,5 @@ shut-file-spec =
     enter-requires
     same-length
     same-length-2
+    same-length-3
     returns)

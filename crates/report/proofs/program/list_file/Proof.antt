@@ -11,6 +11,9 @@ slice-aggregate-check c = search needs
 slice-aggregate-check-2 : tie.Need-slice-aggregate-check-2
 slice-aggregate-check-2 c = search needs
 
+slice-aggregate-check-3 : tie.Need-slice-aggregate-check-3
+slice-aggregate-check-3 c = search needs
+
 check-requires : tie.Need-check-requires
 check-requires c κs = search needs
 
@@ -28,12 +31,9 @@ same-length c = search needs
 
 returns : tie.Need-returns
 returns c =
-    let p = c .before .before in
-    let t = p .before in
-    let n = t .before .before .before in
-    let k = n .before .before .before .before in
-    let a = k .before .before .before .before .before .args in
-    begins-same (shown (a .file .now) (a .code) (a .day) _ _ _ _ (k .check .result) _ _ (k .check .ensures) (n .number-of .ensures) (t .total-or .ensures) refl refl) (p .put-answer .ensures)
+    let a = c .before .before .before .before .before .before .before .before .before .before .before .before .before .before .before .before .before .args in
+    let k = c .before .before .before .before .before .before .before .before .before .before .before .check in
+    begins-same (shown (a .file .now) (a .code) (a .day) _ _ _ _ _ _ (k .result) _ _ (k .ensures) (c .before .before .before .before .before .before .number-of .ensures) (c .before .before .before .total-or .ensures) refl refl refl) (c .before .before .put-answer .ensures)
 
 pub list-file-spec : {M : Type 1} → statement M
 list-file-spec =
@@ -41,6 +41,7 @@ list-file-spec =
     (tie.spec
     slice-aggregate-check
     slice-aggregate-check-2
+    slice-aggregate-check-3
     check-requires
     number-of-requires
     total-or-requires
