@@ -405,7 +405,7 @@ static void put_refused(const struct page *page)
 {
     fprintf(page->to, "</header>\n<main>\n<p>Refusal %" PRIu32 ": ", page->found->refusal);
     put_words(page->to, refusal_in_words(page->found->refusal));
-    fputs("</p>\n", page->to);
+    fputs("</p>\n<p>No rule was asked of this file.</p>\n", page->to);
     if (page->found->refusal == CERTIS_LEFTOVERS) {
         put_hint(page->to, leftovers_hint(page->file).text);
     }
