@@ -49,7 +49,7 @@ static const char STYLE[] =
     ".file th,.file td{padding-top:.1rem;padding-bottom:.1rem}\n"
     ".file th{padding-left:.5rem;color:var(--soft);font-weight:normal;-webkit-user-select:none;user-select:none}\n"
     ".file td:last-child{width:100%;border-left:1px solid var(--line);padding-left:.75rem}\n"
-    "code,.file th{font:.9rem/1.5 ui-monospace,\"DejaVu Sans Mono\",Consolas,monospace}\n"
+    "code,.file th{font:.9em/1.5 ui-monospace,\"DejaVu Sans Mono\",Consolas,monospace}\n"
     "code{white-space:pre-wrap;overflow-wrap:anywhere}\n"
     "mark{background:var(--mark);color:inherit}\n"
     ".bad th,.bad td{background:var(--tint);border-top:2px solid var(--paper)}.bad th{color:var(--bad);font-weight:bold}"
@@ -58,7 +58,7 @@ static const char STYLE[] =
     "tr{scroll-margin-top:4rem}\n"
     ".bad ul{margin:.1rem 0 .35rem;padding:0;list-style:none}\n"
     ".soft{color:var(--soft)}.gap td{padding-top:.5rem;padding-bottom:.5rem;color:var(--soft)}\n"
-    "@media (max-width:40rem){body{padding:1rem .75rem 3rem}code,.file th{font-size:.8rem}"
+    "@media (max-width:40rem){body{padding:1rem .75rem 3rem}code,.file th{font-size:.8em}"
     ".list .number{padding-right:.6rem}}\n"
     "@media print{:root{--ink:#000;--soft:#444;--paper:#fff;--line:#bbb;--link:#000;--bad:#000;--tint:#fff;"
     "--mark:#ddd;--good:#000;--hint:#fff}body{max-width:none;padding:0;font-size:10pt}nav{display:none}"
@@ -81,23 +81,12 @@ struct page {
 
 static void put_character(FILE *to, char character)
 {
-    switch (character) {
-    case '&':
-        fputs("&amp;", to);
-        break;
-    case '<':
-        fputs("&lt;", to);
-        break;
-    case '>':
-        fputs("&gt;", to);
-        break;
-    case '"':
-        fputs("&quot;", to);
-        break;
-    case '\'':
-        fputs("&#39;", to);
-        break;
-    default:
+    static const char SPECIAL[] = { '&', '<', '>', '"', '\'' };
+    static const char *const NAMED[] = { "&amp;", "&lt;", "&gt;", "&quot;", "&#39;" };
+    const char *special = memchr(SPECIAL, character, sizeof SPECIAL);
+    if (special != NULL) {
+        fputs(NAMED[special - SPECIAL], to);
+    } else {
         putc(character, to);
     }
 }
@@ -193,9 +182,9 @@ static void put_head(const struct page *page, const char *name)
     fputs("</h1>\n<dl>\n<div><dt>File</dt><dd>", to);
     put_name(to, name);
     fprintf(to,
-            "</dd></div>\n<div><dt>Bytes</dt><dd>%zu</dd></div>\n<div><dt>Submitter</dt><dd>%04" PRIu32
+            "</dd></div>\n<div><dt>Bytes</dt><dd>%s%zu</dd></div>\n<div><dt>Submitter</dt><dd>%04" PRIu32
             "</dd></div>\n<div><dt>Accounting day</dt><dd>%08" PRIu32 "</dd></div>\n</dl>\n",
-            page->file->length, page->asked->code, page->asked->day);
+            page->file->length == FILE_ROOM ? "at least " : "", page->file->length, page->asked->code, page->asked->day);
 }
 
 static void put_hint(FILE *to, const char *hint)
