@@ -17,12 +17,12 @@
 #include <stdlib.h>
 #include <string.h>
 
-/* Of an item no more lines than this stand before a fault, or after it; and so
- * many of what surrounds the item. */
-enum { ITEM_LINES = 24, AROUND_LINES = 2 };
-
 /* The faults that are listed where --most says nothing. */
 enum { PAGE_FAULTS = 500 };
+
+/* Of an item no more lines than this stand before a fault, or after it, fewer
+ * where there are more faults than a few; and so many of what surrounds it. */
+enum { FEW_FAULTS = 100, ITEM_LINES = 24, FEWER_LINES = 6, AROUND_LINES = 2 };
 
 static const char STYLE[] =
     ":root{color-scheme:light dark;--ink:#1c2329;--soft:#55606b;--paper:#fff;--line:#d5dbe1;--link:#0a51a1;"
@@ -71,7 +71,8 @@ struct page {
     const struct bytes *file;
     const struct faults *found;
     const struct request *asked;
-    size_t listed; /* so many faults are on the page */
+    size_t listed; /* so many faults are on the page, */
+    uint32_t most; /* and at most so many lines of an item on either side */
     const uint8_t *end;
     const uint8_t *shown;
     uint32_t line;
@@ -317,7 +318,7 @@ static void leave_out(struct page *page, const uint8_t *next, uint32_t number)
 static uint32_t lines_before(const struct page *page, const uint8_t **first)
 {
     uint32_t lines = 0;
-    uint32_t most = ITEM_LINES;
+    uint32_t most = page->most;
     bool in_item = true;
     for (; *first > page->shown && lines < most; lines++) {
         if (in_item && page->end - *first >= 3 && memcmp(*first, "HD:", 3) == 0) {
@@ -341,7 +342,7 @@ static void put_before(struct page *page, const uint8_t *line)
 static void put_after(struct page *page, const uint8_t *next)
 {
     struct reader reader = { .rest = page->shown, .end = page->end };
-    uint32_t most = ITEM_LINES;
+    uint32_t most = page->most;
     bool in_item = true;
     for (uint32_t lines = 0; lines < most && page->shown < next && next_line(&reader); lines++) {
         if (in_item && starts(&reader, "HD:")) {
@@ -440,6 +441,7 @@ static void put_page(struct page *page, const char *name)
 bool write_page(const char *name, const struct bytes *file, const struct faults *found, const struct request *asked)
 {
     size_t most = asked->most == EVERY ? PAGE_FAULTS : asked->most;
+    size_t listed = found->count < most ? found->count : most;
     char *text = NULL;
     size_t length = 0;
     struct page page = {
@@ -447,7 +449,8 @@ bool write_page(const char *name, const struct bytes *file, const struct faults 
         .file = file,
         .found = found,
         .asked = asked,
-        .listed = found->count < most ? found->count : most,
+        .listed = listed,
+        .most = listed > FEW_FAULTS ? FEWER_LINES : ITEM_LINES,
         .shown = file->at,
         .end = before_lines(file->at, file->length).end,
         .line = 1,
