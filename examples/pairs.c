@@ -15,20 +15,20 @@ static uint8_t file[CERTIS_FILE_MOST + 1];
 
 int main(int argc, char **argv)
 {
-    uint32_t lines[ROOM], rules[ROOM];
+    uint32_t lines[ROOM], rules[ROOM], offsets[ROOM];
     uint64_t total;
     if (argc != 3) {
         return 2;
     }
     size_t length = fread(file, 1, sizeof file, stdin);
     uint32_t code = (uint32_t)atoi(argv[1]), day = (uint32_t)atoi(argv[2]);
-    uint32_t refusal = certis_check(file, length, code, day, lines, ROOM, rules, ROOM, &total);
+    uint32_t refusal = certis_check(file, length, code, day, lines, ROOM, rules, ROOM, offsets, ROOM, &total);
     if (refusal != CERTIS_DONE) {
         printf("refused %u\n", (unsigned)refusal);
         return 2;
     }
     for (size_t i = 0; i < total && i < ROOM; i++) {
-        printf("line %u rule %u\n", (unsigned)lines[i], (unsigned)rules[i]);
+        printf("line %u rule %u offset %u\n", (unsigned)lines[i], (unsigned)rules[i], (unsigned)offsets[i]);
     }
     printf("faults %llu\n", (unsigned long long)total);
     return total == 0 ? 0 : 1;

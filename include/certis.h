@@ -39,7 +39,7 @@ enum certis_refusal {
     CERTIS_BAD_CODE = 1,       /* the code is not 1 to 9999 */
     CERTIS_BAD_DAY = 2,        /* the day is not real, or not from 20000101 to 20991231 */
     CERTIS_LONG_FILE = 3,      /* the file has more than CERTIS_FILE_MOST bytes */
-    CERTIS_UNEQUAL_ROOMS = 4,  /* the rooms for lines and rules differ in length */
+    CERTIS_UNEQUAL_ROOMS = 4,  /* the rooms for lines, rules and offsets are not of one length */
     CERTIS_NO_END_MARK = 5,    /* there is no byte 1A in the file */
     CERTIS_EMPTY_FILE = 6,     /* it is the byte 1A alone */
     CERTIS_LEFTOVERS = 9,      /* bytes stand after the first 1A; asked after 5 and before 6 */
@@ -126,16 +126,17 @@ uint32_t certis_total(const uint8_t *file, size_t file_len,
 /* Checking, with the list.
  *
  * As certis_total, and writes the faults: lines[i] is the number of a line,
- * counted from 1, and rules[i] a rule broken there; each pair stands once, by
- * line and then by rule. Where there are more faults than room, the first ones
- * that fit are written; *total is the true total all the same. Places after the
- * last pair keep what they held.
+ * counted from 1, rules[i] a rule broken there, and offsets[i] the place of the
+ * line's first byte in the file, counted from 0 (of an empty line, that of its
+ * CR); each fault stands once, by line and then by rule. Where there are more
+ * faults than room, the first ones that fit are written; *total is the true
+ * total all the same. Places after the last fault keep what they held.
  *
  * Refusals, the first that applies:
  *   1  the code is not 1 to 9999
  *   2  the day is not a real day from 20000101 to 20991231
  *   3  the file has more than 10,000,000 bytes, those after the 1A included
- *   4  lines_len and rules_len differ
+ *   4  lines_len, rules_len and offsets_len are not all equal
  *   5  there is no byte 1A in the file
  *   9  a byte stands after the first 1A
  *   6  the file is the byte 1A alone
@@ -144,6 +145,7 @@ uint32_t certis_check(const uint8_t *file, size_t file_len,
                       uint32_t code, uint32_t day,
                       uint32_t *lines, size_t lines_len,
                       uint32_t *rules, size_t rules_len,
+                      uint32_t *offsets, size_t offsets_len,
                       uint64_t *total);
 
 /* Telling what would go out.

@@ -76,18 +76,20 @@ static void check_one(struct tally *tally)
     uint8_t file[FILE_LENGTH];
     uint32_t lines[ROOM] = { 0 };
     uint32_t rules[ROOM] = { 0 };
+    uint32_t offsets[ROOM] = { 0 };
     uint64_t total = 0;
     size_t room = below(ROOM + 1);
     vary(file, FILE_TEXT, FILE_LENGTH);
     uint32_t length = FILE_LENGTH - below(9) / 8;
     uint32_t code = 300 + below(8) / 7;
     uint32_t day = 20240200 + below(132);
-    uint32_t refusal = certis_check(file, length, code, day, lines, room, rules, room, &total);
+    uint32_t refusal = certis_check(file, length, code, day, lines, room, rules, room, offsets, room, &total);
     tally->answered += refusal == 0;
     fold(tally, refusal);
     fold(tally, total);
     for (size_t i = 0; i < ROOM; i++) {
         fold(tally, (uint64_t)lines[i] << 32 | rules[i]);
+        fold(tally, offsets[i]);
     }
 }
 

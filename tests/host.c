@@ -36,8 +36,21 @@ static const char WORKED[] =
 struct rooms {
     uint32_t lines[PLACES];
     uint32_t rules[PLACES];
+    uint32_t offsets[PLACES];
     uint64_t total;
 };
+
+/* How many places of each slice are lent. */
+struct lent {
+    size_t lines;
+    size_t rules;
+    size_t offsets;
+};
+
+static struct lent evenly(size_t room)
+{
+    return (struct lent){ room, room, room };
+}
 
 static struct rooms fresh_rooms(void)
 {
@@ -45,15 +58,16 @@ static struct rooms fresh_rooms(void)
     for (size_t i = 0; i < PLACES; i++) {
         rooms.lines[i] = PATTERN;
         rooms.rules[i] = PATTERN;
+        rooms.offsets[i] = PATTERN;
     }
     return rooms;
 }
 
 static uint32_t check(struct rooms *rooms, const char *file, size_t length, uint32_t code, uint32_t day,
-                      size_t lines_len, size_t rules_len)
+                      struct lent lent)
 {
-    return certis_check(bytes_of(file), length, code, day, rooms->lines + EDGE, lines_len,
-                        rooms->rules + EDGE, rules_len, &rooms->total);
+    return certis_check(bytes_of(file), length, code, day, rooms->lines + EDGE, lent.lines, rooms->rules + EDGE,
+                        lent.rules, rooms->offsets + EDGE, lent.offsets, &rooms->total);
 }
 
 /* Whether all places but the given number of first ones in the lent part are as they were. */
@@ -61,7 +75,8 @@ static bool rooms_kept(const struct rooms *rooms, size_t written)
 {
     for (size_t i = 0; i < PLACES; i++) {
         bool free_to_change = i >= EDGE && i < EDGE + written;
-        if (!free_to_change && (rooms->lines[i] != PATTERN || rooms->rules[i] != PATTERN)) {
+        if (!free_to_change
+            && (rooms->lines[i] != PATTERN || rooms->rules[i] != PATTERN || rooms->offsets[i] != PATTERN)) {
             return false;
         }
     }
@@ -81,16 +96,39 @@ static const char *pairs_of(const struct rooms *rooms, size_t written)
     return text;
 }
 
-/* Room for some pairs: they are the ones named, the total is true, the rest is kept. */
+/* The place of a line's first byte: behind the CR LF that ends the one before it. */
+static size_t place_of(const char *file, size_t length, uint32_t line)
+{
+    size_t at = 0;
+    for (uint32_t ends = 1; ends < line; ends++) {
+        while (at + 2 < length && memcmp(file + at, "\r\n", 2) != 0) {
+            at += 1;
+        }
+        at += 2;
+    }
+    return at;
+}
+
+static bool offsets_right(const struct rooms *rooms, size_t written, const char *file, size_t length)
+{
+    for (size_t i = EDGE; i < EDGE + written; i++) {
+        if (rooms->offsets[i] != place_of(file, length, rooms->lines[i])) {
+            return false;
+        }
+    }
+    return true;
+}
+
+/* Room for some pairs: they are the ones named, at the offsets of their lines; the total is true, the rest is kept. */
 static void lists_in(const char *what, const char *file, size_t length, size_t room, uint64_t total,
                      const char *pairs)
 {
     struct rooms rooms = fresh_rooms();
     size_t written = total < room ? (size_t)total : room;
-    uint32_t refusal = check(&rooms, file, length, CODE, DAY, room, room);
+    uint32_t refusal = check(&rooms, file, length, CODE, DAY, evenly(room));
     uint64_t alone = LONG_PATTERN;
     expect(refusal == 0 && rooms.total == total && rooms_kept(&rooms, written)
-               && strcmp(pairs_of(&rooms, written), pairs) == 0
+               && strcmp(pairs_of(&rooms, written), pairs) == 0 && offsets_right(&rooms, written, file, length)
                && certis_total(bytes_of(file), length, CODE, DAY, &alone) == 0 && alone == total,
            what);
 }
@@ -101,10 +139,10 @@ static void lists(const char *what, const char *file, uint64_t total, const char
 }
 
 static void check_refuses(const char *what, uint32_t number, const char *file, size_t length, uint32_t code,
-                          uint32_t day, size_t lines_len, size_t rules_len)
+                          uint32_t day, struct lent lent)
 {
     struct rooms rooms = fresh_rooms();
-    uint32_t refusal = check(&rooms, file, length, code, day, lines_len, rules_len);
+    uint32_t refusal = check(&rooms, file, length, code, day, lent);
     expect(refusal == number && rooms.total == LONG_PATTERN && rooms_kept(&rooms, 0), what);
 }
 
@@ -113,7 +151,7 @@ static void refuses(const char *what, uint32_t number, const char *file, size_t 
                     uint32_t day)
 {
     uint64_t total = LONG_PATTERN;
-    check_refuses(what, number, file, length, code, day, MOST_ROOM, MOST_ROOM);
+    check_refuses(what, number, file, length, code, day, evenly(MOST_ROOM));
     expect(certis_total(bytes_of(file), length, code, day, &total) == number && total == LONG_PATTERN, what);
 }
 
@@ -125,6 +163,22 @@ static void test_worked_example(void)
     lists_in("the worked example in room for two", WORKED, length, 2, 3, "1/12 3/23");
     lists_in("the worked example in no room", WORKED, length, 0, 3, "");
 }
+
+static void stands_at(const char *what, const char *file, const uint32_t *offsets, size_t count)
+{
+    struct rooms rooms = fresh_rooms();
+    uint32_t refusal = check(&rooms, file, strlen(file), CODE, DAY, evenly(count));
+    expect(refusal == 0 && memcmp(rooms.offsets + EDGE, offsets, count * sizeof *offsets) == 0 && rooms_kept(&rooms, count), what);
+}
+
+static void test_offsets(void)
+{
+    stands_at("the worked example's offsets", WORKED, (const uint32_t[]){ 0, 75, 91 }, 3);
+    stands_at("empty lines stand at their CR", "\r\n\r\nx" END, (const uint32_t[]){ 0, 0, 2, 2, 4, 4, 4 }, 7);
+    stands_at("a lone CR or LF begins no line", "\r\r\n\n\r\n\r" END, (const uint32_t[]){ 0, 0, 0, 3, 3, 3, 6, 6, 6, 6 }, 10);
+}
+
+static const struct lent uneven = { 2, 2, 3 };
 
 static void test_check_refusals(void)
 {
@@ -139,17 +193,20 @@ static void test_check_refusals(void)
     refuses("2: day 0", 2, WORKED, length, CODE, 0);
     refuses("2: the largest day", 2, WORKED, length, CODE, UINT32_MAX);
     refuses("2 before 5", 2, WORKED, 0, CODE, 20240230);
-    check_refuses("4: room for 2 and 3", 4, WORKED, length, CODE, DAY, 2, 3);
-    check_refuses("4: room for 3 and 0", 4, WORKED, length, CODE, DAY, 3, 0);
-    check_refuses("2 before 4", 2, WORKED, length, CODE, 20230229, 2, 3);
-    check_refuses("4 before 5", 4, WORKED, 0, CODE, DAY, 2, 3);
-    check_refuses("4 before 6", 4, END, 1, CODE, DAY, 2, 3);
+    check_refuses("4: less room for lines", 4, WORKED, length, CODE, DAY, (struct lent){ 2, 3, 3 });
+    check_refuses("4: less room for rules", 4, WORKED, length, CODE, DAY, (struct lent){ 3, 2, 3 });
+    check_refuses("4: less room for offsets", 4, WORKED, length, CODE, DAY, (struct lent){ 3, 3, 2 });
+    check_refuses("4: no room for offsets", 4, WORKED, length, CODE, DAY, (struct lent){ 3, 3, 0 });
+    check_refuses("4: three different rooms", 4, WORKED, length, CODE, DAY, (struct lent){ 1, 2, 3 });
+    check_refuses("2 before 4", 2, WORKED, length, CODE, 20230229, uneven);
+    check_refuses("4 before 5", 4, WORKED, 0, CODE, DAY, uneven);
+    check_refuses("4 before 6", 4, END, 1, CODE, DAY, uneven);
     refuses("5: an empty file", 5, WORKED, 0, CODE, DAY);
     refuses("5: no end mark", 5, WORKED, length - 1, CODE, DAY);
     refuses("9: LF behind the end mark", 9, L("") END "\n", 4, CODE, DAY);
     refuses("9: another file behind the end mark", 9, L("") END L("") END, 6, CODE, DAY);
     refuses("9: two end marks", 9, END END, 2, CODE, DAY);
-    check_refuses("4 before 9", 4, END END, 2, CODE, DAY, 2, 3);
+    check_refuses("4 before 9", 4, END END, 2, CODE, DAY, uneven);
     refuses("6: the end mark alone", 6, END, 1, CODE, DAY);
     refuses("9 before 6", 9, END "HD:11", 6, CODE, DAY);
 }
@@ -167,7 +224,7 @@ static void test_long_files(void)
              "1/1 1/2 1/3 1/4");
     refuses("3: 10,000,001 bytes", 3, file, limit + 1, CODE, DAY);
     refuses("2 before 3", 2, file, limit + 1, CODE, 20230229);
-    check_refuses("3 before 4", 3, file, limit + 1, CODE, DAY, 2, 3);
+    check_refuses("3 before 4", 3, file, limit + 1, CODE, DAY, uneven);
     file[limit - 1] = '\0';
     refuses("3 before 5", 3, file, limit + 1, CODE, DAY);
     file[0] = '\x1A';
@@ -436,6 +493,7 @@ static void test_accounts(void)
 int main(void)
 {
     test_worked_example();
+    test_offsets();
     test_check_refusals();
     test_long_files();
     test_both_sides();

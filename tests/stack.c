@@ -42,8 +42,9 @@ static void *check(void *ignored)
 {
     static uint32_t lines[64];
     static uint32_t rules[64];
+    static uint32_t offsets[64];
     uint64_t faults = 0;
-    certis_check(faulty.bytes, faulty.length, 300, 20240304, lines, 64, rules, 64, &faults);
+    certis_check(faulty.bytes, faulty.length, 300, 20240304, lines, 64, rules, 64, offsets, 64, &faults);
     return ignored;
 }
 

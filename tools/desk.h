@@ -10,7 +10,7 @@
  * says with complain or wrong_arguments. It stands on
  *
  *   arguments.c  options, numbers, complaints
- *   files.c      reading a file or standard input
+ *   files.c      reading a file or standard input, writing a file
  *   lines.c      the lines of a CERTIS file
  *   page.c       bytes of code page 852 as a terminal shows them
  *   words.c      rules, refusals and outcomes in words
@@ -102,15 +102,19 @@ struct bytes {
 bool read_file(const char *name, size_t room, struct bytes *file);
 void free_bytes(struct bytes *file);
 
+/* Writes a file of that name: beside it and then in its place, so that a power
+ * cut leaves the old one or the new, and never a half. Complains if it cannot;
+ * the old one is then as it was. */
+bool write_file(const char *name, const void *bytes, size_t length);
+
 /* Lines */
 
 #define END_MARK 0x1A
 
-/* The line last read, its number from 1, and the bytes that follow it. */
+/* The line last read, and the bytes that follow it. */
 struct reader {
     const uint8_t *text;
     size_t length;
-    uint32_t line;
     const uint8_t *rest;
     const uint8_t *end;
 };
@@ -121,10 +125,20 @@ struct reader before_lines(const uint8_t *bytes, size_t length);
 /* Whether there was one more line; it is then the reader's. */
 bool next_line(struct reader *reader);
 
+/* Whether the line begins with the three bytes. */
+bool starts(const struct reader *reader, const char *mark);
+
+/* Where the line begins that stands before this one, which is not the first. */
+const uint8_t *line_before(const uint8_t *file, const uint8_t *line);
+
 /* Showing */
 
 /* Document 01's admissible text bytes. */
 bool admissible(uint8_t byte);
+
+/* An admissible byte of code page 852 in UTF-8, which takes one or two; of any
+ * other the length is 0. */
+size_t in_utf8(uint8_t byte, char text[2]);
 
 /* Prints bytes of code page 852 in UTF-8, inadmissible ones as <0A>. */
 void show_bytes(const uint8_t *bytes, size_t length);

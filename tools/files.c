@@ -1,4 +1,6 @@
-/* Reading a file or standard input. */
+/* Reading a file or standard input, writing a file. */
+
+#define _POSIX_C_SOURCE 200809L /* for fsync, fileno and getpid */
 
 #include "desk.h"
 
@@ -6,6 +8,7 @@
 #include <stdio.h>
 #include <stdlib.h>
 #include <string.h>
+#include <unistd.h>
 
 /* On failure errno says why. */
 static bool read_stream(FILE *from, size_t room, struct bytes *file)
@@ -51,4 +54,42 @@ void free_bytes(struct bytes *file)
 {
     free(file->at);
     *file = (struct bytes){ 0 };
+}
+
+static bool write_whole(FILE *to, const void *bytes, size_t length)
+{
+    bool written = fwrite(bytes, 1, length, to) == length && fflush(to) == 0 && fsync(fileno(to)) == 0;
+    return fclose(to) == 0 && written;
+}
+
+/* On failure errno says why. */
+static bool replace_by(const char *name, const char *beside, const void *bytes, size_t length)
+{
+    FILE *to = fopen(beside, "wbx");
+    if (to == NULL) {
+        return false;
+    }
+    if (write_whole(to, bytes, length) && rename(beside, name) == 0) {
+        return true;
+    }
+    int reason = errno;
+    remove(beside);
+    errno = reason;
+    return false;
+}
+
+bool write_file(const char *name, const void *bytes, size_t length)
+{
+    size_t room = strlen(name) + 32;
+    char *beside = malloc(room);
+    bool written = false;
+    if (beside != NULL) {
+        snprintf(beside, room, "%s.%ld.new", name, (long)getpid());
+        written = replace_by(name, beside, bytes, length);
+    }
+    if (!written) {
+        complain("%s cannot be written: %s", name, strerror(errno));
+    }
+    free(beside);
+    return written;
 }

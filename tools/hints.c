@@ -32,8 +32,10 @@ static bool is_utf8(const uint8_t *at, const uint8_t *end)
     return true;
 }
 
-static void hint_at_page(const uint8_t *at, const uint8_t *end)
+const char *code_page_hint(const struct bytes *file)
 {
+    const uint8_t *at = file->at;
+    const uint8_t *end = before_lines(file->at, file->length).end;
     bool inadmissible = false;
     bool page_1250 = true;
     for (const uint8_t *byte = at; byte < end; byte++) {
@@ -43,14 +45,15 @@ static void hint_at_page(const uint8_t *at, const uint8_t *end)
         }
     }
     if (inadmissible && is_utf8(at, end)) {
-        puts("hint: The text looks like UTF-8; it must be in code page 852.");
-    } else if (inadmissible && page_1250) {
-        puts("hint: The text looks like code page 1250; it must be in code page 852.");
+        return "The text looks like UTF-8; it must be in code page 852.";
     }
+    return inadmissible && page_1250 ? "The text looks like code page 1250; it must be in code page 852." : NULL;
 }
 
-static void hint_at_ends(const uint8_t *at, const uint8_t *end)
+const char *line_end_hint(const struct bytes *file)
 {
+    const uint8_t *at = file->at;
+    const uint8_t *end = before_lines(file->at, file->length).end;
     size_t whole = 0;
     size_t lone = 0;
     for (const uint8_t *byte = at; byte < end; byte++) {
@@ -60,20 +63,12 @@ static void hint_at_ends(const uint8_t *at, const uint8_t *end)
             lone += !after;
         }
     }
-    if (lone > whole) {
-        puts("hint: The lines end in LF; they must end in CR LF.");
-    }
+    return lone > whole ? "The lines end in LF; they must end in CR LF." : NULL;
 }
 
-void show_hints(const struct bytes *file)
+struct hint leftovers_hint(const struct bytes *file)
 {
-    struct reader reader = before_lines(file->at, file->length);
-    hint_at_ends(reader.rest, reader.end);
-    hint_at_page(reader.rest, reader.end);
-}
-
-void show_leftovers(const struct bytes *file)
-{
+    struct hint hint;
     const uint8_t *behind = before_lines(file->at, file->length).end + 1;
     size_t length = file->length - (size_t)(behind - file->at);
     size_t ends = 0;
@@ -84,5 +79,6 @@ void show_leftovers(const struct bytes *file)
                        : length - ends >= 3 && memcmp(behind + ends, "HD:", 3) == 0 ? "another file"
                        : behind[0] == 0x1A                                     ? "another end mark"
                                                                                : "other bytes";
-    printf("hint: %zu %s behind the end mark: %s.\n", length, length == 1 ? "byte stands" : "bytes stand", what);
+    snprintf(hint.text, sizeof hint.text, "%zu %s behind the end mark: %s.", length, length == 1 ? "byte stands" : "bytes stand", what);
+    return hint;
 }

@@ -24,7 +24,20 @@ bool next_line(struct reader *reader)
     }
     reader->text = reader->rest;
     reader->length = (size_t)(at - reader->rest);
-    reader->line += 1;
     reader->rest = left > 0 ? at + 2 : at;
     return true;
+}
+
+bool starts(const struct reader *reader, const char *mark)
+{
+    return reader->length >= 3 && memcmp(reader->text, mark, 3) == 0;
+}
+
+const uint8_t *line_before(const uint8_t *file, const uint8_t *line)
+{
+    const uint8_t *at = line - 2;
+    while (at > file && !(at - file > 1 && at[-2] == '\r' && at[-1] == '\n')) {
+        at -= 1;
+    }
+    return at;
 }

@@ -1,7 +1,8 @@
 /* list: the faults of input files.
  *
  * Prints for each file the listing of document 01 with every fault, or the first
- * N; or how often each rule is broken; or explains the faults.
+ * N; or how often each rule is broken; or explains the faults; or writes them as
+ * a page for the screen.
  */
 
 #include "certis.h"
@@ -11,44 +12,53 @@
 #include <limits.h>
 #include <stdio.h>
 #include <stdlib.h>
+#include <string.h>
 
 static const struct form FORM = {
-    .usage = "[--explain] [--most N | --summary] CODE DAY FILE...",
+    .usage = "[--explain] [--offsets] [--most N | --summary] CODE DAY FILE... | --page OUT.html [--most N] CODE DAY FILE",
     .help = "  CODE       the submitter's code, up to four digits\n"
             "  DAY        the accounting day, as 20240304\n"
             "  FILE       an input file, or - for standard input\n"
             "  --explain  say each rule in words, and show the lines\n"
+            "  --offsets  say where in the file the first byte of each fault's line stands, counted from 0\n"
             "  --most N   list no more than the first N faults of a file\n"
             "  --summary  count the faults of each rule, and list none\n"
-            "exit status: 0 no fault; 1 faults; 2 a file was refused or cannot be read, or wrong arguments\n",
+            "  --page OUT.html  write the faults, or the refusal, as a page for the screen; the first 500 if --most\n"
+            "             says nothing else\n"
+            "exit status: 0 no fault; 1 faults; 2 a file was refused or cannot be read, the page cannot be written, or\n"
+            "wrong arguments\n",
     .least = 3,
     .most = INT_MAX,
 };
 
-/* Rules have numbers below this. */
-enum { RULES = 64 };
+void show_fault(const struct faults *found, size_t at, bool offset)
+{
+    printf("line %" PRIu32 " rule %" PRIu32, found->lines[at], found->rules[at]);
+    if (offset) {
+        printf(" offset %" PRIu32, found->offsets[at]);
+    }
+}
 
-struct request {
-    bool explain;
-    bool summary;
-    uint32_t most; /* No file that the library takes can have UINT32_MAX faults. */
-    uint32_t code;
-    uint32_t day;
-};
-
-static void show_pairs(const struct faults *found)
+static void show_faults(const struct faults *found, bool offsets)
 {
     for (size_t i = 0; i < found->count; i++) {
-        printf("line %" PRIu32 " rule %" PRIu32 "\n", found->lines[i], found->rules[i]);
+        show_fault(found, i, offsets);
+        end_line(NULL);
+    }
+}
+
+void count_rules(const struct faults *found, size_t counts[RULES])
+{
+    memset(counts, 0, RULES * sizeof *counts);
+    for (size_t i = 0; i < found->count; i++) {
+        counts[found->rules[i] % RULES] += 1;
     }
 }
 
 static void show_summary(const struct faults *found, bool in_words)
 {
-    size_t counts[RULES] = { 0 };
-    for (size_t i = 0; i < found->count; i++) {
-        counts[found->rules[i] % RULES] += 1;
-    }
+    size_t counts[RULES];
+    count_rules(found, counts);
     for (uint32_t rule = 0; rule < RULES; rule++) {
         if (counts[rule] > 0) {
             printf("rule %" PRIu32 " count %zu", rule, counts[rule]);
@@ -57,68 +67,77 @@ static void show_summary(const struct faults *found, bool in_words)
     }
 }
 
+static void show_hint(const char *hint)
+{
+    if (hint != NULL) {
+        printf("hint: %s\n", hint);
+    }
+}
+
 static int show_listing(const struct request *asked, const struct bytes *file, const struct faults *found)
 {
     printf("checked %04" PRIu32 " %08" PRIu32 "\n", asked->code, asked->day);
     if (asked->explain) {
-        show_hints(file);
+        show_hint(line_end_hint(file));
+        show_hint(code_page_hint(file));
     }
     if (asked->summary) {
         show_summary(found, asked->explain);
     } else if (asked->explain) {
-        explain_faults(file, found, asked->most);
-    } else {
-        show_pairs(found);
+        explain_faults(file, found, asked);
+    } else if (asked->page == NULL) {
+        show_faults(found, asked->offsets);
     }
     printf("faults %" PRIu64 "\n", found->total);
     return found->total == 0 ? GOOD : FAULTS;
 }
 
 /* A refusal, and where it was asked for what stands behind the end mark. */
-static int refused(uint32_t refusal, const struct request *asked, const struct bytes *file)
+static int show_refused(const struct request *asked, const struct bytes *file, uint32_t refusal)
 {
     int status = show_refusal(refusal, asked->explain);
     if (refusal == CERTIS_LEFTOVERS && asked->explain) {
-        show_leftovers(file);
+        show_hint(leftovers_hint(file).text);
     }
     return status;
 }
 
-static int list_faults(const struct request *asked, const struct bytes *file, struct faults *found)
+static int answer(const struct request *asked, const char *name, const struct bytes *file, const struct faults *found)
 {
-    uint32_t refusal = certis_check(file->at, file->length, asked->code, asked->day, found->lines, found->count,
-                                    found->rules, found->count, &found->total);
-    if (refusal != 0) {
-        return refused(refusal, asked, file);
+    if (asked->page != NULL && !write_page(name, file, found, asked)) {
+        return FAILED;
     }
-    return show_listing(asked, file, found);
+    return found->refusal != 0 ? show_refused(asked, file, found->refusal) : show_listing(asked, file, found);
 }
 
-/* How many pairs are needed of so many: to explain or to count them takes all. */
+/* How many faults are needed of so many: all but for a plain listing. */
 static size_t wanted(const struct request *asked, uint64_t total)
 {
-    return asked->explain || asked->summary || total < asked->most ? (size_t)total : asked->most;
+    bool all = asked->explain || asked->summary || asked->page != NULL;
+    return all || total < asked->most ? (size_t)total : asked->most;
 }
 
-static int check_file(const struct request *asked, const struct bytes *file)
+static int check_file(const struct request *asked, const char *name, const struct bytes *file)
 {
     struct faults found = { 0 };
-    uint32_t refusal = certis_total(file->at, file->length, asked->code, asked->day, &found.total);
-    if (refusal != 0) {
-        return refused(refusal, asked, file);
-    }
+    found.refusal = certis_total(file->at, file->length, asked->code, asked->day, &found.total);
     found.count = wanted(asked, found.total);
     /* Room for one more than is listed: the library wants a place to point at. */
-    found.lines = calloc(found.count + 1, sizeof *found.lines);
-    found.rules = calloc(found.count + 1, sizeof *found.rules);
-    int status = FAILED;
-    if (found.lines != NULL && found.rules != NULL) {
-        status = list_faults(asked, file, &found);
-    } else {
+    size_t room = found.count + 1;
+    uint32_t *places = calloc(3 * room, sizeof *places);
+    if (places == NULL) {
         complain("not enough memory for the listing");
+        return FAILED;
     }
-    free(found.lines);
-    free(found.rules);
+    found.lines = places;
+    found.rules = places + room;
+    found.offsets = places + 2 * room;
+    if (found.refusal == 0) {
+        found.refusal = certis_check(file->at, file->length, asked->code, asked->day, found.lines, found.count, found.rules,
+                                     found.count, found.offsets, found.count, &found.total);
+    }
+    int status = answer(asked, name, file, &found);
+    free(places);
     return status;
 }
 
@@ -131,18 +150,43 @@ static int list_file(const struct request *asked, const char *name, bool named)
     if (named) {
         printf("file %s\n", name);
     }
-    int status = check_file(asked, &file);
+    int status = check_file(asked, name, &file);
     free_bytes(&file);
     return status;
 }
 
+/* A browser shows a file of such a name as a page; and no payment file is
+ * written over by a slip of the words. */
+static bool names_page(const char *name)
+{
+    size_t length = strlen(name);
+    return length > 5 && strcmp(name + length - 5, ".html") == 0;
+}
+
+/* What is wrong with the options together, or NULL. */
+static const char *at_odds(const struct request *asked, int files)
+{
+    if (asked->page == NULL) {
+        return !asked->summary           ? NULL
+               : asked->most != EVERY    ? "--summary lists no fault: --most has no place with it"
+               : asked->offsets          ? "--summary lists no fault: --offsets has no place with it"
+                                         : NULL;
+    }
+    return asked->explain || asked->summary || asked->offsets ? "--page says all: --explain, --offsets and --summary have no place with it"
+           : !names_page(asked->page)                         ? "--page takes a name that ends in .html"
+           : files > 1                                        ? "--page takes one file"
+                                                              : NULL;
+}
+
 int desk_list(int count, char **words)
 {
-    struct request asked = { .most = UINT32_MAX };
+    struct request asked = { .most = EVERY };
     const struct option options[] = {
         { .name = "--explain", .flag = &asked.explain },
+        { .name = "--offsets", .flag = &asked.offsets },
         { .name = "--summary", .flag = &asked.summary },
         { .name = "--most", .number = &asked.most },
+        { .name = "--page", .word = &asked.page },
         { .name = NULL },
     };
     int status = FAILED;
@@ -150,8 +194,9 @@ int desk_list(int count, char **words)
     if (kept < 0) {
         return status;
     }
-    if (asked.summary && asked.most != UINT32_MAX) {
-        return wrong_arguments(&FORM, "--summary lists no fault: --most has no place with it");
+    const char *wrong = at_odds(&asked, kept - 2);
+    if (wrong != NULL) {
+        return wrong_arguments(&FORM, "%s", wrong);
     }
     if (!take_number(&FORM, "CODE", words[1], &asked.code) || !take_number(&FORM, "DAY", words[2], &asked.day)) {
         return FAILED;

@@ -26,16 +26,25 @@ bool admissible(uint8_t byte)
 }
 
 /* Each of the 45 characters has two bytes in UTF-8. */
-static void show_byte(uint8_t byte)
+size_t in_utf8(uint8_t byte, char text[2])
 {
     unsigned point = PAGE[byte];
     if (!admissible(byte)) {
+        return 0;
+    }
+    text[0] = (char)(point == 0 ? byte : 0xC0 | point >> 6);
+    text[1] = (char)(0x80 | (point & 0x3F));
+    return point == 0 ? 1 : 2;
+}
+
+static void show_byte(uint8_t byte)
+{
+    char text[2];
+    size_t length = in_utf8(byte, text);
+    if (length == 0) {
         printf("<%02X>", byte);
-    } else if (point == 0) {
-        putchar(byte);
     } else {
-        putchar((int)(0xC0 | point >> 6));
-        putchar((int)(0x80 | (point & 0x3F)));
+        fwrite(text, 1, length, stdout);
     }
 }
 

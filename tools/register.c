@@ -10,15 +10,13 @@
  * arguments are wrong.
  */
 
-#define _POSIX_C_SOURCE 200809L /* for fsync, fileno and getpid */
+#define _POSIX_C_SOURCE 200809L /* for access */
 
 #include "certis.h"
 #include "desk.h"
 
-#include <errno.h>
 #include <inttypes.h>
 #include <stdio.h>
-#include <stdlib.h>
 #include <string.h>
 #include <unistd.h>
 
@@ -38,47 +36,6 @@ static const struct form FORM = {
     .least = 2,
     .most = 5,
 };
-
-/* Writing */
-
-static bool write_whole(FILE *to, const uint8_t *bytes, size_t length)
-{
-    bool written = fwrite(bytes, 1, length, to) == length && fflush(to) == 0 && fsync(fileno(to)) == 0;
-    return fclose(to) == 0 && written;
-}
-
-/* Beside the file of that name and then in its place. On failure it is as it
- * was, and errno says why. */
-static bool replace_by(const char *name, const char *beside, const uint8_t *bytes, size_t length)
-{
-    FILE *to = fopen(beside, "wbx");
-    if (to == NULL) {
-        return false;
-    }
-    if (write_whole(to, bytes, length) && rename(beside, name) == 0) {
-        return true;
-    }
-    int reason = errno;
-    remove(beside);
-    errno = reason;
-    return false;
-}
-
-static bool write_register(const char *name, const uint8_t *bytes, size_t length)
-{
-    size_t room = strlen(name) + 32;
-    char *beside = malloc(room);
-    bool written = false;
-    if (beside != NULL) {
-        snprintf(beside, room, "%s.%ld.new", name, (long)getpid());
-        written = replace_by(name, beside, bytes, length);
-    }
-    if (!written) {
-        complain("%s cannot be written: %s", name, strerror(errno));
-    }
-    free(beside);
-    return written;
-}
 
 /* Showing */
 
@@ -146,7 +103,7 @@ static int new_register(const char *code_text, const char *name)
         complain("%s stands already", name);
         return FAILED;
     }
-    if (!write_register(name, target, sizeof target)) {
+    if (!write_file(name, target, sizeof target)) {
         return FAILED;
     }
     show_head(target);
@@ -163,7 +120,7 @@ static int enter_bytes(uint32_t code, uint32_t day, const struct bytes *file, co
     if (refusal != 0) {
         return show_refusal(refusal, true);
     }
-    if (!write_register(name, target, written)) {
+    if (!write_file(name, target, written)) {
         return FAILED;
     }
     show_head(target);

@@ -7,15 +7,18 @@ use crate::rules::{self, Fault};
 
 const LARGEST_FILE: usize = 10_000_000;
 
-/// The first refusal that applies, if any. `rooms` are the lengths of the two
+/// A fault as it is listed: line, rule, and the offset of the line's first byte.
+pub type Record = [u32; 3];
+
+/// The first refusal that applies, if any. `rooms` are the lengths of the three
 /// lent slices; the whole file is measured, bytes after the mark included. 9
 /// stands between 5 and 6.
-pub fn refusal(file: &[u8], code: u32, day: u32, rooms: (usize, usize)) -> Option<u32> {
+pub fn refusal(file: &[u8], code: u32, day: u32, rooms: [usize; 3]) -> Option<u32> {
     let refusals = [
         (1, !(1..=9999).contains(&code)),
         (2, !days::is_accounting_day(day)),
         (3, file.len() > LARGEST_FILE),
-        (4, rooms.0 != rooms.1),
+        (4, rooms != [rooms[0]; 3]),
         (5, !file.contains(&END_MARK)),
         (9, end_mark(file).is_some_and(|place| place + 1 != file.len())),
         (6, file.first() == Some(&END_MARK)),
@@ -26,6 +29,14 @@ pub fn refusal(file: &[u8], code: u32, day: u32, rooms: (usize, usize)) -> Optio
 /// All faults of a file that is not refused.
 pub fn faults(file: &[u8], code: u32, day: u32) -> Vec<Fault> {
     rules::faults(&parse(file), code, day)
+}
+
+/// The same as records.
+pub fn records(file: &[u8], code: u32, day: u32) -> Vec<Record> {
+    let file = parse(file);
+    let offset = |line: u32| file.lines[line as usize - 1].offset as u32;
+    let faults = rules::faults(&file, code, day).into_iter();
+    faults.map(|(line, rule)| [line, rule, offset(line)]).collect()
 }
 
 /// What stands before the end mark.
@@ -43,27 +54,23 @@ fn end_mark(file: &[u8]) -> Option<usize> {
     Some(start + place)
 }
 
-/// The open job: the total, with the first pairs that fit written.
-pub fn check(
-    file: &[u8],
-    code: u32,
-    day: u32,
-    lines: &mut [u32],
-    rules: &mut [u32],
-) -> Result<u64, u32> {
-    if let Some(number) = refusal(file, code, day, (lines.len(), rules.len())) {
+/// The open job: the total, with the first records that fit written. The slices
+/// are those for lines, rules and offsets.
+pub fn check(file: &[u8], code: u32, day: u32, slices: [&mut [u32]; 3]) -> Result<u64, u32> {
+    let rooms = slices.each_ref().map(|slice| slice.len());
+    if let Some(number) = refusal(file, code, day, rooms) {
         return Err(number);
     }
-    let faults = faults(file, code, day);
-    enter(&faults, lines, rules);
-    Ok(faults.len() as u64)
+    let records = records(file, code, day);
+    enter(&records, slices);
+    Ok(records.len() as u64)
 }
 
-/// Writes the first faults that fit; places after them keep what they held.
-pub fn enter(faults: &[Fault], lines: &mut [u32], rules: &mut [u32]) {
-    let room = lines.iter_mut().zip(rules);
-    for (&(line, rule), (line_place, rule_place)) in faults.iter().zip(room) {
-        *line_place = line;
-        *rule_place = rule;
+/// Writes the first records that fit; places after them keep what they held.
+fn enter(records: &[Record], slices: [&mut [u32]; 3]) {
+    for (part, slice) in slices.into_iter().enumerate() {
+        for (place, record) in slice.iter_mut().zip(records) {
+            *place = record[part];
+        }
     }
 }

@@ -21,6 +21,8 @@ mod raw {
             lines_len: usize,
             rules: *mut u32,
             rules_len: usize,
+            offsets: *mut u32,
+            offsets_len: usize,
             total: *mut u64,
         ) -> u32;
 
@@ -90,15 +92,15 @@ pub fn total(file: &[u8], code: u32, day: u32, total: &mut u64) -> u32 {
     unsafe { raw::certis_total(file.as_ptr(), file.len(), code, day, total) }
 }
 
+/// The slices are those for lines, rules and offsets.
 pub fn check(
     file: &[u8],
     code: u32,
     day: u32,
-    lines: &mut [u32],
-    rules: &mut [u32],
+    [lines, rules, offsets]: [&mut [u32]; 3],
     total: &mut u64,
 ) -> u32 {
-    let (lines_len, rules_len) = (lines.len(), rules.len());
+    let (lines_len, rules_len, offsets_len) = (lines.len(), rules.len(), offsets.len());
     unsafe {
         raw::certis_check(
             file.as_ptr(),
@@ -109,6 +111,8 @@ pub fn check(
             lines_len,
             rules.as_mut_ptr(),
             rules_len,
+            offsets.as_mut_ptr(),
+            offsets_len,
             total,
         )
     }

@@ -21,11 +21,13 @@ pub struct Line<'a> {
     pub kind: Kind,
     /// A CR LF follows; only the last line can be without.
     pub ended: bool,
+    /// Where its first byte stands in the file; of an empty line, its CR.
+    pub offset: usize,
 }
 
 impl<'a> Line<'a> {
-    fn new(text: &'a [u8], ended: bool) -> Self {
-        Line { text, kind: kind(text), ended }
+    fn new(text: &'a [u8], ended: bool, offset: usize) -> Self {
+        Line { text, kind: kind(text), ended, offset }
     }
 
     /// Continuations can belong to it.
@@ -39,11 +41,11 @@ pub fn cut(text: &[u8]) -> Vec<Line<'_>> {
     let mut lines = Vec::new();
     let mut rest = text;
     while let Some(end) = line_end(rest) {
-        lines.push(Line::new(&rest[..end], true));
+        lines.push(Line::new(&rest[..end], true, text.len() - rest.len()));
         rest = &rest[end + 2..];
     }
     if !rest.is_empty() {
-        lines.push(Line::new(rest, false));
+        lines.push(Line::new(rest, false, text.len() - rest.len()));
     }
     lines
 }
@@ -89,6 +91,14 @@ mod tests {
         assert_eq!(texts(b"a\nb\rc"), [(&b"a\nb\rc"[..], false)]);
         assert_eq!(texts(b"a\r\r\n\n"), [(&b"a\r"[..], true), (b"\n", false)]);
         assert_eq!(texts(b"\n\r\n\r"), [(&b"\n"[..], true), (b"\r", false)]);
+    }
+
+    #[test]
+    fn offsets() {
+        let of = |file| cut(file).iter().map(|line| line.offset).collect::<Vec<_>>();
+        assert_eq!(of(b"a\r\n\r\nb\r\n"), [0, 3, 5]);
+        assert_eq!(of(b"\r\n\r\nx"), [0, 2, 4]);
+        assert_eq!(of(b"\r\r\n\n\r\n\r"), [0, 3, 6]);
     }
 
     #[test]

@@ -17,8 +17,8 @@ fn list(input: &[u8]) -> Result<String, u32> {
         return Err(7);
     }
     let (code, day, file) = job(input).ok_or(8_u32)?;
-    let (mut lines, mut rules) = ([0; ROOM], [0; ROOM]);
-    let total = check::check(file, code, day, &mut lines, &mut rules)?;
+    let (mut lines, mut rules, mut offsets) = ([0; ROOM], [0; ROOM], [0; ROOM]);
+    let total = check::check(file, code, day, [&mut lines, &mut rules, &mut offsets])?;
     let listed = lines.iter().zip(rules).take(total.try_into().unwrap_or(ROOM));
     let mut text = format!("checked {code:04} {day:08}\n");
     for (line, rule) in listed {

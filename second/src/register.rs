@@ -131,7 +131,7 @@ pub fn enter(
     day: u32,
     room: usize,
 ) -> Result<Vec<u8>, u32> {
-    if let Some(number) = check::refusal(file, code, day, (0, 0)) {
+    if let Some(number) = check::refusal(file, code, day, [0; 3]) {
         return Err(number);
     }
     let register = Register::read(register).ok_or(23_u32)?;

@@ -70,7 +70,7 @@ pub fn post(
     if !is_list(codes) {
         return Err(19);
     }
-    if let Some(number) = check::refusal(file, code, day, (0, 0)) {
+    if let Some(number) = check::refusal(file, code, day, [0; 3]) {
         return Err(number);
     }
     let parsed = check::parse(file);

@@ -30,7 +30,7 @@ fn file(lines: &[&str]) -> Vec<u8> {
 }
 
 fn faults_of(file: &[u8]) -> Vec<Fault> {
-    assert_eq!(check::refusal(file, CODE, DAY, (0, 0)), None);
+    assert_eq!(check::refusal(file, CODE, DAY, [0; 3]), None);
     check::faults(file, CODE, DAY)
 }
 
@@ -50,10 +50,11 @@ fn rules_at(faults: &[Fault], line: u32) -> Vec<u32> {
     faults.iter().filter(|fault| fault.0 == line).map(|fault| fault.1).collect()
 }
 
-fn refused(file: &[u8], code: u32, day: u32, rooms: (usize, usize)) -> u32 {
-    let (mut lines, mut rules) = (vec![7; rooms.0], vec![7; rooms.1]);
-    let number = check(file, code, day, &mut lines, &mut rules).expect_err("is refused");
-    assert!(lines.iter().chain(&rules).all(|&place| place == 7));
+fn refused(file: &[u8], code: u32, day: u32, rooms: [usize; 3]) -> u32 {
+    let mut slices = rooms.map(|room| vec![7; room]);
+    let lent = slices.each_mut().map(Vec::as_mut_slice);
+    let number = check(file, code, day, lent).expect_err("is refused");
+    assert!(slices.iter().flatten().all(|&place| place == 7));
     number
 }
 
@@ -97,7 +98,7 @@ fn mark_of_heading_days() {
     assert_eq!(with("20240305"), [11, 16]);
     assert_eq!(with("20230229"), [11, 16]);
     assert_eq!(with("20240230"), [11, 16]);
-    assert_eq!(refused(b"x\x1a", CODE, 20230229, (0, 0)), 2);
+    assert_eq!(refused(b"x\x1a", CODE, 20230229, [0; 3]), 2);
 }
 
 #[test]
@@ -127,11 +128,11 @@ fn mark_of_numbers() {
 fn bytes_after_the_mark_are_refused() {
     let whole = file(&[&head(11, 1)]);
     for behind in [&b"\n"[..], b" ", b"\x1a", b"\x1aHD:\r\n\xff", &whole] {
-        assert_eq!(refused(&[&whole, behind].concat(), CODE, DAY, (0, 0)), 9);
+        assert_eq!(refused(&[&whole, behind].concat(), CODE, DAY, [0; 3]), 9);
     }
-    assert_eq!(refused(b"\x1a\x1a", CODE, DAY, (0, 0)), 9);
-    assert_eq!(refused(b"\x1a", CODE, DAY, (0, 0)), 6);
-    assert_eq!(refused(&[&whole[..], b"x"].concat(), CODE, DAY, (0, 1)), 4);
+    assert_eq!(refused(b"\x1a\x1a", CODE, DAY, [0; 3]), 9);
+    assert_eq!(refused(b"\x1a", CODE, DAY, [0; 3]), 6);
+    assert_eq!(refused(&[&whole[..], b"x"].concat(), CODE, DAY, [0, 1, 0]), 4);
 }
 
 // Document 01, "Errors that tempt".
@@ -154,11 +155,43 @@ fn an_unreadable_heading_does_not_stop_a_block() {
 #[test]
 fn a_full_room_does_not_stop_the_total() {
     let text = file(&["", "", ""]);
-    let (mut lines, mut rules) = ([9; 4], [9; 4]);
-    assert_eq!(check(&text, CODE, DAY, &mut lines, &mut rules), Ok(6));
-    assert_eq!((lines, rules), ([1, 1, 2, 2], [2, 3, 2, 3]));
-    let (mut lines, mut rules) = ([9; 8], [9; 8]);
-    assert_eq!(check(&text, CODE, DAY, &mut lines, &mut rules), Ok(6));
-    assert_eq!((&lines[5..], &rules[5..]), (&[3, 9, 9][..], &[3, 9, 9][..]));
-    assert_eq!(check(&text, CODE, DAY, &mut [], &mut []), Ok(6));
+    let (mut lines, mut rules, mut offsets) = ([9; 4], [9; 4], [9; 4]);
+    assert_eq!(check(&text, CODE, DAY, [&mut lines, &mut rules, &mut offsets]), Ok(6));
+    assert_eq!((lines, rules, offsets), ([1, 1, 2, 2], [2, 3, 2, 3], [0, 0, 2, 2]));
+    let (mut lines, mut rules, mut offsets) = ([9; 8], [9; 8], [9; 8]);
+    assert_eq!(check(&text, CODE, DAY, [&mut lines, &mut rules, &mut offsets]), Ok(6));
+    assert_eq!(
+        (&lines[5..], &rules[5..], &offsets[5..]),
+        (&[3, 9, 9][..], &[3, 9, 9][..], &[4, 9, 9][..])
+    );
+    assert_eq!(check(&text, CODE, DAY, [&mut [], &mut [], &mut []]), Ok(6));
+}
+
+// Document 02, A11.
+
+#[test]
+fn records_have_the_offset_of_their_line() {
+    let lines = [
+        &head_with(11, 1, 2, "0000301"),
+        "KC:12500 20240304",
+        "UD: 2000145398",
+        &head(51, 0),
+        "IN:1 1",
+        "S1:1 12600",
+    ];
+    let offsets: Vec<u32> =
+        check::records(&file(&lines), CODE, DAY).iter().map(|record| record[2]).collect();
+    assert_eq!(offsets, [0, 75, 91]);
+    let records = |file: &[u8]| check::records(file, CODE, DAY);
+    assert_eq!(
+        records(b"\r\n\r\nx\x1a"),
+        [[1, 2, 0], [1, 3, 0], [2, 2, 2], [2, 3, 2], [3, 2, 4], [3, 3, 4], [3, 4, 4]]
+    );
+}
+
+#[test]
+fn three_equal_slices_or_none() {
+    for rooms in [[1, 0, 0], [0, 1, 0], [0, 0, 1], [2, 2, 3], [3, 2, 2], [2, 3, 2], [1, 2, 3]] {
+        assert_eq!(refused(b"\r\n\x1a", CODE, DAY, rooms), 4, "{rooms:?}");
+    }
 }

@@ -319,7 +319,7 @@ mod tests {
     fn clean_files_have_no_fault() {
         for seed in 0..3_000 {
             let sample = small(&mut Dice::new(seed)).sample();
-            assert_eq!(check::refusal(&sample.file, sample.code, sample.day, (0, 0)), None);
+            assert_eq!(check::refusal(&sample.file, sample.code, sample.day, [0; 3]), None);
             let faults = check::faults(&sample.file, sample.code, sample.day);
             assert_eq!(faults, [], "{}", sample.file.escape_ascii());
         }

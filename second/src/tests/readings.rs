@@ -8,16 +8,16 @@ use super::*;
 #[test]
 fn reading_1_order_of_refusals() {
     let long = vec![b'x'; 10_000_001];
-    assert_eq!(refused(&long, 0, 0, (1, 2)), 1);
-    assert_eq!(refused(&long, 10_000, DAY, (1, 2)), 1);
-    assert_eq!(refused(&long, 1, 19991231, (1, 2)), 2);
-    assert_eq!(refused(&long, 1, 21000101, (1, 2)), 2);
-    assert_eq!(refused(&long, 9999, 20991231, (1, 2)), 3);
-    assert_eq!(refused(&long[..10_000_000], 1, 20000101, (1, 2)), 4);
-    assert_eq!(refused(&long[..10_000_000], 1, DAY, (2, 2)), 5);
-    assert_eq!(refused(b"", 1, DAY, (2, 2)), 5);
-    assert_eq!(refused(b"\x1a", 1, DAY, (2, 2)), 6);
-    assert_eq!(refused(b"\x1a\x1a", 1, DAY, (2, 1)), 4);
+    assert_eq!(refused(&long, 0, 0, [1, 2, 2]), 1);
+    assert_eq!(refused(&long, 10_000, DAY, [1, 2, 2]), 1);
+    assert_eq!(refused(&long, 1, 19991231, [1, 2, 2]), 2);
+    assert_eq!(refused(&long, 1, 21000101, [1, 2, 2]), 2);
+    assert_eq!(refused(&long, 9999, 20991231, [1, 2, 2]), 3);
+    assert_eq!(refused(&long[..10_000_000], 1, 20000101, [1, 2, 1]), 4);
+    assert_eq!(refused(&long[..10_000_000], 1, DAY, [2; 3]), 5);
+    assert_eq!(refused(b"", 1, DAY, [2; 3]), 5);
+    assert_eq!(refused(b"\x1a", 1, DAY, [2; 3]), 6);
+    assert_eq!(refused(b"\x1a\x1a", 1, DAY, [2, 2, 1]), 4);
     assert_eq!(faults_of(b"\r\n\x1a"), [(1, 2), (1, 3)]);
 }
 
@@ -26,8 +26,8 @@ fn reading_1_leftovers_are_measured() {
     let mut text = file(&[]);
     text.insert(0, b'x');
     text.resize(10_000_001, b'x');
-    assert_eq!(refused(&text, 1, DAY, (0, 0)), 3);
-    assert_eq!(refused(&text[..10_000_000], 1, DAY, (0, 0)), 9);
+    assert_eq!(refused(&text, 1, DAY, [0; 3]), 3);
+    assert_eq!(refused(&text[..10_000_000], 1, DAY, [0; 3]), 9);
 }
 
 // Lines and layouts.

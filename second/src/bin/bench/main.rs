@@ -64,9 +64,17 @@ fn header(title: &str, time: &str, ratio: &str) {
     println!("  {:44} {time:>16} {ratio:>9}  goal", "");
 }
 
-fn library_check(Job { code, day, file }: Job, lines: &mut [u32], rules: &mut [u32]) {
+/// Room for so many records: lines, rules and offsets.
+type Rooms = [Vec<u32>; 3];
+
+fn rooms(room: usize) -> Rooms {
+    [room; 3].map(|room| vec![0; room])
+}
+
+fn library_check(Job { code, day, file }: Job, rooms: &mut Rooms) {
     let mut total = 0;
-    let answer = face::check(black_box(file), code, day, lines, rules, &mut total);
+    let slices = rooms.each_mut().map(Vec::as_mut_slice);
+    let answer = face::check(black_box(file), code, day, slices, &mut total);
     assert_eq!(answer, 0);
     black_box(total);
 }
@@ -77,8 +85,8 @@ fn library_total(Job { code, day, file }: Job) {
     black_box(total);
 }
 
-fn second_check(Job { code, day, file }: Job, lines: &mut [u32], rules: &mut [u32]) {
-    let answer = check::check(black_box(file), code, day, lines, rules);
+fn second_check(Job { code, day, file }: Job, rooms: &mut Rooms) {
+    let answer = check::check(black_box(file), code, day, rooms.each_mut().map(Vec::as_mut_slice));
     black_box(answer.expect("not refused"));
 }
 
@@ -89,11 +97,10 @@ fn per_byte(contestant: &Contestant, file: &[u8]) -> String {
 /// The proved check on a clean file against everything else: the middle of
 /// several races.
 fn clean_file(job: Job, rounds: u32) -> u32 {
-    let (mut lines, mut rules) = ([0; ROOM], [0; ROOM]);
-    let (mut lines2, mut rules2) = ([0; ROOM], [0; ROOM]);
+    let (mut few, mut few2) = (rooms(ROOM), rooms(ROOM));
     let mut all = [
-        Contestant::new("proved check", || library_check(job, &mut lines, &mut rules)),
-        Contestant::new("second program's check", || second_check(job, &mut lines2, &mut rules2)),
+        Contestant::new("proved check", || library_check(job, &mut few)),
+        Contestant::new("second program's check", || second_check(job, &mut few2)),
         Contestant::new("reading line ends alone", || {
             black_box(ends::read(black_box(job.file)));
         }),
@@ -137,14 +144,13 @@ fn small_files(rounds: u32) -> u32 {
 }
 
 fn small_file(job: Job, calls: u32, rounds: u32) -> u32 {
-    let (mut lines, mut rules) = ([0; ROOM], [0; ROOM]);
-    let (mut lines2, mut rules2) = ([0; ROOM], [0; ROOM]);
+    let (mut few, mut few2) = (rooms(ROOM), rooms(ROOM));
     let mut all = [
         Contestant::new("proved check", || {
-            (0..calls).for_each(|_| library_check(job, &mut lines, &mut rules));
+            (0..calls).for_each(|_| library_check(job, &mut few));
         }),
         Contestant::new("second program's check", || {
-            (0..calls).for_each(|_| second_check(job, &mut lines2, &mut rules2));
+            (0..calls).for_each(|_| second_check(job, &mut few2));
         }),
     ];
     race(&mut all, rounds);
@@ -211,7 +217,8 @@ fn small_calls(rounds: u32) -> u32 {
         Contestant::new("account check, proved", || {
             for call in 0..CALLS {
                 let (prefix, number) = black_box(accounts[of(call)]);
-                let answers = black_box((&mut 0, &mut 0));
+                let (mut first, mut last) = (0, 0);
+                let answers = (black_box(&mut first), black_box(&mut last));
                 black_box(face::account(prefix, number, answers));
             }
         }),
@@ -247,7 +254,7 @@ fn small_calls(rounds: u32) -> u32 {
 fn growth(clean: Job, rounds: u32) -> u32 {
     let small = large::clean_of(&mut Dice::new(1), large::MOST / 10);
     ten_times("growth", [small.job(), clean], rounds, &|job| {
-        library_check(job, &mut [0; ROOM], &mut [0; ROOM]);
+        library_check(job, &mut rooms(ROOM));
     })
 }
 
@@ -289,12 +296,11 @@ fn worst_files(clean: Job, rounds: u32) -> u32 {
         ("headings only", large::headings_only(large::MOST), ROOM),
         ("51s only", large::controls_only(large::MOST), ROOM),
     ];
-    let mut rooms: Vec<_> =
-        worst.iter().map(|(_, _, room)| (vec![0; *room], vec![0; *room])).collect();
-    let (mut lines, mut rules) = ([0; ROOM], [0; ROOM]);
-    let mut all = vec![Contestant::new("clean", || library_check(clean, &mut lines, &mut rules))];
-    all.extend(worst.iter().zip(&mut rooms).map(|((name, sample, _), (lines, rules))| {
-        Contestant::new(name, || library_check(sample.job(), lines, rules))
+    let mut lent: Vec<_> = worst.iter().map(|(_, _, room)| rooms(*room)).collect();
+    let mut few = rooms(ROOM);
+    let mut all = vec![Contestant::new("clean", || library_check(clean, &mut few))];
+    all.extend(worst.iter().zip(&mut lent).map(|((name, sample, _), rooms)| {
+        Contestant::new(name, || library_check(sample.job(), rooms))
     }));
     race(&mut all, rounds);
     header("worst files", "time", "it/clean");

@@ -2,11 +2,10 @@
 //! library answers and leaves in the memory lent to it.
 
 use second::account::{self, Halves};
-use second::check;
+use second::check::{self, Record};
 use second::derive;
 use second::heading;
 use second::register::{self, Register};
-use second::rules::Fault;
 use second::samples::dice::Dice;
 use second::samples::{Job, Sample};
 use second::sheet::{self, TURNOVERS};
@@ -20,7 +19,7 @@ use crate::tally::Tally;
 const TOLD: usize = 2;
 
 /// Patterns for lent memory: one that stands out, and some that could be taken
-/// for pairs that are already entered.
+/// for records that are already entered.
 const PATTERNS: [u32; 4] = [0xC5C5_C5C5, 0, 1, u32::MAX];
 
 /// What may lie before and behind a file in memory.
@@ -30,7 +29,7 @@ const AROUND: [&[u8]; 6] = [b"", b"\x1a", b"\r\n\x1a", b"\n", b"HD:11 \x1a", b" 
 const BESIDE: i64 = -0x5A5A_5A5A_5A5A_5A5A;
 
 /// What the reference says of a file: its faults or a refusal.
-type Verdict = Result<Vec<Fault>, u32>;
+type Verdict = Result<Vec<Record>, u32>;
 
 pub struct Judge {
     pub tally: Tally,
@@ -76,7 +75,9 @@ impl Judge {
         let rooms = [many, total, few, 1, 0].map(|room| (room, dice.pick(&PATTERNS)));
         self.compare(job, &verdict, &rooms);
         if dice.once_in(16) {
-            self.uneven_rooms(job, (few, dice.pick(&[0, few - 1, few + 1, many + few])));
+            let mut rooms = [few; 3];
+            rooms[dice.place(3)] = dice.pick(&[0, few - 1, few + 1, many + few]);
+            self.uneven_rooms(job, rooms);
         }
     }
 
@@ -92,7 +93,7 @@ impl Judge {
     pub fn verdict(&mut self, job: Job) -> Verdict {
         let verdict = verdict(job);
         match &verdict {
-            Ok(faults) => self.tally.faults(faults),
+            Ok(records) => self.tally.records(records),
             Err(number) => self.tally.refusal(*number),
         }
         verdict
@@ -109,7 +110,7 @@ impl Judge {
 
     /// Slices of different length: always a refusal, not always number 4. Equal
     /// ones that are not refused are left to the other comparisons.
-    pub fn uneven_rooms(&mut self, job: Job, rooms: (usize, usize)) {
+    pub fn uneven_rooms(&mut self, job: Job, rooms: [usize; 3]) {
         let Some(number) = check::refusal(job.file, job.code, job.day, rooms) else {
             return;
         };
@@ -273,23 +274,23 @@ impl Judge {
 }
 
 fn verdict(Job { code, day, file }: Job) -> Verdict {
-    match check::refusal(file, code, day, (0, 0)) {
+    match check::refusal(file, code, day, [0; 3]) {
         Some(number) => Err(number),
-        None => Ok(check::faults(file, code, day)),
+        None => Ok(check::records(file, code, day)),
     }
 }
 
 /// The expected return value and the total afterwards.
 fn expected(verdict: &Verdict, before: u64) -> (u32, u64) {
     match verdict {
-        Ok(faults) => (0, faults.len() as u64),
+        Ok(records) => (0, records.len() as u64),
         Err(number) => (*number, before),
     }
 }
 
 fn first_difference(job: Job, verdict: &Verdict, rooms: &[(usize, u32)]) -> Option<String> {
     let mut rooms = rooms.iter();
-    let list = |&(room, pattern)| list_differs(job, verdict, (room, room), pattern);
+    let list = |&(room, pattern)| list_differs(job, verdict, [room; 3], pattern);
     rooms.find_map(list).or_else(|| total_differs(job, verdict))
 }
 
@@ -314,22 +315,20 @@ fn total_differs(Job { code, day, file }: Job, verdict: &Verdict) -> Option<Stri
 fn list_differs(
     Job { code, day, file }: Job,
     verdict: &Verdict,
-    rooms: (usize, usize),
+    rooms: [usize; 3],
     pattern: u32,
 ) -> Option<String> {
     let before = u64::from(pattern);
-    let mut lines = Lent::new(rooms.0, pattern);
-    let mut rules = Lent::new(rooms.1, pattern);
+    let mut slices = rooms.map(|room| Lent::new(room, pattern));
     let mut total = before;
-    let answer = face::check(file, code, day, lines.lend(), rules.lend(), &mut total);
+    let answer = face::check(file, code, day, slices.each_mut().map(Lent::lend), &mut total);
     let (found, expected) = ((answer, total), expected(verdict, before));
-    let listed = verdict.as_ref().map_or(&[][..], |faults| &faults[..faults.len().min(rooms.0)]);
-    let is_same = found == expected
-        && lines.holds(listed.iter().map(|fault| fault.0))
-        && rules.holds(listed.iter().map(|fault| fault.1));
-    (!is_same).then(|| {
+    let listed = verdict.as_ref().map_or(&[][..], |list| &list[..list.len().min(rooms[0])]);
+    let mut parts = slices.iter().enumerate();
+    let holds = parts.all(|(part, lent)| lent.holds(listed.iter().map(|record| record[part])));
+    (found != expected || !holds).then(|| {
         let answers = report::answers(expected, found);
-        let lists = report::lists(listed, lines.lend(), rules.lend());
+        let lists = report::lists(listed, slices.each_mut().map(Lent::lend));
         format!("certis_check with room for {rooms:?}: {answers}\n  {lists}")
     })
 }

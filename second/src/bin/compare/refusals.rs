@@ -25,7 +25,18 @@ pub const DAYS: [u32; 12] = [
 ];
 pub const FILES: [&[u8]; 9] =
     [b"", b"\x1a", b"\r\n\x1a", b"x", b"x\x1a", b"\x1ax\x1a", b"\r\n", b"x\x1ay", b"\x1a\x1a"];
-const ROOMS: [(usize, usize); 6] = [(0, 0), (3, 3), (0, 1), (1, 0), (5, 4), (256, 255)];
+const ROOMS: [[usize; 3]; 10] = [
+    [0, 0, 0],
+    [3, 3, 3],
+    [1, 0, 0],
+    [0, 1, 0],
+    [0, 0, 1],
+    [4, 5, 5],
+    [5, 4, 5],
+    [5, 5, 4],
+    [1, 2, 3],
+    [256, 255, 256],
+];
 const LENGTHS: [usize; 5] = [9_999_998, 9_999_999, 10_000_000, 10_000_001, 10_000_002];
 
 pub fn all() -> Vec<Group> {
@@ -35,7 +46,7 @@ pub fn all() -> Vec<Group> {
         Group::listed("lengths about 10,000,000", LENGTHS.len() as u64, lengths),
         Group::random("rooms of different lengths", 2_000, |judge, dice, _| {
             let sample = clean::small(dice).sample();
-            let rooms = (dice.place(40), dice.place(40));
+            let rooms = [40; 3].map(|most| dice.place(most));
             judge.uneven_rooms(sample.job(), rooms);
         }),
         Group::random("files cut short in memory that goes on", 2_000, cut_short),
@@ -64,11 +75,11 @@ fn lengths(judge: &mut Judge, _: &mut Dice, case: u64) {
         }
         let mut sample = Sample { code: 300, day: 20240304, file };
         judge.large(sample.job());
-        judge.uneven_rooms(sample.job(), (2, 3));
+        judge.uneven_rooms(sample.job(), [2, 2, 3]);
         for (code, day) in [(0, 20240304), (300, 20230229), (10_000, 0)] {
             (sample.code, sample.day) = (code, day);
             judge.large(sample.job());
-            judge.uneven_rooms(sample.job(), (2, 3));
+            judge.uneven_rooms(sample.job(), [2, 2, 3]);
         }
     }
 }

@@ -2,7 +2,7 @@
 //! smaller where that is possible.
 
 use second::account::Halves;
-use second::rules::Fault;
+use second::check::Record;
 use second::samples::{Job, Sample};
 
 /// Bytes of an input that are shown.
@@ -50,14 +50,16 @@ pub fn answers(expected: (u32, u64), found: (u32, u64)) -> String {
 }
 
 /// Both lists from shortly before the place where they part. The places found
-/// after the last pair should hold the pattern.
-pub fn lists(expected: &[Fault], lines: &[u32], rules: &[u32]) -> String {
-    let found: Vec<Fault> = lines.iter().copied().zip(rules.iter().copied()).collect();
+/// after the last record should hold the pattern.
+pub fn lists(expected: &[Record], [lines, rules, offsets]: [&mut [u32]; 3]) -> String {
+    let columns = lines.iter().zip(rules).zip(offsets);
+    let found: Vec<Record> =
+        columns.map(|((line, rule), offset)| [*line, *rule, *offset]).collect();
     let same = expected.iter().zip(&found).take_while(|(one, other)| one == other).count();
     let from = same.saturating_sub(3);
     let few =
-        |list: &[Fault]| format!("{:?}", &list[from.min(list.len())..list.len().min(from + 12)]);
-    format!("pairs from place {from}: expected {}\n  found {}", few(expected), few(&found))
+        |list: &[Record]| format!("{:?}", &list[from.min(list.len())..list.len().min(from + 12)]);
+    format!("records from place {from}: expected {}\n  found {}", few(expected), few(&found))
 }
 
 pub fn derived(

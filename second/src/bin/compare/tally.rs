@@ -1,7 +1,7 @@
 //! How often the reference met each rule and each refusal: a run that never
 //! meets one says nothing about it.
 
-use second::rules::Fault;
+use second::check::Record;
 
 #[derive(Clone)]
 pub struct Tally {
@@ -30,8 +30,8 @@ impl Tally {
         }
     }
 
-    pub fn faults(&mut self, faults: &[Fault]) {
-        for &(_, rule) in faults {
+    pub fn records(&mut self, records: &[Record]) {
+        for &[_, rule, _] in records {
             self.rules[rule as usize] += 1;
         }
     }

@@ -61,7 +61,7 @@ mod tests {
             let step = (edge.count / 500).max(1);
             let samples = (0..edge.count).step_by(step as usize).map(|case| edge.sample(case));
             let faulty = samples.filter(|Sample { code, day, file }| {
-                check::refusal(file, *code, *day, (0, 0)).is_some()
+                check::refusal(file, *code, *day, [0; 3]).is_some()
                     || !check::faults(file, *code, *day).is_empty()
             });
             assert!(faulty.count() > 0, "{}", edge.name);
