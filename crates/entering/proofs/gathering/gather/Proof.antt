@@ -30,29 +30,29 @@ mul-keys c = search needs
 
 slice-write-keys : tie.Need-slice-write-keys Inv-loop μ-loop
 slice-write-keys c =
-    let l = c .before .before .before .before .before in
-    gather-room (l .loop .inv .0) (c .before .before .before .head-at .ensures .item) (c .before .key-at .ensures) (c .if1 .taken) (l .before .before .before .before .pre) (l .loop .inv .1)
+    let l = c .before .before .before .before in
+    gather-room (l .loop .inv .0) (c .before .before .head-at .ensures .item) (c .before .key-at .ensures) (c .if1 .taken) (l .before .before .before .before .pre) (l .loop .inv .1)
 
 add-n : tie.Need-add-n Inv-loop μ-loop
 add-n c =
-    let l = c .before .before .before .before .before in
+    let l = c .before .before .before .before in
     record { fits = omega (arith, l .loop .inv .0 .few, l .loop .inv .0 .to, l .before .before .before .before .good .0 .0) }
 
 loop-less : tie.Need-loop-less Inv-loop μ-loop
-loop-less c = omega (arith, c .before .before .before .head-at .ensures .item .moves, c .before .before .before .head-at .ensures .item .within)
+loop-less c = omega (arith, c .before .before .head-at .ensures .item .moves, c .before .before .head-at .ensures .item .within)
 
 loop-again : tie.Need-loop-again Inv-loop μ-loop
 loop-again c =
-    let l = c .before .before .before .before .before in
-    (gather-key (l .loop .inv .0) (c .before .before .before .head-at .ensures .item) (c .before .key-at .ensures) (c .if1 .taken) (l .before .before .before .before .pre) (l .loop .inv .1), length-set (l .loop .keys) (l .loop .n) (c .before .key-at .result) ∙ l .loop .inv .1)
+    let l = c .before .before .before .before in
+    (gather-key (l .loop .inv .0) (c .before .before .head-at .ensures .item) (c .before .key-at .ensures) (c .if1 .taken) (l .before .before .before .before .pre) (l .loop .inv .1), length-set (l .loop .keys) (l .loop .n) (c .before .key-at .result) ∙ l .loop .inv .1)
 
 loop-less-2 : tie.Need-loop-less-2 Inv-loop μ-loop
-loop-less-2 c = omega (arith, c .before .before .before .head-at .ensures .item .moves, c .before .before .before .head-at .ensures .item .within)
+loop-less-2 c = omega (arith, c .before .before .head-at .ensures .item .moves, c .before .before .head-at .ensures .item .within)
 
 loop-again-2 : tie.Need-loop-again-2 Inv-loop μ-loop
 loop-again-2 c =
-    let l = c .before .before .before .before .before in
-    (gather-none (l .loop .inv .0) (c .before .before .before .head-at .ensures .item) (c .before .key-at .ensures) (c .if1 .left), l .loop .inv .1)
+    let l = c .before .before .before .before in
+    (gather-none (l .loop .inv .0) (c .before .before .head-at .ensures .item) (c .before .key-at .ensures) (c .if1 .left), l .loop .inv .1)
 
 same-length : tie.Need-same-length Inv-loop μ-loop
 same-length c = c .before .loop .inv .1
