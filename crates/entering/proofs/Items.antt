@@ -13,10 +13,9 @@ use Rattle.headings.specs.declared.Read.{Read}
 use Rattle.headings.specs.declared.Read.the-variants.{Reads, Unreadable}
 use Rattle.lines.specs.Lines.{lines}
 use Rattle.rules.specs.Rows.{rowsFrom}
-use Rattle.item_reader.specs.declared.Below.{Below}
 use Rattle.item_reader.specs.declared.Next.{Next}
 use Rattle.item_reader.specs.declared.Slip.{Slip}
-use Rattle.item_reader.specs.Slips.{slipsFrom, Headed, IsBelow, IsSlip}
+use Rattle.item_reader.specs.Slips.{slipsFrom, Headed, IsFirst, IsSlip}
 use Rattle.sorting.specs.Sorting.{Rises}
 use Rattle.register.specs.Bytes.{bigAt}
 use Rattle.register.specs.Register.{Range, rangesIn}
@@ -47,23 +46,21 @@ pub key-used : {head : Read} {h : Heading} {r : ℕ} → head ≡ Reads h → (h
 key-used {head} {h} e z q = q ∙ sym (ap keyAt e ∙ (rw (ne-eqb (h .number .0) 0 z)))
 
 pub record Gathering (s keys : List ℕ) (n at : ℕ) : Type 0 where
-  pub line : ℕ
   pub to : at ≤ length s
   pub headed : at < length s → Headed s at
   pub few : 54 * n ≤ at
-  pub left : keysOf (used (slipsFrom 1 s)) ≡ take n keys ++ keysOf (used (slipsFrom line (drop at s)))
+  pub left : keysOf (used (slipsFrom 1 s)) ≡ take n keys ++ keysOf (used (slipsFrom 1 (drop at s)))
 
-abbrev keysFrom : ℕ → List ℕ → List ℕ
-keysFrom n s = keysOf (used (slipsFrom n s))
+abbrev keysFrom : List ℕ → List ℕ
+keysFrom s = keysOf (used (slipsFrom 1 s))
 
-nothing-left : (s : List ℕ) (n at : ℕ) → length s ≤ at → keysFrom n (drop at s) ≡ []
+nothing-left : (s : List ℕ) (at : ℕ) → length s ≤ at → keysFrom (drop at s) ≡ []
 unfolding rowsFrom lines
-nothing-left s n at h = ap (keysFrom n) (drop-past s at h)
+nothing-left s at h = ap keysFrom (drop-past s at h)
 
 module _ {s keys : List ℕ} where
-  pub gather-start : {b : Below} → IsBelow s 0 b → Gathering s keys 0 (b .next)
-  gather-start {b} B = record {
-    line = 1 + b .lines;
+  pub gather-start : {at : ℕ} → IsFirst s 0 at → Gathering s keys 0 at
+  gather-start B = record {
     to = B .within;
     headed = B .headed;
     few = omega arith;
@@ -71,15 +68,14 @@ module _ {s keys : List ℕ} where
   }
 
   module _ {n at : ℕ} (G : Gathering s keys n at) {x : Next} (X : IsSlip s at x) {k : ℕ} (e : k ≡ keyAt (x .slip .head)) where
-    on : keysFrom (G .line) (drop at s) ≡ cond (eqb k 0) (keysFrom (G .line + x .lines) (drop (x .next) s)) (k ∷ keysFrom (G .line + x .lines) (drop (x .next) s))
+    on : keysFrom (drop at s) ≡ cond (eqb k 0) (keysFrom (drop (x .next) s)) (k ∷ keysFrom (drop (x .next) s))
     on =
-        ap (λ (l : List Slip). keysOf (used l)) (X .cut (G .line))
-        ∙ keyed (x .slip .head) (used (slipsFrom (G .line + x .lines) (drop (x .next) s)))
-        ∙ ap (λ (k : ℕ). cond (eqb k 0) (keysFrom (G .line + x .lines) (drop (x .next) s)) (k ∷ keysFrom (G .line + x .lines) (drop (x .next) s))) (sym e)
+        ap (λ (l : List Slip). keysOf (used l)) (X .cut 1)
+        ∙ keyed (x .slip .head) (used (slipsFrom 1 (drop (x .next) s)))
+        ∙ ap (λ (k : ℕ). cond (eqb k 0) (keysFrom (drop (x .next) s)) (k ∷ keysFrom (drop (x .next) s))) (sym e)
 
     pub gather-none : k ≡ 0 → Gathering s keys n (x .next)
     gather-none z = record {
-      line = G .line + x .lines;
       to = X .within;
       headed = X .headed;
       few = omega (arith, G .few, X .moves);
@@ -99,18 +95,17 @@ module _ {s keys : List ℕ} where
 
       pub gather-key : Gathering s (set keys n k) (n + 1) (x .next)
       gather-key = record {
-        line = G .line + x .lines;
         to = X .within;
         headed = X .headed;
         few = omega (arith, G .few, past);
-        left = stored n keys k (keysFrom (G .line + x .lines) (drop (x .next) s)) (keysFrom 1 s) gather-room (G .left ∙ ap (λ (l : List ℕ). take n keys ++ l) (on ∙ (rw (ne-eqb k 0 z))));
+        left = stored n keys k (keysFrom (drop (x .next) s)) (keysFrom s) gather-room (G .left ∙ ap (λ (l : List ℕ). take n keys ++ l) (on ∙ (rw (ne-eqb k 0 z))));
       }
 
   pub gather-end : {n at : ℕ} → Gathering s keys n at → length s ≤ at → {most : ℕ} → length s ≤ 54 * most → length keys ≡ most → Gathered (length s) (used (slipsFrom 1 s)) n keys
   gather-end {n} {at} G h room long = record {
     few = omega (arith, G .few, G .to);
     within = omega (arith, G .few, G .to, room, long);
-    holds = sym (G .left ∙ ap (λ (l : List ℕ). take n keys ++ l) (nothing-left s (G .line) at h) ∙ append-nil (take n keys));
+    holds = sym (G .left ∙ ap (λ (l : List ℕ). take n keys ++ l) (nothing-left s at h) ∙ append-nil (take n keys));
   }
 
 -- ---- the ranges that stay

@@ -40,13 +40,11 @@ pub fn gather(s: &[u8], keys: &mut [u64]) -> usize
     ensures { λ r. ⌜ Gathered (length (now (s .entry))) (used (slipsFrom 1 (now (s .entry)))) r (now (keys .exit)) ⌝ }
 {
     let mut n = 0;
-    let b = item_reader::below_from(s, 0);
-    let mut at = b.next;
+    let mut at = item_reader::heading_from(s, 0);
     while at < s.len() {
-        let x = item_reader::slip_at(s, at);
-        let slip = x.slip;
+        let x = item_reader::head_at(s, at);
+        let head = x.head;
         at = x.next;
-        let head = slip.head;
         let key = key_at(head);
         if key != 0 {
             keys[n] = key;

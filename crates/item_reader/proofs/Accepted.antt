@@ -38,7 +38,7 @@ use Rattle.rules.specs.Demand.{spotsOf}
 use Rattle.rules.proofs.ByRule.{six-at-field, six-at-heading, at-readable}
 use Rattle.item_reader.specs.Slips.{kcAmong, slipOf, slipsFrom}
 use Rattle.item_reader.specs.Accepted.{Fine, Each}
-use Rattle.item_reader.proofs.Sinking.{says-kc}
+use Rattle.item_reader.proofs.Passing.{says-kc}
 
 -- ---- a KC that reads is paid
 paid-line : (s : List ℕ) → fits (layoutOf Money .own) s ≡ true → (a : Amount) × (d : ℕ) × (readingOf Money s ≡ PaidReading a d)
