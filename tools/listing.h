@@ -4,7 +4,7 @@
  *   blocks.c   what a 51 states, and what its block holds
  *   explain.c  the listing with lines and words
  *   hints.c    what a whole file has wrong
- *   screen.c   the listing as a page for the screen
+ *   screen.c   the listing as a page for the screen, whose parts are in screen.h
  */
 
 #ifndef LISTING_H

@@ -2,27 +2,20 @@
  * its place in the file below; there its item, and a little of what surrounds
  * it. Only so much of a file stands on the page that a browser opens it.
  *
- * The page is one file with no script. What comes from outside goes through
- * put_bytes or put_name, which let no byte become markup; and its policy lets a
- * browser run and fetch nothing.
+ * The page is one file with no script. What comes from outside is written by
+ * markup.c alone; and the page's policy lets a browser run and fetch nothing.
  */
 
 #define _POSIX_C_SOURCE 200809L /* for open_memstream */
 
 #include "certis.h"
-#include "listing.h"
+#include "screen.h"
 
 #include <inttypes.h>
-#include <stdio.h>
 #include <stdlib.h>
-#include <string.h>
 
 /* The faults that are listed where --most says nothing. */
 enum { PAGE_FAULTS = 500 };
-
-/* Of an item no more lines than this stand before a fault, or after it, fewer
- * where there are more faults than a few; and so many of what surrounds it. */
-enum { FEW_FAULTS = 100, ITEM_LINES = 24, FEWER_LINES = 6, AROUND_LINES = 2 };
 
 static const char STYLE[] =
     ":root{color-scheme:light dark;--ink:#1c2329;--soft:#55606b;--paper:#fff;--line:#d5dbe1;--link:#0a51a1;"
@@ -63,91 +56,6 @@ static const char STYLE[] =
     "@media print{:root{--ink:#000;--soft:#444;--paper:#fff;--line:#bbb;--link:#000;--bad:#000;--tint:#fff;"
     "--mark:#ddd;--good:#000;--hint:#fff}body{max-width:none;padding:0;font-size:10pt}nav{display:none}"
     "a{text-decoration:none}tr{break-inside:avoid}h2{break-after:avoid}}\n";
-
-/* A page that is being written, and how far it shows the file: up to `shown`,
- * where the line of the number `line` begins. */
-struct page {
-    FILE *to;
-    const struct bytes *file;
-    const struct faults *found;
-    const struct request *asked;
-    size_t listed; /* so many faults are on the page, */
-    uint32_t most; /* and at most so many lines of an item on either side */
-    const uint8_t *end;
-    const uint8_t *shown;
-    uint32_t line;
-};
-
-/* Text from outside */
-
-static void put_character(FILE *to, char character)
-{
-    static const char SPECIAL[] = { '&', '<', '>', '"', '\'' };
-    static const char *const NAMED[] = { "&amp;", "&lt;", "&gt;", "&quot;", "&#39;" };
-    const char *special = memchr(SPECIAL, character, sizeof SPECIAL);
-    if (special != NULL) {
-        fputs(NAMED[special - SPECIAL], to);
-    } else {
-        putc(character, to);
-    }
-}
-
-/* One that cannot be shown, as on a terminal. */
-static void put_odd(FILE *to, unsigned byte)
-{
-    fprintf(to, "<mark>&lt;%02X&gt;</mark>", byte);
-}
-
-static void put_bytes(FILE *to, const uint8_t *bytes, size_t length)
-{
-    for (size_t i = 0; i < length; i++) {
-        char text[2];
-        size_t width = in_utf8(bytes[i], text);
-        if (width == 0) {
-            put_odd(to, bytes[i]);
-        } else if (width == 1) {
-            put_character(to, text[0]);
-        } else {
-            fwrite(text, 1, width, to);
-        }
-    }
-}
-
-/* The name of a file is UTF-8 where the system's are. */
-static void put_name(FILE *to, const char *name)
-{
-    const char *shown = strcmp(name, "-") == 0 ? "standard input" : name;
-    for (; *shown != '\0'; shown++) {
-        unsigned char byte = (unsigned char)*shown;
-        if (byte < 0x20 || byte == 0x7F) {
-            put_odd(to, byte);
-        } else {
-            put_character(to, *shown);
-        }
-    }
-}
-
-/* A line of the file, or as much of it as anybody reads. */
-static void put_text(FILE *to, const uint8_t *text, size_t length)
-{
-    size_t shown = length < SHOWN_BYTES ? length : SHOWN_BYTES;
-    fputs("<code>", to);
-    put_bytes(to, text, shown);
-    fputs("</code>", to);
-    if (length == 0) {
-        fputs("<span class=\"soft\">(empty)</span>", to);
-    } else if (shown < length) {
-        fprintf(to, " <span class=\"soft\">... (%zu bytes)</span>", length);
-    }
-}
-
-/* The words are the desk's own, but they have quotes. */
-static void put_words(FILE *to, const char *words)
-{
-    for (; words != NULL && *words != '\0'; words++) {
-        put_character(to, *words);
-    }
-}
 
 /* The head of the page */
 
@@ -247,148 +155,6 @@ static void put_summary(const struct page *page)
     fputs("</tbody>\n</table>\n</section>\n", page->to);
 }
 
-/* The file */
-
-static void put_statement(FILE *to, const struct statement *statement)
-{
-    fputs("<br>Stated: ", to);
-    if (statement->stated == NULL) {
-        fprintf(to, "no %.2s", statement->mark);
-    } else {
-        put_text(to, statement->stated, statement->length);
-    }
-    fprintf(to, "; counted: <code>%s</code>", statement->counted);
-}
-
-/* The rules broken at the line at which the walk stands, from the fault on. */
-static void put_rules(const struct page *page, const struct walk *walk, size_t at)
-{
-    const struct faults *found = page->found;
-    struct statement statement;
-    fputs("<ul>", page->to);
-    for (size_t i = at; i < page->listed && found->offsets[i] == found->offsets[at]; i++) {
-        fprintf(page->to, "<li><a href=\"#f%zu\">Rule %" PRIu32 "</a> ", i + 1, found->rules[i]);
-        put_words(page->to, rule_in_words(found->rules[i]));
-        if (find_statement(walk, found->rules[i], &statement)) {
-            put_statement(page->to, &statement);
-        }
-        fputs("</li>", page->to);
-    }
-    fputs("</ul>", page->to);
-}
-
-static void step_over(struct page *page, const struct reader *reader)
-{
-    page->shown = reader->rest;
-    page->line += 1;
-}
-
-static void put_line(struct page *page, const struct reader *reader)
-{
-    fprintf(page->to, "<tr><th scope=\"row\" class=\"number\">%" PRIu32 "</th><td>", page->line);
-    put_text(page->to, reader->text, reader->length);
-    fputs("</td></tr>\n", page->to);
-    step_over(page, reader);
-}
-
-static void put_faulty_line(struct page *page, const struct walk *walk, size_t at)
-{
-    fprintf(page->to, "<tr id=\"l%" PRIu32 "\" class=\"bad\"><th scope=\"row\" class=\"number\">%" PRIu32 "</th><td>", page->line,
-            page->line);
-    put_text(page->to, walk->reader.text, walk->reader.length);
-    put_rules(page, walk, at);
-    fputs("</td></tr>\n", page->to);
-    step_over(page, &walk->reader);
-}
-
-/* Leaves out what stands before the line of that number, if that is worth it. */
-static void leave_out(struct page *page, const uint8_t *next, uint32_t number)
-{
-    if (number > page->line + AROUND_LINES) {
-        fprintf(page->to, "<tr class=\"gap\"><td></td><td>Lines %" PRIu32 " to %" PRIu32 " have no fault.</td></tr>\n", page->line,
-                number - 1);
-        page->shown = next;
-        page->line = number;
-    }
-}
-
-/* How many lines there are from a line back to the heading of its item, and to
- * what stands before that; none that is shown already. *first is the last of
- * them. */
-static uint32_t lines_before(const struct page *page, const uint8_t **first)
-{
-    uint32_t lines = 0;
-    uint32_t most = page->most;
-    bool in_item = true;
-    for (; *first > page->shown && lines < most; lines++) {
-        if (in_item && page->end - *first >= 3 && memcmp(*first, "HD:", 3) == 0) {
-            in_item = false;
-            most = lines + AROUND_LINES;
-        }
-        *first = line_before(page->file->at, *first);
-    }
-    return lines;
-}
-
-static void put_before(struct page *page, const uint8_t *line)
-{
-    struct reader reader = { .rest = page->shown, .end = page->end };
-    while (page->shown < line && next_line(&reader)) {
-        put_line(page, &reader);
-    }
-}
-
-/* The rest of the item, and what stands after it; not the next faulty line. */
-static void put_after(struct page *page, const uint8_t *next)
-{
-    struct reader reader = { .rest = page->shown, .end = page->end };
-    uint32_t most = page->most;
-    bool in_item = true;
-    for (uint32_t lines = 0; lines < most && page->shown < next && next_line(&reader); lines++) {
-        if (in_item && starts(&reader, "HD:")) {
-            in_item = false;
-            most = lines + AROUND_LINES;
-        }
-        put_line(page, &reader);
-    }
-}
-
-/* The faulty line of a fault that is the line's first, with what surrounds it. */
-static void put_place(struct page *page, struct walk *walk, size_t at)
-{
-    const struct faults *found = page->found;
-    const uint8_t *line = page->file->at + found->offsets[at];
-    const uint8_t *first = line;
-    uint32_t before = lines_before(page, &first);
-    size_t next = at;
-    leave_out(page, first, found->lines[at] - before);
-    put_before(page, line);
-    walk_to(walk, found->offsets[at]);
-    put_faulty_line(page, walk, at);
-    while (next < found->count && found->offsets[next] == found->offsets[at]) {
-        next += 1;
-    }
-    put_after(page, next < found->count ? page->file->at + found->offsets[next] : page->end);
-}
-
-static void put_places(struct page *page)
-{
-    const struct faults *found = page->found;
-    struct walk walk = before_walk(page->file, found);
-    fputs("<section aria-labelledby=\"file\">\n<h2 id=\"file\">In the file</h2>\n<table class=\"file\">\n"
-          "<thead><tr><th scope=\"col\" class=\"number\">Line</th><th scope=\"col\">Text</th></tr></thead>\n<tbody>\n",
-          page->to);
-    for (size_t i = 0; i < page->listed; i++) {
-        if (i == 0 || found->offsets[i] != found->offsets[i - 1]) {
-            put_place(page, &walk, i);
-        }
-    }
-    const char *rest = page->shown == page->end           ? "End of the file."
-                       : page->listed < page->found->count ? "The rest of the file, which has more faults, is not shown."
-                                                           : "The rest of the file has no fault.";
-    fprintf(page->to, "<tr class=\"gap\"><td></td><td>%s</td></tr>\n</tbody>\n</table>\n</section>\n", rest);
-}
-
 /* The whole page */
 
 static void put_refused(const struct page *page)
@@ -401,7 +167,7 @@ static void put_refused(const struct page *page)
     }
 }
 
-static void put_listing(struct page *page)
+static void put_listing(const struct page *page)
 {
     bool some = page->listed > 0;
     bool cut = page->listed < page->found->count;
@@ -426,7 +192,7 @@ static void put_listing(struct page *page)
     }
 }
 
-static void put_page(struct page *page, const char *name)
+static void put_page(const struct page *page, const char *name)
 {
     put_head(page, name);
     if (page->found->refusal != 0) {
@@ -441,7 +207,6 @@ static void put_page(struct page *page, const char *name)
 bool write_page(const char *name, const struct bytes *file, const struct faults *found, const struct request *asked)
 {
     size_t most = asked->most == EVERY ? PAGE_FAULTS : asked->most;
-    size_t listed = found->count < most ? found->count : most;
     char *text = NULL;
     size_t length = 0;
     struct page page = {
@@ -449,11 +214,7 @@ bool write_page(const char *name, const struct bytes *file, const struct faults 
         .file = file,
         .found = found,
         .asked = asked,
-        .listed = listed,
-        .most = listed > FEW_FAULTS ? FEWER_LINES : ITEM_LINES,
-        .shown = file->at,
-        .end = before_lines(file->at, file->length).end,
-        .line = 1,
+        .listed = found->count < most ? found->count : most,
     };
     if (page.to == NULL) {
         complain("not enough memory for the page");

@@ -2,7 +2,7 @@
 //! library answers and leaves in the memory lent to it.
 
 use second::account::{self, Halves};
-use second::check::{self, Record};
+use second::check;
 use second::derive;
 use second::heading;
 use second::register::{self, Register};
@@ -29,7 +29,7 @@ const AROUND: [&[u8]; 6] = [b"", b"\x1a", b"\r\n\x1a", b"\n", b"HD:11 \x1a", b" 
 const BESIDE: i64 = -0x5A5A_5A5A_5A5A_5A5A;
 
 /// What the reference says of a file: its faults or a refusal.
-type Verdict = Result<Vec<Record>, u32>;
+type Verdict = Result<Vec<check::Record>, u32>;
 
 pub struct Judge {
     pub tally: Tally,
