@@ -117,16 +117,17 @@ uint32_t certis_total(const uint8_t *file, size_t file_len,
 /* Checking, with the list.
  *
  * As certis_total, and writes the faults: lines[i] is the number of a line,
- * counted from 1, and rules[i] a rule broken there; each pair stands once, by
- * line and then by rule. Where there are more faults than room, the first ones
- * that fit are written; *total is the true total all the same. Places after the
- * last pair keep what they held.
+ * counted from 1, rules[i] a rule broken there, and offsets[i] where the line
+ * starts, in bytes from the file's first, counted from 0; each pair of a line
+ * and a rule stands once, by line and then by rule. Where there are more faults
+ * than room, the first ones that fit are written; *total is the true total all
+ * the same. Places after the last fault keep what they held, in all three.
  *
  * Refusals, the first that applies:
  *   1  the code is not 1 to 9999
  *   2  the day is not a real day from 20000101 to 20991231
  *   3  the file has more than 10,000,000 bytes, those after the 1A included
- *   4  lines_len and rules_len differ
+ *   4  lines_len, rules_len and offsets_len are not all equal
  *   5  there is no byte 1A in the file
  *   9  a byte stands after the first 1A
  *   6  the file is the byte 1A alone
@@ -135,6 +136,7 @@ uint32_t certis_check(const uint8_t *file, size_t file_len,
                       uint32_t code, uint32_t day,
                       uint32_t *lines, size_t lines_len,
                       uint32_t *rules, size_t rules_len,
+                      uint32_t *offsets, size_t offsets_len,
                       uint64_t *total);
 
 /* Telling what would go out.
