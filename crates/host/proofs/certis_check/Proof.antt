@@ -17,17 +17,21 @@ same-length c = search needs
 same-length-2 : tie.Need-same-length-2
 same-length-2 c = search needs
 
+same-length-3 : tie.Need-same-length-3
+same-length-3 c = search needs
+
 returns : tie.Need-returns
 returns c =
-    let k = c .before .before .before .before .before .before in
-    let e = c .leave-total .ensures .0 ∙ k .check .ensures .number in
+    let k = c .before .before .before .before .before .before .before .before .check .ensures in
+    let e = c .leave-total .ensures .0 ∙ k .number in
     record {
       number = e;
-      total = rw (c .leave-total .ensures .0) (c .leave-total .ensures .1 ∙ stored (λ (x : ℕ). x) _ 0 _ (k .check .ensures .number) (k .check .ensures .total 0));
-      lines = rw e (k .check .ensures .lines);
-      rules = rw e (k .check .ensures .rules);
+      total = rw (c .leave-total .ensures .0) (c .leave-total .ensures .1 ∙ stored (λ (x : ℕ). x) _ 0 _ (k .number) (k .total 0));
+      lines = rw e (k .lines);
+      rules = rw e (k .rules);
+      offsets = rw e (k .offsets);
     }
 
 pub certis-check-spec : {M : Type 1} → statement M
 certis-check-spec =
-    tie.close (tie.spec check-requires leave-total-requires same-length same-length-2 returns)
+    tie.close (tie.spec check-requires leave-total-requires same-length same-length-2 same-length-3 returns)
