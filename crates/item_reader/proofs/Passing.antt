@@ -1,19 +1,18 @@
 -- What the jobs see of some lines, line by line: a line that is no heading and no KC says nothing, and its number does not matter.
-use Prim.Native.Nat.{ℕ, suc, _+_, _≤_, _<_}
+use Prim.Native.Nat.{ℕ, suc, _<_}
 use native.Mathlib.Omega.{arith}
 use mathlib.Core.Path.{_≡_, refl, sym, ap, subst, _∙_}
-use mathlib.Core.Bool.{Bool, true, false, cond, _&&_, _||_, true≢false, false≢true}
+use mathlib.Core.Bool.{Bool, true, false, cond}
 use mathlib.Core.List.{List, [], _∷_, map}
 use lib.Dec.{eqb}
-use lib.ListN.{length, take}
-use borrow.Author.Tests.{eqb-true, ne-eqb}
+use lib.ListN.{take}
+use borrow.Author.Tests.{eqb-true}
 use Rattle.laws.specs.Ascii.{ascii}
 use Rattle.laws.proofs.Truth.{never-true, both-left, both-right}
 use Rattle.text.specs.Strings.{begins}
 use Rattle.text.specs.Digits.{isDigit, value}
 use Rattle.lines.specs.Lines.{isByte, Line, crlf, onto, lines}
-use Rattle.lines.proofs.Lines.{lines-none, lines-cut, lines-on, crlf-not}
-use Rattle.headings.specs.declared.Read.{Read}
+use Rattle.lines.proofs.Lines.{lines-cut, lines-on, crlf-not}
 use Rattle.headings.specs.declared.Read.the-variants.{Unreadable}
 use Rattle.headings.specs.Reading.{headingOf}
 use Rattle.figures.specs.Layouts.{run, fits, part}
@@ -21,7 +20,6 @@ use Rattle.figures.proofs.Runs.{run-value}
 use Rattle.fields.specs.declared.kinds.Kind.{Kind}
 use Rattle.fields.specs.declared.kinds.Kind.the-variants.{Heading, Continuation, Field, Other}
 use Rattle.fields.specs.declared.classes.Class.the-variants.{Money}
-use Rattle.fields.specs.declared.readings.Reading.{Reading}
 use Rattle.fields.specs.declared.readings.Reading.the-variants.{Paid}
 use Rattle.fields.specs.Kinds.{named, place, kindOf}
 use Rattle.fields.specs.Classes.{classOf}
@@ -29,12 +27,12 @@ use Rattle.fields.specs.Readings.{textOf, layoutOf, readingOf, ifFits}
 use Rattle.fields.specs.Tails.{takes, saysOf}
 use Rattle.rules.specs.declared.FirstKc.{FirstKc}
 use Rattle.rules.specs.declared.FirstKc.the-variants.{NoKc}
-use Rattle.rules.specs.Rows.{Row, FieldRow, LowRow, Sorted, sorted, sortedAs, rowsFrom}
+use Rattle.rules.specs.Rows.{Row, FieldRow, LowRow, sorted, sortedAs, rowsFrom}
 use Rattle.rules.specs.Tree.{Owned, File, tree, _▹_}
 use Rattle.rules.specs.Said.{says, continued, headOf, orElse, ifThere, firstSaid, is, kcBy, kcOf}
 use Rattle.item_reader.specs.declared.Slip.{Slip}
 use Rattle.item_reader.specs.Slips.{amountOf, kcAmong, slipOf}
-use Rattle.item_reader.proofs.Starts.{kind-told, heading-not, kc-not, crlf-cr}
+use Rattle.item_reader.proofs.Starts.{kind-told, heading-not, kc-not}
 
 -- ---- the first KC
 -- a KC says what its own line says: its continuations are carried unread

@@ -6,9 +6,9 @@ use native.Mathlib.Omega.{arith}
 use mathlib.Core.Path.{_≡_, refl, sym, ap, subst, _∙_}
 use mathlib.Core.Bool.{Bool, true, false, cond, _&&_, _||_, true≢false, false≢true}
 use mathlib.Core.List.{List, [], _∷_}
-use mathlib.Core.Logic.{_⊎_, inl, inr, ⊎-elim}
+use mathlib.Core.Logic.{_⊎_, ⊎-elim}
 use lib.Dec.{eqb, ltb}
-use lib.ListN.{length, take, drop, getD, length-take, length-drop, drop-of-length-le}
+use lib.ListN.{length, take, drop, getD, length-take, length-drop}
 use lib.Seq.{drop-cons, drop-drop}
 use borrow.Author.Tests.{eqb-true, ltb-true, ltb-false}
 use Rattle.laws.specs.Ascii.{ascii}
@@ -17,7 +17,6 @@ use Rattle.laws.proofs.Truth.{never-true, both-left, both-right}
 use Rattle.laws.proofs.Any.{or-left, or-right}
 use Rattle.text.specs.Strings.{begins}
 use Rattle.text.specs.Characters.{isOdd}
-use Rattle.text.specs.Digits.{isDigit}
 use Rattle.text.specs.Forms.{template, fitsByte, hasForm, numbers}
 use Rattle.lines.specs.Lines.{isByte, Line, crlf, lines}
 use Rattle.lines.specs.Reading.{lineAt, span, after, IsNext}
@@ -29,16 +28,15 @@ use Rattle.headings.specs.declared.Read.the-variants.{Reads, Unreadable}
 use Rattle.headings.specs.declared.Heading.{Heading}
 use Rattle.headings.specs.Reading.{layout, headingFrom, isHeading, headingOf}
 use Rattle.headings.proofs.RoundTrips.{read-size}
-use Rattle.fields.specs.declared.kinds.Kind.{Kind}
 use Rattle.fields.specs.declared.kinds.Kind.the-variants.{Continuation, Field, Other}
 use Rattle.fields.specs.declared.kinds.Kind.the-variants.{Heading as HeadingKind}
-use Rattle.fields.specs.Kinds.{named, kindOf}
+use Rattle.fields.specs.Kinds.{kindOf}
 use Rattle.rules.specs.declared.FirstKc.{FirstKc}
 use Rattle.rules.specs.declared.FirstKc.the-variants.{NoKc}
 use Rattle.item_reader.specs.declared.Gap.{Gap}
 use Rattle.item_reader.specs.declared.Title.{Title}
-use Rattle.item_reader.specs.Slips.{amountOf, kcLine, readsTo, Headed, IsFirst, IsSlip, IsHead, IsTitle}
-use Rattle.item_reader.specs.Search.{standsAt, Quiet, IsSign, IsGap}
+use Rattle.item_reader.specs.Slips.{amountOf, Headed, IsFirst, IsSlip, IsHead}
+use Rattle.item_reader.specs.Search.{standsAt, Quiet, IsSign, IsGap, kcLine, readsTo, IsTitle}
 use Rattle.item_reader.proofs.Starts.{kind-told, heading-told, kc-told}
 use Rattle.item_reader.proofs.Passing.{slipsIn, kcIn, topIn, none-in, others, kc-alike, kc-small, item-here, kc-none, kc-here, top-heading, top-continuation, top-field, top-other, line-slips, line-kc, byte-slips, byte-kc}
 use Rattle.item_reader.proofs.Signs.{begins-size, sign-size}

@@ -1,6 +1,6 @@
 use native.Mathlib.Omega.{arith}
 use mathlib.Core.Path.{ap, _∙_}
-use Rattle.lines.specs.Reading.{span, lineAt, IsNext}
+use Rattle.lines.specs.Reading.{span, IsNext}
 use Rattle.lines.specs.declared.Found.{Found}
 use Rattle.lines.proofs.Reading.{is-next}
 use Rattle.fields.specs.declared.classes.Class.the-variants.{Money}
