@@ -217,9 +217,7 @@ fn small_calls(rounds: u32) -> u32 {
         Contestant::new("account check, proved", || {
             for call in 0..CALLS {
                 let (prefix, number) = black_box(accounts[of(call)]);
-                let (mut first, mut last) = (0, 0);
-                let answers = (black_box(&mut first), black_box(&mut last));
-                black_box(face::account(prefix, number, answers));
+                black_box(face::account(prefix, number, black_box((&mut 0, &mut 0))));
             }
         }),
         Contestant::new("account check, second program", || {
