@@ -74,7 +74,7 @@ fn numbers() -> Vec<Sample> {
             lines.extend(ENDINGS.map(|ending| format!("{name}:{}{ending}", row("7", length))));
         }
     }
-    for (names, second_most) in [(&NAMES[4..5], 9), (&NAMES[5..14], 19)] {
+    for (names, second_most) in [(&NAMES[4..5], 9), (&NAMES[5..15], 19)] {
         for (name, digit) in names.iter().flat_map(|name| [(name, "1"), (name, "0")]) {
             for first in 0..=9 {
                 for second in 0..=second_most {
