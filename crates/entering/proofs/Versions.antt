@@ -21,7 +21,7 @@ module _ (file : List ℕ) (code day : ℕ) (before : List ℕ) where
   -- the refusals, by whether the bytes are a register and by which they are
   abbrev asked : Bool → Register → List Refusal
   asked good g =
-      checkRefusals file (input code day) 0 0 ++
+      checkRefusals file (input code day) 0 0 0 ++
       ((23 if not good) ∷
       (24 if not (eqb (g .code) code)) ∷
       (25 if ltb day (g .latest)) ∷
