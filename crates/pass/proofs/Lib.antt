@@ -1,1 +1,3 @@
 mod Walk
+pub mod Standing
+pub mod Feeding

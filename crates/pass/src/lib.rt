@@ -1,8 +1,10 @@
 // One forward pass over the lines of a body: no line is looked at again, and none ahead. A field is judged at its own line and entered
 // when the next heading or field comes, a heading when the next heading comes, and the first heading of a block when the block ends or the file does.
 // Promised by `enter_faults`, for every body of at most 10,000,000 bytes and three lent slices of equal length: the slices and the
-// total are those of `faultsIn` of `rules`, beside each fault the offset of its line. It judges no rule: lines, fields and items are
-// judged by `judging`. The list stands in `ledger`, the cut in `lines`, the table of characters in `text`.
+// total are those of `faultsIn` of `rules`, beside each fault the offset of its line. It is `start`, one `feed` of the whole body and
+// `finish`; fed one text after the other the pass goes on where it stood, and what it holds means the same (specs/Standing.antt).
+// It judges no rule: lines, fields and items are judged by `judging`. The list stands in `ledger`, the cut in `lines`, the table of
+// characters in `text`.
 use blocks::Basis;
 use blocks::Block;
 use fields::classes;
@@ -24,7 +26,7 @@ use judging::opening::Pend;
 use ledger::Ledger;
 ghost use mathlib.Core.Path.{_≡_};
 ghost use mathlib.Core.List.{_++_};
-ghost use Prim.Native.Nat.{_≤_, _<_, _^_};
+ghost use Prim.Native.Nat.{_+_, _≤_, _<_, _^_};
 ghost use lib.Dec.{ltb};
 ghost use lib.ListN.{length, getD, set, replicate};
 ghost use Rattle.lines.specs.Lines.{offsetOf};
@@ -35,9 +37,10 @@ ghost use Rattle.ledger.specs.Marks.{marked};
 ghost use Rattle.judging.specs.Closing.{lastMarks, closeAs, closeFaults};
 ghost use Rattle.judging.specs.Opening.{readAs, closeClaims};
 ghost use Rattle.pass.specs.Starts.{Stands, WaitsAt, startOf};
+ghost use Rattle.pass.specs.Standing.{fresh, Bounded, Fed, Finished};
 
 // No identifier stood.
-fn unseen() -> [u32; 1296]
+pub fn unseen() -> [u32; 1296]
     ensures { λ r. ⌜ r ≡ replicate 1296 0 ⌝ }
 {
     [0; 1296]
@@ -82,7 +85,7 @@ fn start_of(starts: Starts, line: u32, no: u32) -> u32
 fn shut_item(
     lines: &mut [u32],
     rules: &mut [u32],
-    offsets: &mut [u32],
+    places: &mut [u32],
     g: Ledger,
     starts: Starts,
     basis: Basis,
@@ -94,19 +97,19 @@ fn shut_item(
     w: Wait,
 ) -> Closed
     requires { ⌜ Ready (g .kept) (now lines) (now rules) ⌝ }
-    requires { ⌜ length (now lines) ≡ length (now offsets) ⌝ }
+    requires { ⌜ length (now lines) ≡ length (now places) ⌝ }
     requires { ⌜ (g .total < 2 ^ 62) × (w .marks < 2 ^ 41) × (own ≤ 18) ⌝ }
     ensures { λ r. ⌜ Entered (closeFaults basis b w no own read claims) g (now (lines .entry)) (now (rules .entry)) (r .ledger) (now (lines .exit)) (now (rules .exit)) ⌝ }
     ensures { λ r. ⌜ (r .block ≡ closeAs basis b w no own read claims .block) × (r .wait ≡ closeAs basis b w no own read claims .wait) × (r .wait .marks < 2 ^ 41) ⌝ }
-    ensures { λ r. ⌜ Kept (λ off. Stands off starts no (w .line)) (g .kept) (now (lines .entry)) (now (offsets .entry)) (r .ledger .kept) (now (lines .exit)) (now (offsets .exit)) ⌝ }
+    ensures { λ r. ⌜ Kept (λ off. Stands off starts no (w .line)) (g .kept) (now (lines .entry)) (now (places .entry)) (r .ledger .kept) (now (lines .exit)) (now (places .exit)) ⌝ }
     ensures { λ r. ⌜ WaitsAt starts no (w .line) (r .wait .line) (r .start) ⌝ }
 {
     let c = closing::close_item(basis, b, w, no, own, read, claims);
     let block = c.block;
     let wait = c.wait;
     let start = start_of(starts, wait.line, no);
-    let first = ledger::enter(lines, rules, offsets, g, w.line, starts.wait, c.told);
-    let ledger = ledger::enter(lines, rules, offsets, first, no, starts.head, c.marks);
+    let first = ledger::enter(lines, rules, places, g, w.line, starts.wait, c.told);
+    let ledger = ledger::enter(lines, rules, places, first, no, starts.head, c.marks);
     Closed {
         ledger,
         block,
@@ -119,7 +122,7 @@ fn shut_item(
 fn shut_all(
     lines: &mut [u32],
     rules: &mut [u32],
-    offsets: &mut [u32],
+    places: &mut [u32],
     g: Ledger,
     starts: Starts,
     basis: Basis,
@@ -134,20 +137,20 @@ fn shut_all(
     w: Wait,
 ) -> Closed
     requires { ⌜ Ready (g .kept) (now lines) (now rules) ⌝ }
-    requires { ⌜ length (now lines) ≡ length (now offsets) ⌝ }
+    requires { ⌜ length (now lines) ≡ length (now places) ⌝ }
     requires { ⌜ (g .total < 2 ^ 61) × (w .marks < 2 ^ 41) × (own ≤ 18) ⌝ }
     ensures { λ r. ⌜ Entered (marked (o .no) (o .marks) ++ closeFaults basis b w no own (readAs reads h) (closeClaims claims o p)) g (now (lines .entry)) (now (rules .entry)) (r .ledger) (now (lines .exit)) (now (rules .exit)) ⌝ }
     ensures { λ r. ⌜ (r .block ≡ closeAs basis b w no own (readAs reads h) (closeClaims claims o p) .block) × (r .wait ≡ closeAs basis b w no own (readAs reads h) (closeClaims claims o p) .wait) × (r .wait .marks < 2 ^ 41) ⌝ }
-    ensures { λ r. ⌜ Kept (λ off. (off (o .no) ≡ starts .field) × Stands off starts no (w .line)) (g .kept) (now (lines .entry)) (now (offsets .entry)) (r .ledger .kept) (now (lines .exit)) (now (offsets .exit)) ⌝ }
+    ensures { λ r. ⌜ Kept (λ off. (off (o .no) ≡ starts .field) × Stands off starts no (w .line)) (g .kept) (now (lines .entry)) (now (places .entry)) (r .ledger .kept) (now (lines .exit)) (now (places .exit)) ⌝ }
     ensures { λ r. ⌜ WaitsAt starts no (w .line) (r .wait .line) (r .start) ⌝ }
 {
-    let g1 = ledger::enter(lines, rules, offsets, g, o.no, starts.field, o.marks);
+    let g1 = ledger::enter(lines, rules, places, g, o.no, starts.field, o.marks);
     let all = opening::claims_after(claims, o, p);
     let read = opening::read_as(reads, h);
     shut_item(
         lines,
         rules,
-        offsets,
+        places,
         g1,
         starts,
         basis,
@@ -164,7 +167,7 @@ fn shut_all(
 fn shut_file(
     lines: &mut [u32],
     rules: &mut [u32],
-    offsets: &mut [u32],
+    places: &mut [u32],
     g: Ledger,
     starts: Starts,
     basis: Basis,
@@ -179,15 +182,15 @@ fn shut_file(
     w: Wait,
 ) -> Ledger
     requires { ⌜ Ready (g .kept) (now lines) (now rules) ⌝ }
-    requires { ⌜ length (now lines) ≡ length (now offsets) ⌝ }
+    requires { ⌜ length (now lines) ≡ length (now places) ⌝ }
     requires { ⌜ (g .total < 2 ^ 61) × (w .marks < 2 ^ 41) × (own ≤ 18) ⌝ }
     ensures { λ r. ⌜ Entered ((marked (o .no) (o .marks) ++ closeFaults basis b w no own (readAs reads h) (closeClaims claims o p)) ++ marked (closeAs basis b w no own (readAs reads h) (closeClaims claims o p) .wait .line) (lastMarks (closeAs basis b w no own (readAs reads h) (closeClaims claims o p) .block) (closeAs basis b w no own (readAs reads h) (closeClaims claims o p) .wait))) g (now (lines .entry)) (now (rules .entry)) r (now (lines .exit)) (now (rules .exit)) ⌝ }
-    ensures { λ r. ⌜ Kept (λ off. (off (o .no) ≡ starts .field) × Stands off starts no (w .line)) (g .kept) (now (lines .entry)) (now (offsets .entry)) (r .kept) (now (lines .exit)) (now (offsets .exit)) ⌝ }
+    ensures { λ r. ⌜ Kept (λ off. (off (o .no) ≡ starts .field) × Stands off starts no (w .line)) (g .kept) (now (lines .entry)) (now (places .entry)) (r .kept) (now (lines .exit)) (now (places .exit)) ⌝ }
 {
     let t = shut_all(
         lines,
         rules,
-        offsets,
+        places,
         g,
         starts,
         basis,
@@ -202,7 +205,7 @@ fn shut_file(
         w,
     );
     let last = closing::last_marks(t.block, t.wait);
-    ledger::enter(lines, rules, offsets, t.ledger, t.wait.line, t.start, last)
+    ledger::enter(lines, rules, places, t.ledger, t.wait.line, t.start, last)
 }
 
 // No heading yet.
@@ -218,45 +221,92 @@ fn no_heading() -> Heading {
     }
 }
 
-// Enters the faults of a body, for the submitter's code and the accounting day.
-pub fn enter_faults(
-    s: &[u8],
-    code: u32,
-    day: u32,
-    lines: &mut [u32],
-    rules: &mut [u32],
-    offsets: &mut [u32],
-) -> Ledger
-    requires { ⌜ length (now s) ≤ 10000000 ⌝ }
-    requires { ⌜ length (now lines) ≡ length (now rules) ⌝ }
-    requires { ⌜ length (now lines) ≡ length (now offsets) ⌝ }
-    ensures { λ r. ⌜ Listed (offsetOf (now (s .entry))) (faultsIn (input code day) (now (s .entry))) (now (lines .entry)) (now (rules .entry)) (now (offsets .entry)) r (now (lines .exit)) (now (rules .exit)) (now (offsets .exit)) ⌝ }
+// All that the pass knows between two lines, but for what stands in the lent slices and in the array of identifiers: the list, the open
+// field and what it will claim, the line and the marks of the open heading, whether it reads and as what, its item's claims, the
+// account, the heading that waits, where these lines start, and how many lines there were.
+pub struct Pass {
+    pub ledger: Ledger,
+    pub field: Open,
+    pub pend: Pend,
+    pub since: u32,
+    pub top: u64,
+    pub reads: bool,
+    pub heading: Heading,
+    pub claims: Claims,
+    pub block: Block,
+    pub wait: Wait,
+    pub starts: Starts,
+    pub n: u32,
+}
+
+// Before the first line.
+pub fn start() -> Pass
+    ensures { λ r. ⌜ r ≡ fresh (r .heading) ⌝ }
 {
-    let basis = blocks::own_rules::basis_of(Code(code), day);
-    let table = text::characters::table();
-    let mut stood = unseen();
-    let mut g = ledger::empty();
-    let mut open = opening::none_open();
-    let mut pend = opening::no_pend();
-    let mut since: u32 = 0;
-    let mut top: u64 = 0;
-    let mut reads = false;
-    let mut h = no_heading();
-    let mut claims = claiming::no_claims();
-    let mut block = account::start();
-    let mut wait = closing::no_wait();
-    let mut starts = Starts {
+    let ledger = ledger::empty();
+    let field = opening::none_open();
+    let pend = opening::no_pend();
+    let heading = no_heading();
+    let claims = claiming::no_claims();
+    let block = account::start();
+    let wait = closing::no_wait();
+    let starts = Starts {
         field: 0,
         head: 0,
         wait: 0,
     };
+    Pass {
+        ledger,
+        field,
+        pend,
+        since: 0,
+        top: 0,
+        reads: false,
+        heading,
+        claims,
+        block,
+        wait,
+        starts,
+        n: 0,
+    }
+}
+
+// Judges the lines of a text after all that came before it; the text begins at the offset `base` of the file. What is kept stands in
+// locals over the loop: handed on whole at each line it is slower.
+pub fn feed(
+    s: &[u8],
+    base: u32,
+    basis: Basis,
+    lines: &mut [u32],
+    rules: &mut [u32],
+    places: &mut [u32],
+    stood: &mut [u32; 1296],
+    p: Pass,
+) -> Pass
+    requires { ⌜ base + length (now s) ≤ 10000000 ⌝ }
+    requires { ⌜ Bounded base p (now lines) (now rules) (now places) ⌝ }
+    ensures { λ r. ⌜ Bounded (base + length (now (s .entry))) r (now (lines .exit)) (now (rules .exit)) (now (places .exit)) ⌝ }
+    ensures { λ r. ⌜ Fed (now (s .entry)) base basis (now (lines .entry)) (now (rules .entry)) (now (places .entry)) (now (stood .entry)) p (now (lines .exit)) (now (rules .exit)) (now (places .exit)) (now (stood .exit)) r ⌝ }
+{
+    let table = text::characters::table();
+    let mut g = p.ledger;
+    let mut open = p.field;
+    let mut pend = p.pend;
+    let mut since = p.since;
+    let mut top = p.top;
+    let mut reads = p.reads;
+    let mut h = p.heading;
+    let mut claims = p.claims;
+    let mut block = p.block;
+    let mut wait = p.wait;
+    let mut starts = p.starts;
     let mut at = 0;
-    let mut n: u32 = 0;
+    let mut n = p.n;
     while at < s.len() {
         let f = lines::line_from(s, at);
         let end = f.end;
         let from = at;
-        let here = at as u32;
+        let here = base + at as u32;
         n += 1;
         let bad = text::characters::holds_inadmissible(&table, &s[from..end], f.odd);
         let own = marking::line_marks(bad, f.ended);
@@ -267,7 +317,7 @@ pub fn enter_faults(
                 let t = shut_all(
                     lines,
                     rules,
-                    offsets,
+                    places,
                     g,
                     starts,
                     basis,
@@ -301,7 +351,7 @@ pub fn enter_faults(
                 g = ledger::enter(
                     lines,
                     rules,
-                    offsets,
+                    places,
                     g,
                     n,
                     here,
@@ -311,12 +361,12 @@ pub fn enter_faults(
                 open = opening::with_low(open, true, end - from);
             }
             Kind::Field(ident) => {
-                g = ledger::enter(lines, rules, offsets, g, open.no, starts.field, open.marks);
+                g = ledger::enter(lines, rules, places, g, open.no, starts.field, open.marks);
                 starts.field = here;
                 if 5 <= open.class {
                     claims = opening::claim_closed(claims, open, pend);
                 }
-                let stands = again(&mut stood, ident, n, since);
+                let stands = again(stood, ident, n, since);
                 let class = classes::class_of(ident);
                 let number = opening::code_of(class);
                 let said = readings::read_field(class, &s[from..end]);
@@ -343,7 +393,7 @@ pub fn enter_faults(
                 g = ledger::enter(
                     lines,
                     rules,
-                    offsets,
+                    places,
                     g,
                     n,
                     here,
@@ -352,21 +402,77 @@ pub fn enter_faults(
             }
         }
     }
+    Pass {
+        ledger: g,
+        field: open,
+        pend,
+        since,
+        top,
+        reads,
+        heading: h,
+        claims,
+        block,
+        wait,
+        starts,
+        n,
+    }
+}
+
+// The file ends.
+pub fn finish(
+    basis: Basis,
+    lines: &mut [u32],
+    rules: &mut [u32],
+    places: &mut [u32],
+    p: Pass,
+) -> Ledger
+    requires { ⌜ Bounded 10000000 p (now lines) (now rules) (now places) ⌝ }
+    ensures { λ r. ⌜ Finished basis (now (lines .entry)) (now (rules .entry)) (now (places .entry)) p r (now (lines .exit)) (now (rules .exit)) (now (places .exit)) ⌝ }
+{
+    let g = p.ledger;
+    let starts = p.starts;
+    let open = p.field;
+    let pend = p.pend;
+    let h = p.heading;
+    let claims = p.claims;
+    let block = p.block;
+    let wait = p.wait;
     shut_file(
         lines,
         rules,
-        offsets,
+        places,
         g,
         starts,
         basis,
         open,
         pend,
-        since,
-        top,
-        reads,
+        p.since,
+        p.top,
+        p.reads,
         h,
         claims,
         block,
         wait,
     )
+}
+
+// Enters the faults of a body, for the submitter's code and the accounting day.
+pub fn enter_faults(
+    s: &[u8],
+    code: u32,
+    day: u32,
+    lines: &mut [u32],
+    rules: &mut [u32],
+    places: &mut [u32],
+) -> Ledger
+    requires { ⌜ length (now s) ≤ 10000000 ⌝ }
+    requires { ⌜ length (now lines) ≡ length (now rules) ⌝ }
+    requires { ⌜ length (now lines) ≡ length (now places) ⌝ }
+    ensures { λ r. ⌜ Listed (offsetOf (now (s .entry))) (faultsIn (input code day) (now (s .entry))) (now (lines .entry)) (now (rules .entry)) (now (places .entry)) r (now (lines .exit)) (now (rules .exit)) (now (places .exit)) ⌝ }
+{
+    let basis = blocks::own_rules::basis_of(Code(code), day);
+    let mut stood = unseen();
+    let first = start();
+    let p = feed(s, 0, basis, lines, rules, places, &mut stood, first);
+    finish(basis, lines, rules, places, p)
 }

@@ -1,398 +1,49 @@
-use mathlib.Core.Path.{_≡_, ap, _∙_}
-use mathlib.Core.Bool.{true}
-use mathlib.Core.Logic.{⊎-elim}
-use Prim.Native.Nat.{suc, _-_}
+use mathlib.Core.Path.{_∙_}
+use mathlib.Core.List.{[]}
 use native.Mathlib.Omega.{arith}
-use lib.ListN.{length}
-use Rattle.fields.specs.declared.classes.Class.{Class}
-use Rattle.fields.specs.Readings.{textOf, readingOf}
-use Rattle.lines.specs.Reading.{span, IsNext}
-use Rattle.lines.proofs.Reading.{is-next}
+use Rattle.lines.specs.Lines.{lines}
 use Rattle.rules.specs.Terms.{input}
-use Rattle.judging.specs.Opening.{codeBy, codeOf, lowOpen, closeClaims}
-use Rattle.judging.proofs.Sets.{lineMarks}
-use Rattle.pass.proofs.Walk.{Walking, own-at, claims-closed, claims-kept, own-took, own-left, span-long, ident-few, walk-start, walk-ready, walk-level, walk-room, walk-tail, walk-other, walk-more, walk-field, walk-head, walk-end}
+use Rattle.pass.proofs.Standing.{fresh-bounded, fresh-standing, listed-whole}
+use Rattle.pass.proofs.Feeding.{taken-none, in-place, bounded-more}
 use Rattle.pass.proofs.enter_faults.Statement.{statement}
 use borrow.Author.Needs.{needs}
 use Rattle.pass.proofs.enter_faults.Tie as tie
 
-abbrev Inv-loop : tie.InvT-loop
-Inv-loop s code day lines₀ rules₀ offsets₀ basis table stood₀ g₀ open₀ pend₀ since₀ top₀ reads₀ h₀ claims₀ block₀ wait₀ starts₀ at₀ n₀ lines rules offsets stood g «open» pend since top reads h claims block wait starts at n =
-    Walking (input code day) s lines₀ rules₀ offsets₀ basis lines rules offsets stood g «open» pend since top reads h claims block wait starts at n
-
-abbrev μ-loop : tie.MeasureT-loop
-μ-loop s code day lines₀ rules₀ offsets₀ basis table stood₀ g₀ open₀ pend₀ since₀ top₀ reads₀ h₀ claims₀ block₀ wait₀ starts₀ at₀ n₀ lines rules offsets stood g «open» pend since top reads h claims block wait starts at n =
-    length s - at
-
--- the line that was found
-next : (c : tie.After-line-from Inv-loop μ-loop) → IsNext (c .before .before .before .before .before .before .before .before .before .before .before .before .before .before .before .before .before .args .s .now) (c .before .before .loop .at) (c .line-from .result)
-next c = is-next _ _ _ (c .line-from .ensures) (c .before .loop-test .taken)
-
--- marks 1 and 4 of it
-own-is : (c : tie.After-line-marks Inv-loop μ-loop)
-    → c .line-marks .result ≡ lineMarks (record { no = suc (c .before .before .before .before .before .before .loop .n); bytes = span (c .before .before .before .before .before .before .loop .at) (c .before .before .before .before .line-from .result .end) (c .before .before .before .before .before .before .before .before .before .before .before .before .before .before .before .before .before .before .before .before .before .args .s .now); ended = c .before .before .before .before .line-from .result .ended })
-own-is c = own-at (next (c .before .before .before .before)) _ (c .before .holds-inadmissible .ensures) (c .line-marks .ensures .0)
-
--- the claims are touched only where the open field makes one
-claims-joined : (c : tie.Joined1 Inv-loop μ-loop) → let at-loop = c .before .before .before .before .before .before .before .before .before .before .before .before .before .before .before .before .before .before .before .before .before .before .before in c .if1 .claims ≡ closeClaims (at-loop .loop .claims) (at-loop .loop .«open») (at-loop .loop .pend)
-claims-joined c =
-    let at-loop = c .before .before .before .before .before .before .before .before .before .before .before .before .before .before .before .before .before .before .before .before .before .before .before in
-    ⊎-elim (λ w. w .2 ∙ w .1 .ensures ∙ claims-closed (at-loop .loop .«open») (at-loop .loop .pend) (at-loop .loop .claims) (w .0 .taken))
-    (λ w. w .1 ∙ claims-kept (at-loop .loop .«open») (at-loop .loop .pend) (at-loop .loop .claims) (w .0 .left)) (c .if1 .came)
-
-basis-of-requires : tie.Need-basis-of-requires Inv-loop μ-loop
+basis-of-requires : tie.Need-basis-of-requires
 basis-of-requires c κs = search needs
 
-table-requires : tie.Need-table-requires Inv-loop μ-loop
-table-requires c κs = search needs
-
-unseen-requires : tie.Need-unseen-requires Inv-loop μ-loop
+unseen-requires : tie.Need-unseen-requires
 unseen-requires c κs = search needs
 
-empty-requires : tie.Need-empty-requires Inv-loop μ-loop
-empty-requires c κs = search needs
-
-none-open-requires : tie.Need-none-open-requires Inv-loop μ-loop
-none-open-requires c κs = search needs
-
-no-pend-requires : tie.Need-no-pend-requires Inv-loop μ-loop
-no-pend-requires c κs = search needs
-
-no-heading-requires : tie.Need-no-heading-requires Inv-loop μ-loop
-no-heading-requires c κs = search needs
-
-no-claims-requires : tie.Need-no-claims-requires Inv-loop μ-loop
-no-claims-requires c κs = search needs
-
-start-requires : tie.Need-start-requires Inv-loop μ-loop
+start-requires : tie.Need-start-requires
 start-requires c κs = search needs
 
-no-wait-requires : tie.Need-no-wait-requires Inv-loop μ-loop
-no-wait-requires c κs = search needs
+feed-requires : tie.Need-feed-requires
+feed-requires c κs =
+    let pre = c .before .before .before .before .before .before .before .before .before .before .before .pre in
+    (omega (arith, pre .0), fresh-bounded (c .before .before .before .before .start .ensures) (pre .1 .0) (pre .1 .1))
 
-loop-holds : tie.Need-loop-holds Inv-loop μ-loop
-loop-holds c =
-    walk-start _ _ (c .before .before .before .before .before .before .before .before .before .before .before .before .before .before .pre .1 .0) (c .before .before .before .before .before .before .before .before .before .before .before .before .before .before .pre .1 .1) (c .before .before .before .before .before .before .before .before .before .basis-of .ensures) (c .before .before .before .before .before .none-open .ensures) (c .before .before .no-claims .ensures) (c .before .start .ensures) (c .no-wait .ensures) (c .before .before .before .before .before .before .before .unseen .ensures) (c .before .before .before .before .before .before .empty .ensures)
+finish-requires : tie.Need-finish-requires
+finish-requires c κs = bounded-more (omega (arith, c .before .before .before .before .before .before .before .before .before .before .before .before .before .before .before .before .before .before .before .before .before .pre .0)) (c .before .before .before .before .before .before .before .before .before .feed .ensures .0)
 
-line-from-requires : tie.Need-line-from-requires Inv-loop μ-loop
-line-from-requires c κs = search needs
+same-length : tie.Need-same-length
+same-length c = c .before .before .before .before .before .before .finish .kept .1 .0 ∙ c .before .before .before .before .before .before .before .before .before .before .before .before .before .before .before .before .feed .kept .1 .1 .1 .0
 
-cast-here : tie.Need-cast-here Inv-loop μ-loop
-cast-here c = omega (arith, c .before .before .loop .inv .to, c .before .before .before .before .before .before .before .before .before .before .before .before .before .before .before .before .before .pre .0)
+same-length-2 : tie.Need-same-length-2
+same-length-2 c = c .before .before .before .before .before .before .finish .kept .1 .1 .0 ∙ c .before .before .before .before .before .before .before .before .before .before .before .before .before .before .before .before .feed .kept .1 .1 .1 .1 .0
 
-add-n : tie.Need-add-n Inv-loop μ-loop
-add-n c =
-    let at-loop = c .before .before in
-    omega (arith, at-loop .loop .inv .few, at-loop .loop .inv .to, c .before .before .before .before .before .before .before .before .before .before .before .before .before .before .before .before .before .pre .0)
+same-length-3 : tie.Need-same-length-3
+same-length-3 c = c .before .before .before .before .before .before .finish .kept .1 .1 .1 .0 ∙ c .before .before .before .before .before .before .before .before .before .before .before .before .before .before .before .before .feed .kept .1 .1 .1 .1 .1 .0
 
-sub-holds-inadmissible : tie.Need-sub-holds-inadmissible Inv-loop μ-loop
-sub-holds-inadmissible c =
-    let found = next (c .before) in
-    omega (arith, found .starts, found .closes, found .within)
-
-part-holds-inadmissible-start : tie.Need-part-holds-inadmissible-start Inv-loop μ-loop
-part-holds-inadmissible-start c =
-    let found = next (c .before) in
-    omega (arith, found .starts, found .closes, found .within)
-
-part-holds-inadmissible-end : tie.Need-part-holds-inadmissible-end Inv-loop μ-loop
-part-holds-inadmissible-end c =
-    let found = next (c .before) in
-    omega (arith, found .starts, found .closes, found .within)
-
-holds-inadmissible-requires : tie.Need-holds-inadmissible-requires Inv-loop μ-loop
-holds-inadmissible-requires c κs =
-    c .before .before .before .before .before .before .before .before .before .before .before .before .before .table .ensures
-
-line-marks-requires : tie.Need-line-marks-requires Inv-loop μ-loop
-line-marks-requires c κs = search needs
-
-sub-kind-of : tie.Need-sub-kind-of Inv-loop μ-loop
-sub-kind-of c =
-    let found = next (c .before .before .before .before) in
-    omega (arith, found .starts, found .closes, found .within)
-
-part-kind-of-start : tie.Need-part-kind-of-start Inv-loop μ-loop
-part-kind-of-start c =
-    let found = next (c .before .before .before .before) in
-    omega (arith, found .starts, found .closes, found .within)
-
-part-kind-of-end : tie.Need-part-kind-of-end Inv-loop μ-loop
-part-kind-of-end c =
-    let found = next (c .before .before .before .before) in
-    omega (arith, found .starts, found .closes, found .within)
-
-kind-of-requires : tie.Need-kind-of-requires Inv-loop μ-loop
-kind-of-requires c κs = search needs
-
-enum-told : tie.Need-enum-told Inv-loop μ-loop
-enum-told c = search needs
-
-shut-all-requires : tie.Need-shut-all-requires Inv-loop μ-loop
-shut-all-requires c κs =
-    let inv = c .before .before .before .before .before .before .before .before .before .before .before .before .before .loop .inv in
-    (walk-ready inv, (walk-level inv, (omega (arith, walk-room inv (c .before .before .before .before .before .before .before .before .before .before .before .before .before .before .before .before .before .before .before .before .before .before .before .before .before .before .before .before .pre .0)), inv .calm, inv .top-few)))
-
-no-claims-requires-2 : tie.Need-no-claims-requires-2 Inv-loop μ-loop
-no-claims-requires-2 c κs = search needs
-
-none-open-requires-2 : tie.Need-none-open-requires-2 Inv-loop μ-loop
-none-open-requires-2 c κs = search needs
-
-sub-read : tie.Need-sub-read Inv-loop μ-loop
-sub-read c =
-    let found = next (c .before .before .before .before .before .before .before .before .before .before .before .before .before .before .before .before .before .before .before .before .before .before .before) in
-    omega (arith, found .starts, found .closes, found .within)
-
-part-read-start : tie.Need-part-read-start Inv-loop μ-loop
-part-read-start c =
-    let found = next (c .before .before .before .before .before .before .before .before .before .before .before .before .before .before .before .before .before .before .before .before .before .before .before) in
-    omega (arith, found .starts, found .closes, found .within)
-
-part-read-end : tie.Need-part-read-end Inv-loop μ-loop
-part-read-end c =
-    let found = next (c .before .before .before .before .before .before .before .before .before .before .before .before .before .before .before .before .before .before .before .before .before .before .before) in
-    omega (arith, found .starts, found .closes, found .within)
-
-read-requires : tie.Need-read-requires Inv-loop μ-loop
-read-requires c κs = search needs
-
-heading-in-requires : tie.Need-heading-in-requires Inv-loop μ-loop
-heading-in-requires c κs = search needs
-
-does-read-requires : tie.Need-does-read-requires Inv-loop μ-loop
-does-read-requires c κs = search needs
-
-loop-less : tie.Need-loop-less Inv-loop μ-loop
-loop-less c =
-    let found = next (c .before .before .before .before .before .before .before .before .before .before .before .before .before .before .before .before .before .before .before .before .before .before .before .before .before .before .before) in
-    omega (arith, found .moves, found .within)
-
-loop-again : tie.Need-loop-again Inv-loop μ-loop
-loop-again c =
-    let shut = c .before .before .before .before .before .before .before .before .before .before .before .before .before .before .before .shut-all .ensures in
-    walk-head (c .before .before .before .before .before .before .before .before .before .before .before .before .before .before .before .before .before .before .before .before .before .before .before .before .before .before .before .before .before .loop .inv) (next (c .before .before .before .before .before .before .before .before .before .before .before .before .before .before .before .before .before .before .before .before .before .before .before .before .before .before .before)) (c .before .before .before .before .before .before .before .before .before .before .before .before .before .before .before .before .before .before .before .before .before .kind-of .ensures) (own-is (c .before .before .before .before .before .before .before .before .before .before .before .before .before .before .before .before .before .before .before .before .before .before .before)) (c .before .before .before .before .before .before .before .before .before .before .before .before .before .before .before .before .before .before .before .enum-told .given .1) (c .before .before .read .ensures .1) (c .before .before .before .before .none-open2 .ensures) (c .before .heading-in .ensures) (c .does-read .ensures) (c .before .before .before .before .before .no-claims2 .ensures) (shut .1 .0 .0) (shut .1 .0 .1) (shut .1 .0 .2) (shut .0) (shut .1 .1 .0) (shut .1 .1 .1)
-
-enum-told-2 : tie.Need-enum-told-2 Inv-loop μ-loop
-enum-told-2 c = search needs
-
-low-marks-requires : tie.Need-low-marks-requires Inv-loop μ-loop
-low-marks-requires c κs = search needs
-
-enter-requires : tie.Need-enter-requires Inv-loop μ-loop
-enter-requires c κs =
-    let inv = c .before .before .before .before .before .before .before .before .before .before .before .before .before .before .loop .inv in
-    (walk-ready inv, (walk-level inv, omega (arith, walk-room inv (c .before .before .before .before .before .before .before .before .before .before .before .before .before .before .before .before .before .before .before .before .before .before .before .before .before .before .before .before .before .pre .0))))
-
-sub-with-low : tie.Need-sub-with-low Inv-loop μ-loop
-sub-with-low c =
-    let found = next (c .before .before .before .before .before .before .before .before .before .before .before .before .before .before .before .before .before .before .before .before) in
-    omega (arith, found .starts, found .closes, found .within)
-
-with-low-requires : tie.Need-with-low-requires Inv-loop μ-loop
-with-low-requires c κs =
-    walk-tail (c .before .before .before .before .before .before .before .before .before .before .before .before .before .before .before .before .before .before .before .before .before .before .loop .inv) (c .before .before .before .before .before .before .before .before .before .before .before .before .before .before .before .before .before .before .before .before .before .before .before .before .before .before .before .before .before .before .before .before .before .before .before .before .before .pre .0)
-
-loop-less-2 : tie.Need-loop-less-2 Inv-loop μ-loop
-loop-less-2 c =
-    let found = next (c .before .before .before .before .before .before .before .before .before .before .before .before .before .before .before .before .before .before .before .before .before) in
-    omega (arith, found .moves, found .within)
-
-loop-again-2 : tie.Need-loop-again-2 Inv-loop μ-loop
-loop-again-2 c =
-    walk-more (c .before .before .before .before .before .before .before .before .before .before .before .before .before .before .before .before .before .before .before .before .before .before .before .loop .inv) (next (c .before .before .before .before .before .before .before .before .before .before .before .before .before .before .before .before .before .before .before .before .before)) (c .before .before .before .before .before .before .before .before .before .before .before .before .before .before .before .kind-of .ensures) (own-is (c .before .before .before .before .before .before .before .before .before .before .before .before .before .before .before .before .before)) (c .before .before .before .before .before .before .before .before .before .before .before .before .before .enum-told2 .given .1) (c .before .before .before .before .before .before .before .before .before .low-marks .ensures) (c .with-low .ensures ∙ ap (lowOpen true (c .before .before .before .before .before .before .before .before .before .before .before .before .before .before .before .before .before .before .before .before .before .before .before .loop .«open»)) (span-long (next (c .before .before .before .before .before .before .before .before .before .before .before .before .before .before .before .before .before .before .before .before .before)))) (c .before .before .before .before .before .before .before .before .enter .ensures .0) (c .before .before .before .before .before .before .before .before .enter .ensures .1 .1)
-
-enum-known-x : tie.Need-enum-known-x Inv-loop μ-loop
-enum-known-x c = search needs
-
-enter-requires-2 : tie.Need-enter-requires-2 Inv-loop μ-loop
-enter-requires-2 c κs =
-    let inv = c .before .before .before .before .before .before .before .before .before .before .before .before .before .before .loop .inv in
-    (walk-ready inv, (walk-level inv, omega (arith, walk-room inv (c .before .before .before .before .before .before .before .before .before .before .before .before .before .before .before .before .before .before .before .before .before .before .before .before .before .before .before .before .before .pre .0))))
-
-claim-closed-requires : tie.Need-claim-closed-requires Inv-loop μ-loop
-claim-closed-requires c κs = search needs
-
-again-requires : tie.Need-again-requires Inv-loop μ-loop
-again-requires c κs =
-    ident-few (span (c .before .before .before .before .before .before .before .before .before .before .before .before .before .before .before .before .before .before .before .before .before .before .before .before .loop .at) (c .before .before .before .before .before .before .before .before .before .before .before .before .before .before .before .before .before .before .before .before .before .before .line-from .result .end) (c .before .before .before .before .before .before .before .before .before .before .before .before .before .before .before .before .before .before .before .before .before .before .before .before .before .before .before .before .before .before .before .before .before .before .before .before .before .before .before .args .s .now)) (c .before .before .before .before .before .before .before .before .before .before .before .before .before .before .before .before .kind-of .ensures) (c .before .before .before .before .before .before .before .before .before .before .before .before .before .before .x .given .0 .0) (c .before .before .before .before .before .before .before .before .before .before .before .before .before .before .x .given .1)
-
-class-of-requires : tie.Need-class-of-requires Inv-loop μ-loop
-class-of-requires c κs = search needs
-
-code-of-requires : tie.Need-code-of-requires Inv-loop μ-loop
-code-of-requires c κs = search needs
-
--- the number of its class
-number-is : (c : tie.After-code-of Inv-loop μ-loop) → c .code-of .result ≡ codeOf (c .before .before .before .before .before .before .before .before .before .before .before .before .before .before .before .before .before .x .given .0 .0)
-unfolding codeOf
-number-is c = c .code-of .ensures ∙ ap codeBy (c .before .class-of .ensures)
-
-sub-read-field : tie.Need-sub-read-field Inv-loop μ-loop
-sub-read-field c =
-    let found = next (c .before .before .before .before .before .before .before .before .before .before .before .before .before .before .before .before .before .before .before .before .before .before .before .before .before) in
-    omega (arith, found .starts, found .closes, found .within)
-
-part-read-field-start : tie.Need-part-read-field-start Inv-loop μ-loop
-part-read-field-start c =
-    let found = next (c .before .before .before .before .before .before .before .before .before .before .before .before .before .before .before .before .before .before .before .before .before .before .before .before .before) in
-    omega (arith, found .starts, found .closes, found .within)
-
-part-read-field-end : tie.Need-part-read-field-end Inv-loop μ-loop
-part-read-field-end c =
-    let found = next (c .before .before .before .before .before .before .before .before .before .before .before .before .before .before .before .before .before .before .before .before .before .before .before .before .before) in
-    omega (arith, found .starts, found .closes, found .within)
-
-read-field-requires : tie.Need-read-field-requires Inv-loop μ-loop
-read-field-requires c κs = search needs
-
-field-open-requires : tie.Need-field-open-requires Inv-loop μ-loop
-field-open-requires c κs = (number-is (c .before .before), c .before .before .before .before .before .before .before .before .before .before .before .before .before .before .before .before .before .before .before .before .before .before .before .line-marks .ensures .1)
-
-claim-own-requires : tie.Need-claim-own-requires Inv-loop μ-loop
-claim-own-requires c κs = search needs
-
-keep-own-requires : tie.Need-keep-own-requires Inv-loop μ-loop
-keep-own-requires c κs = number-is (c .before .before .before .before .before)
-
-loop-less-3 : tie.Need-loop-less-3 Inv-loop μ-loop
-loop-less-3 c =
-    let found = next (c .before .before .before .before .before .before .before .before .before .before .before .before .before .before .before .before .before .before .before .before .before .before .before .before .before .before .before .before .before .before .before) in
-    omega (arith, found .moves, found .within)
-
-loop-again-3 : tie.Need-loop-again-3 Inv-loop μ-loop
-loop-again-3 c =
-    let at-loop = c .before .before .before .before .before .before .before .before .before .before .before .before .before .before .before .before .before .before .before .before .before .before .before .before .before .before .before .before .before .before .before .before .before in
-    let asked = c .before .before .before .before .before .before .before .before .again .ensures in
-    let said = c .before .before .before .before .read-field .ensures ∙ ap (λ (k : Class). readingOf k (textOf (span (c .before .before .before .before .before .before .before .before .before .before .before .before .before .before .before .before .before .before .before .before .before .before .before .before .before .before .before .before .before .before .before .before .before .loop .at) (c .before .before .before .before .before .before .before .before .before .before .before .before .before .before .before .before .before .before .before .before .before .before .before .before .before .before .before .before .before .before .before .line-from .result .end) (c .before .before .before .before .before .before .before .before .before .before .before .before .before .before .before .before .before .before .before .before .before .before .before .before .before .before .before .before .before .before .before .before .before .before .before .before .before .before .before .before .before .before .before .before .before .before .before .before .args .s .now)))) (c .before .before .before .before .before .before .before .class-of .ensures) in
-    let own = own-took (at-loop .loop .since) (c .before .before .before .before .before .before .before .before .before .before .before .before .before .before .before .before .before .before .before .before .before .before .before .x .given .0 .0) (c .before .before .before .before .before .before .code-of .result) (c .before .before .before .before .read-field .result) (number-is (c .before .before .before .before .before .before)) (c .before .before .if2 .taken) (c .before .before .before .before .before .before .before .before .before .before .if1 .claims) (c .before .claim-own .result) (at-loop .loop .pend) (c .keep-own .result) (c .before .claim-own .ensures) (c .keep-own .ensures) in
-    walk-field (c .before .before .before .before .before .before .before .before .before .before .before .before .before .before .before .before .before .before .before .before .before .before .before .before .before .before .before .before .before .before .before .before .before .loop .inv) (next (c .before .before .before .before .before .before .before .before .before .before .before .before .before .before .before .before .before .before .before .before .before .before .before .before .before .before .before .before .before .before .before)) (c .before .before .before .before .before .before .before .before .before .before .before .before .before .before .before .before .before .before .before .before .before .before .before .before .before .kind-of .ensures) (own-is (c .before .before .before .before .before .before .before .before .before .before .before .before .before .before .before .before .before .before .before .before .before .before .before .before .before .before .before)) (c .before .before .before .before .before .before .before .before .before .before .before .before .before .before .before .before .before .before .before .before .before .before .before .x .given .0 .0) (c .before .before .before .before .before .before .before .before .before .before .before .before .before .before .before .before .before .before .before .before .before .before .before .x .given .1) (claims-joined (c .before .before .before .before .before .before .before .before .before .before)) (asked .0) said (c .before .before .before .field-open .ensures) (own .0) (own .1) (asked .1) (c .before .before .before .before .before .before .before .before .before .before .before .before .before .before .before .before .before .before .enter2 .ensures .0) (c .before .before .before .before .before .before .before .before .before .before .before .before .before .before .before .before .before .before .enter2 .ensures .1 .1)
-
-loop-less-4 : tie.Need-loop-less-4 Inv-loop μ-loop
-loop-less-4 c =
-    let found = next (c .before .before .before .before .before .before .before .before .before .before .before .before .before .before .before .before .before .before .before .before .before .before .before .before .before .before .before .before .before) in
-    omega (arith, found .moves, found .within)
-
-loop-again-4 : tie.Need-loop-again-4 Inv-loop μ-loop
-loop-again-4 c =
-    let at-loop = c .before .before .before .before .before .before .before .before .before .before .before .before .before .before .before .before .before .before .before .before .before .before .before .before .before .before .before .before .before .before .before in
-    let asked = c .before .before .before .before .before .before .again .ensures in
-    let said = c .before .before .read-field .ensures ∙ ap (λ (k : Class). readingOf k (textOf (span (c .before .before .before .before .before .before .before .before .before .before .before .before .before .before .before .before .before .before .before .before .before .before .before .before .before .before .before .before .before .before .before .loop .at) (c .before .before .before .before .before .before .before .before .before .before .before .before .before .before .before .before .before .before .before .before .before .before .before .before .before .before .before .before .before .line-from .result .end) (c .before .before .before .before .before .before .before .before .before .before .before .before .before .before .before .before .before .before .before .before .before .before .before .before .before .before .before .before .before .before .before .before .before .before .before .before .before .before .before .before .before .before .before .before .before .before .args .s .now)))) (c .before .before .before .before .before .class-of .ensures) in
-    let own = own-left (at-loop .loop .since) (c .before .before .before .before .before .before .before .before .before .before .before .before .before .before .before .before .before .before .before .before .before .x .given .0 .0) (c .before .before .before .before .code-of .result) (c .before .before .read-field .result) (number-is (c .before .before .before .before)) (c .if2 .left) (c .before .before .before .before .before .before .before .before .if1 .claims) (at-loop .loop .pend) in
-    walk-field (c .before .before .before .before .before .before .before .before .before .before .before .before .before .before .before .before .before .before .before .before .before .before .before .before .before .before .before .before .before .before .before .loop .inv) (next (c .before .before .before .before .before .before .before .before .before .before .before .before .before .before .before .before .before .before .before .before .before .before .before .before .before .before .before .before .before)) (c .before .before .before .before .before .before .before .before .before .before .before .before .before .before .before .before .before .before .before .before .before .before .before .kind-of .ensures) (own-is (c .before .before .before .before .before .before .before .before .before .before .before .before .before .before .before .before .before .before .before .before .before .before .before .before .before)) (c .before .before .before .before .before .before .before .before .before .before .before .before .before .before .before .before .before .before .before .before .before .x .given .0 .0) (c .before .before .before .before .before .before .before .before .before .before .before .before .before .before .before .before .before .before .before .before .before .x .given .1) (claims-joined (c .before .before .before .before .before .before .before .before)) (asked .0) said (c .before .field-open .ensures) (own .0) (own .1) (asked .1) (c .before .before .before .before .before .before .before .before .before .before .before .before .before .before .before .before .enter2 .ensures .0) (c .before .before .before .before .before .before .before .before .before .before .before .before .before .before .before .before .enter2 .ensures .1 .1)
-
-enum-told-3 : tie.Need-enum-told-3 Inv-loop μ-loop
-enum-told-3 c = search needs
-
-low-marks-requires-2 : tie.Need-low-marks-requires-2 Inv-loop μ-loop
-low-marks-requires-2 c κs = search needs
-
-enter-requires-3 : tie.Need-enter-requires-3 Inv-loop μ-loop
-enter-requires-3 c κs =
-    let inv = c .before .before .before .before .before .before .before .before .before .before .before .before .before .before .loop .inv in
-    (walk-ready inv, (walk-level inv, omega (arith, walk-room inv (c .before .before .before .before .before .before .before .before .before .before .before .before .before .before .before .before .before .before .before .before .before .before .before .before .before .before .before .before .before .pre .0))))
-
-loop-less-5 : tie.Need-loop-less-5 Inv-loop μ-loop
-loop-less-5 c =
-    let found = next (c .before .before .before .before .before .before .before .before .before .before .before .before .before .before .before .before .before .before .before) in
-    omega (arith, found .moves, found .within)
-
-loop-again-5 : tie.Need-loop-again-5 Inv-loop μ-loop
-loop-again-5 c =
-    walk-other (c .before .before .before .before .before .before .before .before .before .before .before .before .before .before .before .before .before .before .before .before .before .loop .inv) (next (c .before .before .before .before .before .before .before .before .before .before .before .before .before .before .before .before .before .before .before)) (c .before .before .before .before .before .before .before .before .before .before .before .before .before .kind-of .ensures) (own-is (c .before .before .before .before .before .before .before .before .before .before .before .before .before .before .before)) (c .before .before .before .before .before .before .before .before .before .before .before .enum-told3 .given .1) (c .before .before .before .before .before .before .before .low-marks2 .ensures) (c .before .before .before .before .before .before .enter3 .ensures .0) (c .before .before .before .before .before .before .enter3 .ensures .1 .1)
-
-shut-file-requires : tie.Need-shut-file-requires Inv-loop μ-loop
-shut-file-requires c κs =
-    let inv = c .before .before .before .before .loop .inv in
-    (walk-ready inv, (walk-level inv, (omega (arith, walk-room inv (c .before .before .before .before .before .before .before .before .before .before .before .before .before .before .before .before .before .before .before .pre .0)), inv .calm, inv .top-few)))
-
-same-length : tie.Need-same-length Inv-loop μ-loop
-same-length c =
-    c .before .before .before .before .before .before .shut-file .kept .0 ∙ c .before .before .before .before .before .before .before .before .before .before .before .loop .inv .book .entered .put .lines-long
-
-same-length-2 : tie.Need-same-length-2 Inv-loop μ-loop
-same-length-2 c =
-    c .before .before .before .before .before .before .shut-file .kept .1 .0 ∙ c .before .before .before .before .before .before .before .before .before .before .before .loop .inv .book .entered .put .rules-long
-
-same-length-3 : tie.Need-same-length-3 Inv-loop μ-loop
-same-length-3 c = c .before .before .before .before .before .before .shut-file .kept .1 .1 .0 ∙ c .before .before .before .before .before .before .before .before .before .before .before .loop .inv .beside .long
-
-returns : tie.Need-returns Inv-loop μ-loop
+returns : tie.Need-returns
 returns c =
-    walk-end (c .before .before .before .before .before .before .before .before .before .before .before .loop .inv) (omega (arith, c .before .before .before .before .before .before .before .before .before .before .loop-test)) (c .before .before .before .before .before .before .shut-file .ensures .0) (c .before .before .before .before .before .before .shut-file .ensures .1)
+    let start = (c .before .before .before .before .before .before .before .before .before .before .before .before .before .before .before .before .before .before .before .before .before .before .before .before .before .before .before .before) in
+    let s = start .args .s .now in
+    let terms = input (start .args .code) (start .args .day) in
+    let basis = c .before .before .before .before .before .before .before .before .before .before .before .before .before .before .before .before .before .before .before .before .before .before .before .basis-of .ensures in
+    let first = fresh-standing (c .before .before .before .before .before .before .before .before .before .before .before .before .before .before .before .before .before .before .before .before .before .start .ensures) (start .pre .1 .0) (start .pre .1 .1) terms (c .before .before .before .before .before .before .before .before .before .before .before .before .before .before .before .before .before .before .before .before .before .before .unseen .ensures) in
+    let fed = c .before .before .before .before .before .before .before .before .before .before .before .before .before .before .before .before .feed .ensures .1 terms [] (lines s) _ _ _ basis (in-place 0 [] (lines s) taken-none) first in
+    listed-whole terms s (c .before .before .before .before .before .before .finish .ensures terms (lines s) _ _ _ _ basis fed)
 
 pub enter-faults-spec : {M : Type 1} → statement M
-enter-faults-spec =
-    tie.close
-    (tie.spec
-    Inv-loop
-    μ-loop
-    basis-of-requires
-    table-requires
-    unseen-requires
-    empty-requires
-    none-open-requires
-    no-pend-requires
-    no-heading-requires
-    no-claims-requires
-    start-requires
-    no-wait-requires
-    loop-holds
-    line-from-requires
-    cast-here
-    add-n
-    sub-holds-inadmissible
-    part-holds-inadmissible-start
-    part-holds-inadmissible-end
-    holds-inadmissible-requires
-    line-marks-requires
-    sub-kind-of
-    part-kind-of-start
-    part-kind-of-end
-    kind-of-requires
-    enum-told
-    shut-all-requires
-    no-claims-requires-2
-    none-open-requires-2
-    sub-read
-    part-read-start
-    part-read-end
-    read-requires
-    heading-in-requires
-    does-read-requires
-    loop-less
-    loop-again
-    enum-told-2
-    low-marks-requires
-    enter-requires
-    sub-with-low
-    with-low-requires
-    loop-less-2
-    loop-again-2
-    enum-known-x
-    enter-requires-2
-    claim-closed-requires
-    again-requires
-    class-of-requires
-    code-of-requires
-    sub-read-field
-    part-read-field-start
-    part-read-field-end
-    read-field-requires
-    field-open-requires
-    claim-own-requires
-    keep-own-requires
-    loop-less-3
-    loop-again-3
-    loop-less-4
-    loop-again-4
-    enum-told-3
-    low-marks-requires-2
-    enter-requires-3
-    loop-less-5
-    loop-again-5
-    shut-file-requires
-    same-length
-    same-length-2
-    same-length-3
-    returns)
+enter-faults-spec = tie.close (tie.spec basis-of-requires unseen-requires start-requires feed-requires finish-requires same-length same-length-2 same-length-3 returns)
