@@ -1,0 +1,4 @@
+pub mod Cutting
+pub mod Short
+pub mod Portions
+pub mod Unseen

@@ -1,0 +1,3 @@
+pub mod Whole
+pub mod Short
+pub mod Portions

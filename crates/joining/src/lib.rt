@@ -1,0 +1,4 @@
+// A text that comes in portions.
+pub fn none() -> usize {
+    0
+}
