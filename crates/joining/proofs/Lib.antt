@@ -2,3 +2,5 @@ pub mod Cutting
 pub mod Short
 pub mod Portions
 pub mod Unseen
+pub mod Behind
+pub mod Padded

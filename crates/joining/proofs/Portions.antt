@@ -12,7 +12,7 @@ use Rattle.joining.specs.Whole.{endedOnes, openOne, whole, rest, extent,
 use Rattle.joining.specs.Short.{sign, shortTo, short, endsCr, crIf, withoutCr, Kept, kept, keptText, leftOut}
 use Rattle.joining.specs.Portions.{Stand, Reached, fresh, concat, tells, run, holding, goingOn, after, afterAll, closed}
 use Rattle.joining.proofs.Cutting.{First, here, on, first-of, lines-append, Clear, alone, ahead, clear-lines, rest-clear, sizes, ended-append, open-append}
-use Rattle.joining.proofs.Short.{short-short, length-short, cr-split, without-same, without-append, clear-bare, clear-short, kept-short, kept-again, ends-short}
+use Rattle.joining.proofs.Short.{short-short, length-short, cr-split, without-same, without-append, rest-lines, kept-lines, kept-short, kept-again, ends-short}
 
 -- how many bytes the short form of p leaves out
 abbrev over : List ℕ → ℕ
@@ -41,6 +41,21 @@ left-again : (p : List ℕ) → endsCr p ≡ false → leftOut p ≡ over p + le
 unfolding leftOut
 left-again p e = rw (without-same p e, without-same (short p) (ends-short p e)) (omega (arith, length-short p, length-short (short p)))
 
+left-kept : (s : List ℕ) → leftOut s + length (keptText (kept s)) ≡ length s
+unfolding leftOut kept
+left-kept s =
+    omega (
+      arith,
+      length-append (short (withoutCr s)) (crIf (endsCr s)),
+      length-short (withoutCr s),
+      ap length (cr-split s),
+      length-append (withoutCr s) (crIf (endsCr s)),
+    )
+
+bare-ends : (s c : List ℕ) (t : Bool) → endsCr s ≡ t → crIf t ++ c ≡ [] → endsCr (withoutCr s) ≡ false
+bare-ends s c true e f = absurd (omega (arith, ap length f))
+bare-ends s c false e f = ap endsCr (without-same s e) ∙ e
+
 module _ {L : Type 0} (told : L → ℕ → List ℕ → Bool → L) where
   run-append : (r : Stand L) (ls ms : List Line) → run told r (ls ++ ms) ≡ run told (run told r ls) ms
   unfolding run
@@ -61,17 +76,6 @@ module _ {L : Type 0} (told : L → ℕ → List ℕ → Bool → L) where
   unfolding run size
   run-at r [] = omega arith
   run-at r (l ∷ ls) = omega (arith, run-at (tells told r l) ls)
-
-  left-kept : (s : List ℕ) → leftOut s + length (keptText (kept s)) ≡ length s
-  unfolding leftOut kept
-  left-kept s =
-      omega (
-        arith,
-        length-append (short (withoutCr s)) (crIf (endsCr s)),
-        length-short (withoutCr s),
-        ap length (cr-split s),
-        length-append (withoutCr s) (crIf (endsCr s)),
-      )
 
   -- every byte that came stands before the line to come, is left out of it, or is kept of it
   pub counts : (r : Stand L) (t : List ℕ) → let a = goingOn told r (lines t) in a .stand .at + a .stand .over + length (keptText (a .held)) ≡ r .at + r .over + length t
@@ -128,22 +132,6 @@ module _ {L : Type 0} (told : L → ℕ → List ℕ → Bool → L) where
     going r p (c ∷ s) h = going-some r p c (lines (c ∷ s)) (first-of c s)
 
     -- ---- a rest by what is kept of it
-
-    rest-lines : (s c : List ℕ) → Clear s [] → lines (s ++ c) ≡ ahead (withoutCr s) (lines (crIf (endsCr s) ++ c))
-    rest-lines s c q =
-        ap (λ (l : List ℕ). lines (l ++ c)) (sym (cr-split s))
-        ∙ ap lines (append-assoc (withoutCr s) (crIf (endsCr s)) c)
-        ∙ clear-lines (withoutCr s) (crIf (endsCr s) ++ c) (clear-bare s c q)
-
-    pub kept-lines : (s c : List ℕ) → Clear s [] → lines (keptText (kept s) ++ c) ≡ ahead (short (withoutCr s)) (lines (crIf (endsCr s) ++ c))
-    unfolding kept
-    kept-lines s c q =
-        ap lines (append-assoc (short (withoutCr s)) (crIf (endsCr s)) c)
-        ∙ clear-lines (short (withoutCr s)) (crIf (endsCr s) ++ c) (clear-short 64 (withoutCr s) (crIf (endsCr s) ++ c) (clear-bare s c q))
-
-    bare-ends : (s c : List ℕ) (t : Bool) → endsCr s ≡ t → crIf t ++ c ≡ [] → endsCr (withoutCr s) ≡ false
-    bare-ends s c true e f = absurd (omega (arith, ap length f))
-    bare-ends s c false e f = ap endsCr (without-same s e) ∙ e
 
     rest-kept : (r : Stand L) (s c : List ℕ) → Clear s [] → goingOn told r (lines (s ++ c)) ≡ goingOn told (more r (leftOut s)) (lines (keptText (kept s) ++ c))
     unfolding leftOut

@@ -10,10 +10,10 @@ use lib.Seq.{take-all, take-nil, drop-nil, take-append-le, take-append-seam, dro
 use Rattle.laws.specs.Lists.{anyOf}
 use Rattle.laws.proofs.Any.{any-append}
 use Rattle.text.specs.Characters.{isAdmissible, isInadmissible}
-use Rattle.lines.specs.Lines.{isByte, crlf}
+use Rattle.lines.specs.Lines.{isByte, crlf, lines}
 use Rattle.lines.proofs.Lines.{crlf-not}
 use Rattle.joining.specs.Short.{sign, shortTo, short, endsCr, crIf, withoutCr, Kept, kept, keptText, leftOut, added}
-use Rattle.joining.proofs.Cutting.{crlf-two, Clear}
+use Rattle.joining.proofs.Cutting.{crlf-two, Clear, ahead, clear-lines}
 
 -- ---- the byte that stands for others
 
@@ -201,3 +201,17 @@ kept-short p b q =
 pub kept-again : (p : List ℕ) → endsCr p ≡ false → kept (short p) ≡ kept p
 kept-again p e =
     kept-same (short p) (ends-short p e) ∙ ap (λ (l : List ℕ). record { text = l; cr = false }) (ap short (sym (append-nil (short p))) ∙ short-short p [] ∙ ap short (append-nil p)) ∙ sym (kept-same p e)
+
+-- ---- a rest and what comes
+
+pub rest-lines : (s c : List ℕ) → Clear s [] → lines (s ++ c) ≡ ahead (withoutCr s) (lines (crIf (endsCr s) ++ c))
+rest-lines s c q =
+    ap (λ (l : List ℕ). lines (l ++ c)) (sym (cr-split s))
+    ∙ ap lines (append-assoc (withoutCr s) (crIf (endsCr s)) c)
+    ∙ clear-lines (withoutCr s) (crIf (endsCr s) ++ c) (clear-bare s c q)
+
+pub kept-lines : (s c : List ℕ) → Clear s [] → lines (keptText (kept s) ++ c) ≡ ahead (short (withoutCr s)) (lines (crIf (endsCr s) ++ c))
+unfolding kept
+kept-lines s c q =
+    ap lines (append-assoc (short (withoutCr s)) (crIf (endsCr s)) c)
+    ∙ clear-lines (short (withoutCr s)) (crIf (endsCr s) ++ c) (clear-short 64 (withoutCr s) (crIf (endsCr s) ++ c) (clear-bare s c q))
