@@ -63,11 +63,11 @@ module _ (s : List ℕ) (end : ℕ) (E : Ends s end) where
   pub ends-whole : lines (take end s) ≡ whole s
   ends-whole =
       let w : whole s ≡ whole (take end s) =
-        ap (λ (l : List ℕ). whole l) (sym parts)
-        ∙ whole-append (take end s) (drop end s)
-        ∙ ap (λ (l : List ℕ). whole (take end s) ++ whole (l ++ drop end s)) (E .front)
-        ∙ ap (λ (ls : List Line). whole (take end s) ++ ls) clear-whole
-        ∙ append-nil (whole (take end s)) in
+      ap (λ (l : List ℕ). whole l) (sym parts)
+      ∙ whole-append (take end s) (drop end s)
+      ∙ ap (λ (l : List ℕ). whole (take end s) ++ whole (l ++ drop end s)) (E .front)
+      ∙ ap (λ (ls : List Line). whole (take end s) ++ ls) clear-whole
+      ∙ append-nil (whole (take end s)) in
       ap lines (sym (append-nil (take end s)))
       ∙ lines-append (take end s) []
       ∙ ap (λ (l : List ℕ). whole (take end s) ++ lines (l ++ [])) (E .front)
@@ -115,10 +115,10 @@ seek-more s end S h e =
 hit : (s : List ℕ) (j : ℕ) → suc j < length s → getD s j 0 ≡ 0x0d → getD s (suc j) 0 ≡ 0x0a → Clear (drop (suc j) s) [] → Ends s (suc (suc j))
 hit s j h e f q =
     let front : take (suc (suc j)) s ≡ take j s ++ (0x0d ∷ 0x0a ∷ []) =
-      take-suc s (suc j) 0 h
-      ∙ ap (λ (l : List ℕ). l ++ (getD s (suc j) 0 ∷ [])) (take-suc s j 0 (omega arith))
-      ∙ append-assoc (take j s) (getD s j 0 ∷ []) (getD s (suc j) 0 ∷ [])
-      ∙ (λ i. take j s ++ (e i ∷ f i ∷ [])) in
+    take-suc s (suc j) 0 h
+    ∙ ap (λ (l : List ℕ). l ++ (getD s (suc j) 0 ∷ [])) (take-suc s j 0 (omega arith))
+    ∙ append-assoc (take j s) (getD s j 0 ∷ []) (getD s (suc j) 0 ∷ [])
+    ∙ (λ i. take j s ++ (e i ∷ f i ∷ [])) in
     record {
       within = omega arith;
       front = ap (λ (l : List ℕ). rest l) front ∙ cut-rest (take j s);
@@ -133,7 +133,7 @@ hit-at s end S h e =
     let p = and-parts (isByte 0x0d (getD s j 0)) (isByte 0x0a (getD s (end - 1) 0)) e in
     subst (Ends s) both
     (hit s j (omega (arith, S .fits)) (eqb-true (getD s j 0) 0x0d (p .0)) (ap (λ (k : ℕ). getD s k 0) (sym next) ∙ eqb-true (getD s (end - 1) 0) 0x0a (p .1))
-      (subst (λ (k : ℕ). Clear (drop k s) []) next (S .clear)))
+    (subst (λ (k : ℕ). Clear (drop k s) []) next (S .clear)))
 
 pub seek-hit : (s : List ℕ) (end : ℕ) → Sought s end → 1 < end → (isByte 0x0d (getD s (end - 2) 0) && isByte 0x0a (getD s (end - 1) 0)) ≡ true → end ≡ size (whole s)
 seek-hit s end S h e = ends-size s end (hit-at s end S h e)

@@ -70,6 +70,11 @@ module _ {L : Type 0} (told : L → ℕ → List ℕ → Bool → L) where
       ∙ (λ i. holding told (run told r (ended-append (lines t) (lines (rest t ++ c)) i)) (open-append (lines t) (lines (rest t ++ c)) i))
       ∙ ap (λ (s : Stand L). holding told s (rest (rest t ++ c))) (run-append r (whole t) (whole (rest t ++ c)))
 
+  pub going-alone : (r : Stand L) (p : List ℕ) → goingOn told r (alone p) ≡ holding told r p
+  unfolding goingOn run endedOnes openOne
+  going-alone r [] = refl
+  going-alone r (b ∷ p) = refl
+
   -- ---- offsets
 
   run-at : (r : Stand L) (ls : List Line) → run told r ls .at + run told r ls .over ≡ r .at + r .over + size ls
@@ -101,11 +106,6 @@ module _ {L : Type 0} (told : L → ℕ → List ℕ → Bool → L) where
         λ i. record { desk = sym (told-on (r .desk) (r .at) p q e) i; at = n i; over = 0 }
 
     -- ---- the open line by its short form
-
-    going-alone : (r : Stand L) (p : List ℕ) → goingOn told r (alone p) ≡ holding told r p
-    unfolding goingOn run endedOnes openOne
-    going-alone r [] = refl
-    going-alone r (b ∷ p) = refl
 
     holding-more : (r : Stand L) (m n k : ℕ) (x y : Kept) → m ≡ n + k → x ≡ y
         → _≡_ {A = Reached L} (record { stand = more r m; held = x }) (record { stand = more (more r n) k; held = y })

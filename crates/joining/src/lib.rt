@@ -8,7 +8,7 @@ ghost use Rattle.laws.specs.Lists.{anyOf};
 ghost use Rattle.text.specs.Characters.{isInadmissible};
 ghost use Rattle.joining.specs.Whole.{whole, size};
 ghost use Rattle.joining.specs.Short.{short, crIf, withoutCr, keptText, added};
-ghost use Rattle.joining.specs.Held.{asText, asHeld, keptIn, endedText};
+ghost use Rattle.joining.specs.Held.{asText, asHeld, asJoined, keptIn, endedText, gone};
 
 // How many bytes the whole lines of a text take. It is looked for from the back, so that it costs the length of the rest.
 pub fn whole_len(s: &[u8]) -> usize
@@ -175,5 +175,40 @@ pub fn add(h: Held, s: &[u8]) -> Held
         text,
         len: u.len,
         cr: (k < n) | (h.cr & (n == 0)),
+    }
+}
+
+// A line that is kept, gone on with: what is kept of it then, where the text goes on behind it, and whether CR LF ended it.
+pub struct Joined {
+    pub held: Held,
+    pub next: usize,
+    pub ended: bool,
+}
+
+// The line that is kept, up to its CR LF in the text that comes, or with all of it.
+pub fn join(h: Held, s: &[u8]) -> Joined
+    ensures { λ r. ⌜ r ≡ asJoined (gone (keptIn h) (now (s .entry))) ⌝ }
+{
+    if h.cr & text::strings::starts(s, b"\n") {
+        let t = with_cr(h, false);
+        let text = t.text;
+        let held = Held {
+            text,
+            len: t.len,
+            cr: false,
+        };
+        return Joined {
+            held,
+            next: 1,
+            ended: true,
+        };
+    }
+    let f = lines::line_from(s, 0);
+    let end = f.end;
+    let held = add(h, &s[..end]);
+    Joined {
+        held,
+        next: f.next,
+        ended: f.ended,
     }
 }
