@@ -116,6 +116,27 @@ rest-clear (b ∷ b' ∷ s) = go (crlf (b ∷ b' ∷ s)) refl (rest-clear s) (re
     go true e i j = i
     go false e i j = clear-onto b b' s e (lines (b' ∷ s)) (first-of b' s) j
 
+-- nor has a first line
+abbrev pub firstBytes : List Line → List ℕ
+firstBytes [] = []
+firstBytes (l ∷ ls) = l .bytes
+
+first-onto-clear : (b b' : ℕ) (s : List ℕ) → crlf (b ∷ b' ∷ s) ≡ false → (ls : List Line) → First b' ls → Clear (firstBytes ls) [] → Clear (firstBytes (onto b ls)) []
+unfolding onto
+first-onto-clear b b' s e _ here q = (crlf-short (b ∷ []) (omega arith), tt)
+first-onto-clear b b' s e _ (on {bs}) q = (crlf-two b b' (bs ++ []) s ∙ e, q)
+
+pub first-clear : (s : List ℕ) → Clear (firstBytes (lines s)) []
+unfolding lines onto
+first-clear [] = tt
+first-clear (b ∷ []) = (crlf-short (b ∷ []) (omega arith), tt)
+first-clear (b ∷ b' ∷ s) = go (crlf (b ∷ b' ∷ s)) refl (first-clear (b' ∷ s))
+  where
+    go : (t : Bool) → crlf (b ∷ b' ∷ s) ≡ t → Clear (firstBytes (lines (b' ∷ s))) []
+        → Clear (firstBytes (cond t (record { bytes = []; ended = true } ∷ lines s) (onto b (lines (b' ∷ s))))) []
+    go true e j = tt
+    go false e j = first-onto-clear b b' s e (lines (b' ∷ s)) (first-of b' s) j
+
 -- ---- lengths
 
 size-onto : (b : ℕ) (ls : List Line) → size (endedOnes (onto b ls)) + length (openOne (onto b ls)) ≡ suc (size (endedOnes ls) + length (openOne ls))

@@ -1,12 +1,13 @@
 -- A line that is kept, and what comes behind it: what the code does with a portion is what `after` says.
 use mathlib.Core.Path.{_≡_, refl, sym, ap, subst, _∙_}
-use mathlib.Core.Bool.{Bool, true, false, cond, _&&_, and-true, false≢true}
+use mathlib.Core.Bool.{Bool, true, false, cond, _&&_, and-true, and-false, false≢true}
 use mathlib.Core.List.{List, [], _∷_, _++_, append-assoc, append-nil}
 use Prim.Native.Nat.{ℕ, zero, suc, _+_, _-_, _<_, _≤_, min}
 use native.Mathlib.Omega.{arith}
 use borrow.Author.Tests.{eqb-true}
 use lib.Seq.{take-all}
 use lib.ListN.{length, take, drop, length-append, length-take}
+use Rattle.figures.proofs.Tests.{and-parts}
 use Rattle.text.specs.Strings.{begins}
 use Rattle.lines.specs.declared.Found.{Found}
 use Rattle.lines.specs.Lines.{Line, isByte, crlf, onto, lines}
@@ -20,7 +21,7 @@ use Rattle.joining.specs.declared.Held.{Held}
 use Rattle.joining.specs.declared.Joined.{Joined}
 use Rattle.joining.specs.Held.{padded, asText, asHeld, asJoined, keptIn, endedText, Gone, goneBy, gone}
 use Rattle.joining.specs.Portions.{Stand, Reached, tells, run, holding, goingOn, after}
-use Rattle.joining.proofs.Cutting.{Clear, alone, ahead, clear-lines, sizes}
+use Rattle.joining.proofs.Cutting.{Clear, alone, ahead, clear-lines, firstBytes, first-clear, sizes}
 use Rattle.joining.proofs.Short.{short-short, length-short, cr-split, without-same, kept-on, kept-same, kept-short, kept-again, clear-bare, clear-short, kept-lines}
 use Rattle.joining.proofs.Padded.{take-padded}
 use Rattle.joining.proofs.Portions.{going-alone, told-kept}
@@ -152,6 +153,64 @@ open-all (b ∷ s) e =
 none-found : lineAt [] 0 .ended ≡ false
 unfolding lines
 none-found = refl
+
+-- what was found has no CR LF in it
+found-clear : (s : List ℕ) → Clear (take (lineAt s 0 .end) s) []
+unfolding lines
+found-clear [] = tt
+found-clear (b ∷ s) = subst (λ (ls : List Line). Clear (firstBytes ls) []) (first-line (b ∷ s) (omega arith)) (first-clear (b ∷ s))
+
+begins-take : (t : Bool) (n : ℕ) (s : List ℕ) → (t && begins s (0x0a ∷ [])) ≡ false → (t && begins (take n s) (0x0a ∷ [])) ≡ false
+unfolding begins
+begins-take t zero s e = and-false t
+begins-take t (suc n) [] e = and-false t
+begins-take t (suc n) (b ∷ s) e = e
+
+-- nor has a rest that goes on with it
+clear-on : (x q : List ℕ) → Clear x [] → (endsCr x && begins q (0x0a ∷ [])) ≡ false → Clear q [] → Clear (x ++ q) []
+clear-on x q c e d =
+    let here : Clear (withoutCr x ++ crIf (endsCr x)) q = clear-append (withoutCr x) (crIf (endsCr x)) q (clear-bare x q c) (clear-cr (endsCr x) q e) in
+    clear-append x q [] (subst (λ (l : List ℕ). Clear x l) (sym (append-nil q)) (subst (λ (l : List ℕ). Clear l q) (cr-split x) here)) d
+
+no-byte : (t : Bool) → (t && begins [] (0x0a ∷ [])) ≡ false
+unfolding begins
+no-byte t = and-false t
+
+no-lf : (t : Bool) → (t && begins (0x0d ∷ 0x0a ∷ []) (0x0a ∷ [])) ≡ false
+unfolding begins
+no-lf t = and-false t
+
+-- a held CR before the LF that ended it goes out of what is kept
+lf-one : (x : List ℕ) → Clear x [] → (t : Bool) → endsCr x ≡ t → t ≡ true
+    → lines (endedText (record { text = short (withoutCr x); cr = false })) ≡ record { bytes = short (withoutCr x) ++ []; ended = true } ∷ []
+lf-one x q false f e = absurd (false≢true e)
+lf-one x q true f e =
+    let p : List ℕ = short (withoutCr x) in
+    ap lines (append-assoc p [] (0x0d ∷ 0x0a ∷ []))
+    ∙ clear-lines p (0x0d ∷ 0x0a ∷ []) (clear-short 64 (withoutCr x) (0x0d ∷ 0x0a ∷ []) (subst (λ (t : Bool). Clear (withoutCr x) (crIf t ++ (0x0a ∷ []))) f (clear-bare x (0x0a ∷ []) q)))
+    ∙ ap (ahead p) (crlf-cuts [] ∙ ap (λ (ls : List Line). record { bytes = []; ended = true } ∷ ls) lines-none)
+
+-- with CR LF behind it, what is kept of a rest is one line
+pub ended-one : (x : List ℕ) → Clear x [] → lines (endedText (kept x)) ≡ record { bytes = keptText (kept x); ended = true } ∷ []
+ended-one x q = seam x (0x0d ∷ 0x0a ∷ []) q (no-lf (endsCr x)) ∙ ap (ahead (keptText (kept x))) (crlf-cuts [] ∙ ap (λ (ls : List Line). record { bytes = []; ended = true } ∷ ls) lines-none) ∙ ap (λ (l : List ℕ). record { bytes = l; ended = true } ∷ []) (append-nil (keptText (kept x)))
+
+-- and so is the line that is joined, where CR LF ended it
+pub gone-one : (x s : List ℕ) → Clear x [] → gone (kept x) s .ended ≡ true → lines (endedText (gone (kept x) s .line)) ≡ record { bytes = keptText (gone (kept x) s .line); ended = true } ∷ []
+unfolding gone goneBy kept
+gone-one x s q f = go (endsCr x && begins s (0x0a ∷ [])) refl
+  where
+    go : (t : Bool) → (endsCr x && begins s (0x0a ∷ [])) ≡ t
+        → let g = cond t (record { line = record { text = short (withoutCr x); cr = false }; next = 1; ended = true }) (goneBy (kept x) s (lineAt s 0)) in
+        lines (endedText (g .line)) ≡ record { bytes = keptText (g .line); ended = true } ∷ []
+    go true e = lf-one x q (endsCr x) refl (and-parts (endsCr x) (begins s (0x0a ∷ [])) e .0)
+    go false e =
+        let q' : Clear (x ++ take (lineAt s 0 .end) s) [] = clear-on x (take (lineAt s 0 .end) s) q (begins-take (endsCr x) (lineAt s 0 .end) s e) (found-clear s) in
+        subst (λ (k : Kept). lines (endedText k) ≡ record { bytes = keptText k; ended = true } ∷ []) (sym (added-kept x (take (lineAt s 0 .end) s))) (ended-one (x ++ take (lineAt s 0 .end) s) q')
+
+-- with none, what is kept of a rest is one line, or none
+pub closed-one : (x : List ℕ) → Clear x [] → lines (keptText (kept x)) ≡ alone (keptText (kept x))
+closed-one x q =
+    ap lines (sym (append-nil (keptText (kept x)))) ∙ seam x [] q (no-byte (endsCr x)) ∙ ap (ahead (keptText (kept x))) lines-none
 
 module _ {L : Type 0} (told : L → ℕ → List ℕ → Bool → L) (same : (d : L) (at : ℕ) (l : List ℕ) (e : Bool) → told d at (short l) e ≡ told d at l e) where
   -- the line by what is kept of it and what goes on with it
