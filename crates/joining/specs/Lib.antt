@@ -1,0 +1,4 @@
+pub mod Whole
+pub mod Short
+pub mod Portions
+pub mod Held

@@ -1,0 +1,32 @@
+-- What CR LF has ended of a text so far, and what stands behind it.
+use Prim.Native.Nat.{ℕ, _+_}
+use mathlib.Core.Bool.{cond}
+use mathlib.Core.List.{List, [], _∷_}
+use lib.ListN.{length}
+use Rattle.lines.specs.Lines.{Line, lines}
+
+-- of lines in their order, those that CR LF ended: only the last can be without
+unfoldable pub endedOnes : List Line → List Line
+endedOnes [] = []
+endedOnes (l ∷ ls) = cond (l .ended) (l ∷ endedOnes ls) []
+
+-- the bytes of the one without, or none
+unfoldable pub openOne : List Line → List ℕ
+openOne [] = []
+openOne (l ∷ ls) = cond (l .ended) (openOne ls) (l .bytes)
+
+-- the lines of a text that CR LF ended
+abbrev pub whole : List ℕ → List Line
+whole t = endedOnes (lines t)
+
+-- what stands behind the last of them
+abbrev pub rest : List ℕ → List ℕ
+rest t = openOne (lines t)
+
+-- how many bytes a line takes, its CR LF included
+abbrev pub extent : Line → ℕ
+extent l = length (l .bytes) + cond (l .ended) 2 0
+
+unfoldable pub size : List Line → ℕ
+size [] = 0
+size (l ∷ ls) = extent l + size ls
