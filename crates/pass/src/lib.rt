@@ -34,7 +34,7 @@ ghost use Rattle.rules.specs.Terms.{input};
 ghost use Rattle.rules.specs.Faults.{faultsIn};
 ghost use Rattle.ledger.specs.Slices.{Ready, Entered, Kept, Listed};
 ghost use Rattle.ledger.specs.Marks.{marked};
-ghost use Rattle.judging.specs.Closing.{lastMarks, closeAs, closeFaults};
+ghost use Rattle.judging.specs.Closing.{closeAs, closeFaults};
 ghost use Rattle.judging.specs.Opening.{readAs, closeClaims};
 ghost use Rattle.pass.specs.Starts.{Stands, WaitsAt, startOf};
 ghost use Rattle.pass.specs.Standing.{fresh, Bounded, Fed, Finished};
@@ -161,51 +161,6 @@ fn shut_all(
         b,
         w,
     )
-}
-
-// The file ends: all that is open closes, and the heading that waits for rule 16 has it.
-fn shut_file(
-    lines: &mut [u32],
-    rules: &mut [u32],
-    places: &mut [u32],
-    g: Ledger,
-    starts: Starts,
-    basis: Basis,
-    o: Open,
-    p: Pend,
-    no: u32,
-    own: u64,
-    reads: bool,
-    h: Heading,
-    claims: Claims,
-    b: Block,
-    w: Wait,
-) -> Ledger
-    requires { ⌜ Ready (g .kept) (now lines) (now rules) ⌝ }
-    requires { ⌜ length (now lines) ≡ length (now places) ⌝ }
-    requires { ⌜ (g .total < 2 ^ 61) × (w .marks < 2 ^ 41) × (own ≤ 18) ⌝ }
-    ensures { λ r. ⌜ Entered ((marked (o .no) (o .marks) ++ closeFaults basis b w no own (readAs reads h) (closeClaims claims o p)) ++ marked (closeAs basis b w no own (readAs reads h) (closeClaims claims o p) .wait .line) (lastMarks (closeAs basis b w no own (readAs reads h) (closeClaims claims o p) .block) (closeAs basis b w no own (readAs reads h) (closeClaims claims o p) .wait))) g (now (lines .entry)) (now (rules .entry)) r (now (lines .exit)) (now (rules .exit)) ⌝ }
-    ensures { λ r. ⌜ Kept (λ off. (off (o .no) ≡ starts .field) × Stands off starts no (w .line)) (g .kept) (now (lines .entry)) (now (places .entry)) (r .kept) (now (lines .exit)) (now (places .exit)) ⌝ }
-{
-    let t = shut_all(
-        lines,
-        rules,
-        places,
-        g,
-        starts,
-        basis,
-        o,
-        p,
-        no,
-        own,
-        reads,
-        h,
-        claims,
-        b,
-        w,
-    );
-    let last = closing::last_marks(t.block, t.wait);
-    ledger::enter(lines, rules, places, t.ledger, t.wait.line, t.start, last)
 }
 
 // No heading yet.
@@ -418,7 +373,7 @@ pub fn feed(
     }
 }
 
-// The file ends.
+// The file ends: all that is open closes, and the heading that waits for rule 16 has it.
 pub fn finish(
     basis: Basis,
     lines: &mut [u32],
@@ -437,7 +392,7 @@ pub fn finish(
     let claims = p.claims;
     let block = p.block;
     let wait = p.wait;
-    shut_file(
+    let t = shut_all(
         lines,
         rules,
         places,
@@ -453,7 +408,9 @@ pub fn finish(
         claims,
         block,
         wait,
-    )
+    );
+    let last = closing::last_marks(t.block, t.wait);
+    ledger::enter(lines, rules, places, t.ledger, t.wait.line, t.start, last)
 }
 
 // Enters the faults of a body, for the submitter's code and the accounting day.
