@@ -4,10 +4,10 @@ use Rattle.blocks_table.proofs.print_rules.Statement.{statement}
 use Rattle.blocks_table.proofs.print_rules.Tie as tie
 
 abbrev Inv-loop : tie.InvT-loop
-Inv-loop marks left₀ r₀ t4 left r = r ≤ 39
+Inv-loop marks left₀ r₀ t4 left r = r ≤ 40
 
 abbrev μ-loop : tie.MeasureT-loop
-μ-loop marks left₀ r₀ t4 left r = 39 - r
+μ-loop marks left₀ r₀ t4 left r = 40 - r
 
 loop-holds : tie.Need-loop-holds Inv-loop μ-loop
 loop-holds c = search needs
