@@ -2,7 +2,7 @@
 use mathlib.Core.Path.{_≡_, refl, sym, ap, subst, _∙_}
 use mathlib.Core.Bool.{Bool, true, false, cond, not, _&&_, _||_, or-false, and-true, and-false, false≢true}
 use mathlib.Core.List.{List, [], _∷_, _++_, append-assoc, append-nil}
-use Prim.Native.Nat.{ℕ, zero, suc, _+_, _-_, _<_, _≤_, min}
+use Prim.Native.Nat.{ℕ, suc, _+_, _-_, _<_, _≤_, min}
 use native.Mathlib.Nat.{zero-add}
 use native.Mathlib.Omega.{arith}
 use lib.Dec.{eqb, ltb, leb, eqb·suc-zero}
@@ -19,7 +19,7 @@ use Rattle.text.proofs.Wrote.{then}
 use Rattle.lines.specs.Lines.{isByte}
 use Rattle.joining.specs.declared.Text.{Text}
 use Rattle.joining.specs.declared.Held.{Held}
-use Rattle.joining.specs.Short.{sign, shortTo, short, endsCr, crIf, withoutCr, Kept, keptText, added}
+use Rattle.joining.specs.Short.{sign, shortTo, short, endsCr, crIf, withoutCr, keptText, added}
 use Rattle.joining.specs.Held.{padded, asText, asHeld, keptIn}
 use Rattle.joining.proofs.Short.{short-self, length-short, ends-append, without-append}
 

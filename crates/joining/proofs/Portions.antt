@@ -2,16 +2,15 @@
 use mathlib.Core.Path.{_≡_, refl, sym, ap, _∙_}
 use mathlib.Core.Bool.{Bool, true, false, cond}
 use mathlib.Core.List.{List, [], _∷_, _++_, append-assoc, append-nil}
-use Prim.Native.Nat.{ℕ, zero, suc, _+_, _-_, _<_, _≤_, min}
-use native.Mathlib.Nat.{add-zero}
+use Prim.Native.Nat.{ℕ, _+_, _-_}
 use native.Mathlib.Omega.{arith}
 use lib.ListN.{length, length-append}
 use Rattle.lines.specs.Lines.{Line, lines}
 use Rattle.lines.proofs.Lines.{lines-none}
-use Rattle.joining.specs.Whole.{endedOnes, openOne, whole, rest, extent, size}
+use Rattle.joining.specs.Whole.{endedOnes, openOne, whole, rest, size}
 use Rattle.joining.specs.Short.{sign, shortTo, short, endsCr, crIf, withoutCr, Kept, kept, keptText, leftOut}
 use Rattle.joining.specs.Portions.{Stand, Reached, fresh, concat, tells, run, holding, goingOn, after, afterAll, closed}
-use Rattle.joining.proofs.Cutting.{First, here, on, first-of, lines-append, Clear, alone, ahead, clear-lines, rest-clear, sizes, ended-append, open-append}
+use Rattle.joining.proofs.Cutting.{First, here, on, first-of, lines-append, Clear, alone, ahead, rest-clear, sizes, ended-append, open-append}
 use Rattle.joining.proofs.Short.{short-short, length-short, cr-split, without-same, without-append, rest-lines, kept-lines, kept-short, kept-again, ends-short}
 
 -- how many bytes the short form of p leaves out
