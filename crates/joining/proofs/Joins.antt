@@ -14,8 +14,8 @@ use Rattle.lines.specs.Lines.{Line, isByte, crlf, lines}
 use Rattle.lines.specs.Reading.{lineAt}
 use Rattle.lines.proofs.Lines.{lines-none, lines-cut}
 use Rattle.lines.proofs.Reading.{is-next}
-use Rattle.joining.specs.Whole.{endedOnes, openOne, size}
-use Rattle.joining.specs.Short.{short, endsCr, crIf, withoutCr, Kept, kept, keptText, leftOut, added}
+use Rattle.joining.specs.Whole.{endedOnes, openOne, whole, size}
+use Rattle.joining.specs.Short.{sign, shortTo, short, endsCr, crIf, withoutCr, Kept, kept, keptText, leftOut, added}
 use Rattle.joining.specs.declared.Text.{Text}
 use Rattle.joining.specs.declared.Held.{Held}
 use Rattle.joining.specs.declared.Joined.{Joined}
@@ -23,6 +23,7 @@ use Rattle.joining.specs.Held.{padded, asText, asHeld, asJoined, keptIn,
 use Rattle.joining.specs.Portions.{Stand, run, holding, goingOn, after}
 use Rattle.joining.proofs.Cutting.{Clear, alone, ahead, clear-lines, firstBytes, first-clear, sizes}
 use Rattle.joining.proofs.Short.{short-short, length-short, cr-split, without-same, kept-on, kept-same, kept-short, kept-again, clear-bare, clear-short, kept-lines}
+use Rattle.joining.proofs.Behind.{whole-before, rest-behind}
 use Rattle.joining.proofs.Padded.{take-padded}
 use Rattle.joining.proofs.Portions.{going-alone, told-kept}
 
@@ -57,6 +58,15 @@ held-again r =
     let h : length t ≤ 65 = omega (arith, length-short (withoutCr r)) in
     let m : min 65 (length t) ≡ length t = omega arith in
     ap (λ (l : List ℕ). record { text = l; cr = endsCr r }) (ap (λ (k : ℕ). take k (padded t)) m ∙ take-padded t (omega arith))
+
+-- where nothing is kept, a piece is a rest of its own
+pub added-none : (s : List ℕ) → added (record { text = []; cr = false }) s ≡ kept s
+unfolding kept shortTo sign endsCr
+added-none s = added-kept [] s
+
+pub held-none : keptIn (asHeld (record { text = []; cr = false })) ≡ record { text = []; cr = false }
+unfolding kept shortTo sign endsCr
+held-none = held-again []
 
 short-on : (p s : List ℕ) (t : Bool) → (t ≡ false → endsCr p ≡ false) → kept (short p ++ (crIf t ++ s)) ≡ kept (p ++ (crIf t ++ s))
 short-on p s true h = kept-short p 0x0d s
@@ -112,6 +122,26 @@ found-fits : (s : List ℕ) → lineAt s 0 .end ≤ length s
 unfolding lines
 found-fits [] = omega arith
 found-fits (b ∷ s) = let n = is-next (b ∷ s) 0 (lineAt (b ∷ s) 0) refl (omega arith) in omega (arith, n .closes, n .within)
+
+next-fits : (s : List ℕ) → lineAt s 0 .next ≤ length s
+unfolding lines
+next-fits [] = omega arith
+next-fits (b ∷ s) = is-next (b ∷ s) 0 (lineAt (b ∷ s) 0) refl (omega arith) .within
+
+lf-fits : (t : Bool) (s : List ℕ) → (t && begins s (0x0a ∷ [])) ≡ true → 1 ≤ length s
+unfolding begins
+lf-fits t [] e = absurd (false≢true (sym (and-false t) ∙ e))
+lf-fits t (b ∷ s) e = omega arith
+
+-- a text goes on within itself
+pub join-within : (k : Kept) (s : List ℕ) → joinOf k s .next ≤ length s
+unfolding joinOf joinBy
+join-within k s = go (k .cr && begins s (0x0a ∷ [])) refl
+  where
+    go : (t : Bool) → (k .cr && begins s (0x0a ∷ [])) ≡ t
+        → cond t (record { line = record { text = k .text; cr = false }; next = 1; ended = true }) (joinBy k s (lineAt s 0)) .next ≤ length s
+    go true e = lf-fits (k .cr) s e
+    go false e = next-fits s
 
 -- ---- as the code has it
 
@@ -211,6 +241,12 @@ join-one x s q f = go (endsCr x && begins s (0x0a ∷ [])) refl
 pub closed-one : (x : List ℕ) → Clear x [] → lines (keptText (kept x)) ≡ alone (keptText (kept x))
 closed-one x q =
     ap lines (sym (append-nil (keptText (kept x)))) ∙ seam x [] q (no-byte (endsCr x)) ∙ ap (ahead (keptText (kept x))) lines-none
+
+-- what comes behind the line that was joined: its whole lines are told where they stand, and its rest is kept
+pub going-cut : {L : Type 0} (told : L → ℕ → List ℕ → Bool → L) (r : Stand L) (c : List ℕ)
+    → goingOn told r (lines c) ≡ holding told (run told r (lines (take (size (whole c)) c))) (drop (size (whole c)) c)
+unfolding goingOn
+going-cut told r c = sym (λ i. holding told (run told r (whole-before c i)) (rest-behind c i))
 
 module _ {L : Type 0} (told : L → ℕ → List ℕ → Bool → L) (same : (d : L) (at : ℕ) (l : List ℕ) (e : Bool) → told d at (short l) e ≡ told d at l e) where
   -- the line by what is kept of it and what goes on with it
