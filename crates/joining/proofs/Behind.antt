@@ -1,12 +1,11 @@
 -- The search for the last CR LF of a text, from the back.
 use mathlib.Core.Path.{_≡_, refl, sym, ap, subst, _∙_}
-use mathlib.Core.Bool.{Bool, true, false, cond, _&&_}
+use mathlib.Core.Bool.{Bool, true, false, _&&_}
 use mathlib.Core.List.{List, [], _∷_, _++_, append-assoc, append-nil}
 use Prim.Native.Nat.{ℕ, zero, suc, _+_, _-_, _<_, _≤_}
-use native.Mathlib.Numerals.{add-one}
 use native.Mathlib.Omega.{arith}
-use lib.ListN.{length, take, drop, getD, length-append, length-take, length-drop, take-append-drop}
-use lib.Seq.{drop-cons, take-suc, length-take-le}
+use lib.ListN.{length, take, drop, getD, length-drop, take-append-drop}
+use lib.Seq.{drop-cons, take-suc}
 use borrow.Author.Tests.{eqb-true}
 use Rattle.lines.specs.Lines.{Line, isByte, crlf, onto, lines}
 use Rattle.lines.proofs.Lines.{lines-none, crlf-short}

@@ -1,13 +1,13 @@
 -- Laws of `whole` and `rest`: what stands behind a text goes onto its rest, and a text without CR LF is one line.
 use mathlib.Core.Path.{_≡_, refl, sym, ap, _∙_}
-use mathlib.Core.Bool.{Bool, true, false, cond, false≢true, _&&_}
-use mathlib.Core.List.{List, [], _∷_, _++_, append-assoc}
-use Prim.Native.Nat.{ℕ, zero, suc, _+_, _-_, _<_, _≤_}
+use mathlib.Core.Bool.{Bool, true, false, cond}
+use mathlib.Core.List.{List, [], _∷_, _++_}
+use Prim.Native.Nat.{ℕ, suc, _+_}
 use native.Mathlib.Omega.{arith}
-use lib.ListN.{length, take, drop, length-append}
-use Rattle.lines.specs.Lines.{Line, isByte, crlf, onto, lines}
-use Rattle.lines.proofs.Lines.{lines-cut, lines-on, crlf-not, crlf-short}
-use Rattle.joining.specs.Whole.{endedOnes, openOne, whole, rest, extent, size}
+use lib.ListN.{length}
+use Rattle.lines.specs.Lines.{Line, crlf, onto, lines}
+use Rattle.lines.proofs.Lines.{lines-cut, lines-on, crlf-short}
+use Rattle.joining.specs.Whole.{endedOnes, openOne, whole, rest, size}
 
 -- ---- the first line
 

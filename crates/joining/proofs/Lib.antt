@@ -4,4 +4,4 @@ pub mod Portions
 pub mod Unseen
 pub mod Behind
 pub mod Padded
-pub mod Going
+pub mod Joins

@@ -2,7 +2,7 @@
 use mathlib.Core.Path.{_≡_, refl, sym, ap, subst, _∙_}
 use mathlib.Core.Bool.{Bool, true, false, cond, not, _&&_, _||_, or-false, and-true, and-false, false≢true}
 use mathlib.Core.List.{List, [], _∷_, _++_, append-assoc, append-nil}
-use Prim.Native.Nat.{ℕ, zero, suc, _+_, _-_, _<_, _≤_, min}
+use Prim.Native.Nat.{ℕ, suc, _+_, _-_, _<_, _≤_, min}
 use native.Mathlib.Nat.{zero-add}
 use native.Mathlib.Omega.{arith}
 use lib.Dec.{eqb, ltb, leb, eqb·suc-zero}
@@ -19,8 +19,8 @@ use Rattle.text.proofs.Wrote.{then}
 use Rattle.lines.specs.Lines.{isByte}
 use Rattle.joining.specs.declared.Text.{Text}
 use Rattle.joining.specs.declared.Held.{Held}
-use Rattle.joining.specs.Short.{sign, shortTo, short, endsCr, crIf, withoutCr, Kept, keptText, added}
-use Rattle.joining.specs.Held.{padded, asText, asHeld, keptIn}
+use Rattle.joining.specs.Short.{sign, shortTo, short, endsCr, crIf, withoutCr, keptText, added}
+use Rattle.joining.specs.Held.{padded, asText, asHeld, keptIn, endedText}
 use Rattle.joining.proofs.Short.{short-self, length-short, ends-append, without-append}
 
 pub length-padded : (t : List ℕ) → length t ≤ 68 → length (padded t) ≡ 68
@@ -264,6 +264,9 @@ few-with h false = omega (arith, few h, length-append (keptIn h .text) [])
 
 pub few-kept : (h : Held) → length (keptText (keptIn h)) ≤ 66
 few-kept h = few-with h (keptIn h .cr)
+
+pub few-ended : (h : Held) → length (endedText (keptIn h)) ≤ 68
+few-ended h = omega (arith, few-kept h, length-append (keptText (keptIn h)) (0x0d ∷ 0x0a ∷ []))
 
 -- the piece that is lent
 pub bare-fits : (s : List ℕ) (k : ℕ) → k ≡ length (withoutCr s) → k ≡ length (take k s)

@@ -2,16 +2,15 @@
 use mathlib.Core.Path.{_≡_, refl, sym, ap, _∙_}
 use mathlib.Core.Bool.{Bool, true, false, cond}
 use mathlib.Core.List.{List, [], _∷_, _++_, append-assoc, append-nil}
-use Prim.Native.Nat.{ℕ, zero, suc, _+_, _-_, _<_, _≤_, min}
-use native.Mathlib.Nat.{add-zero}
+use Prim.Native.Nat.{ℕ, _+_, _-_}
 use native.Mathlib.Omega.{arith}
 use lib.ListN.{length, length-append}
 use Rattle.lines.specs.Lines.{Line, lines}
 use Rattle.lines.proofs.Lines.{lines-none}
-use Rattle.joining.specs.Whole.{endedOnes, openOne, whole, rest, extent, size}
+use Rattle.joining.specs.Whole.{endedOnes, openOne, whole, rest, size}
 use Rattle.joining.specs.Short.{sign, shortTo, short, endsCr, crIf, withoutCr, Kept, kept, keptText, leftOut}
 use Rattle.joining.specs.Portions.{Stand, Reached, fresh, concat, tells, run, holding, goingOn, after, afterAll, closed}
-use Rattle.joining.proofs.Cutting.{First, here, on, first-of, lines-append, Clear, alone, ahead, clear-lines, rest-clear, sizes, ended-append, open-append}
+use Rattle.joining.proofs.Cutting.{First, here, on, first-of, lines-append, Clear, alone, ahead, rest-clear, sizes, ended-append, open-append}
 use Rattle.joining.proofs.Short.{short-short, length-short, cr-split, without-same, without-append, rest-lines, kept-lines, kept-short, kept-again, ends-short}
 
 -- how many bytes the short form of p leaves out
@@ -77,10 +76,16 @@ module _ {L : Type 0} (told : L → ℕ → List ℕ → Bool → L) where
 
   -- ---- offsets
 
-  run-at : (r : Stand L) (ls : List Line) → run told r ls .at + run told r ls .over ≡ r .at + r .over + size ls
+  pub run-at : (r : Stand L) (ls : List Line) → run told r ls .at + run told r ls .over ≡ r .at + r .over + size ls
   unfolding run size
   run-at r [] = omega arith
   run-at r (l ∷ ls) = omega (arith, run-at (tells told r l) ls)
+
+  -- once no byte is left out, none is
+  pub run-over : (r : Stand L) (ls : List Line) → r .over ≡ 0 → run told r ls .over ≡ 0
+  unfolding run
+  run-over r [] e = e
+  run-over r (l ∷ ls) e = run-over (tells told r l) ls refl
 
   -- every byte that came stands before the line to come, is left out of it, or is kept of it
   pub counts : (r : Stand L) (t : List ℕ) → let a = goingOn told r (lines t) in a .stand .at + a .stand .over + length (keptText (a .held)) ≡ r .at + r .over + length t

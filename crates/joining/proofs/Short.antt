@@ -1,18 +1,18 @@
 -- Laws of the short form: what it is of a longer text, what it keeps of the text, and the CR at the end.
 use mathlib.Core.Path.{_≡_, refl, sym, ap, _∙_}
-use mathlib.Core.Bool.{Bool, true, false, cond, _&&_, _||_, or-false, and-false}
+use mathlib.Core.Bool.{Bool, true, false, cond, _||_, or-false, and-false}
 use mathlib.Core.List.{List, [], _∷_, _++_, append-assoc, append-nil}
-use Prim.Native.Nat.{ℕ, zero, suc, _+_, _-_, _<_, _≤_, min}
+use Prim.Native.Nat.{ℕ, zero, suc, _+_, _-_, _≤_, min}
 use native.Mathlib.Omega.{arith}
 use borrow.Author.Tests.{eqb-true}
-use lib.ListN.{length, take, drop, length-append, length-take, length-drop, take-append-drop, drop-of-length-le}
-use lib.Seq.{take-all, take-nil, drop-nil, take-append-le, take-append-seam, drop-append-seam, take-append-add}
+use lib.ListN.{length, take, drop, take-append-drop, drop-of-length-le}
+use lib.Seq.{take-all}
 use Rattle.laws.specs.Lists.{anyOf}
 use Rattle.laws.proofs.Any.{any-append}
 use Rattle.text.specs.Characters.{isAdmissible, isInadmissible}
 use Rattle.lines.specs.Lines.{isByte, crlf, lines}
 use Rattle.lines.proofs.Lines.{crlf-not}
-use Rattle.joining.specs.Short.{sign, shortTo, short, endsCr, crIf, withoutCr, Kept, kept, keptText, leftOut, added}
+use Rattle.joining.specs.Short.{sign, shortTo, short, endsCr, crIf, withoutCr, kept, keptText}
 use Rattle.joining.proofs.Cutting.{crlf-two, Clear, ahead, clear-lines}
 
 -- ---- the byte that stands for others

@@ -1,15 +1,15 @@
 -- What is asked of a line gives the same answer for its short form.
 use mathlib.Core.Path.{_≡_, refl, sym, ap, _∙_}
-use mathlib.Core.Bool.{Bool, true, false, cond}
+use mathlib.Core.Bool.{Bool, true, false}
 use mathlib.Core.List.{List}
 use Prim.Native.Nat.{ℕ, _<_, _≤_}
 use native.Mathlib.Omega.{arith}
 use lib.Dec.{ltb, leb}
-use lib.ListN.{length, take}
+use lib.ListN.{length}
 use borrow.Author.Tests.{leb-true, leb-false, lt-ltb, le-ltb}
 use Rattle.laws.specs.Lists.{anyOf}
 use Rattle.text.specs.Characters.{isInadmissible}
-use Rattle.text.specs.Forms.{template, hasForm}
+use Rattle.text.specs.Forms.{template}
 use Rattle.text.proofs.Layouts.{form-length}
 use Rattle.headings.specs.Reading.{layout, isHeading, headingOf}
 use Rattle.fields.specs.declared.classes.Class.{Class}

@@ -29,18 +29,18 @@ keptIn h = record { text = take (min 65 (h .len)) (h .text); cr = h .cr }
 abbrev pub endedText : Kept → List ℕ
 endedText k = keptText k ++ (0x0d ∷ 0x0a ∷ [])
 
--- the line that is kept, gone on with by s: what is kept of it then, where s goes on behind it, and whether CR LF ended it. A held CR and an
--- LF that comes first end it
-pub record Gone : Type 0 where
+-- the line that is kept when s has come: what is kept of it now, where s goes on behind it, and whether CR LF ended it. A held CR and an LF
+-- that comes first end it
+pub record Join : Type 0 where
   pub line : Kept
   pub next : ℕ
   pub ended : Bool
 
-unfoldable pub goneBy : Kept → List ℕ → Found → Gone
-goneBy k s f = record { line = added k (take (f .end) s); next = f .next; ended = f .ended }
+unfoldable pub joinBy : Kept → List ℕ → Found → Join
+joinBy k s f = record { line = added k (take (f .end) s); next = f .next; ended = f .ended }
 
-unfoldable pub gone : Kept → List ℕ → Gone
-gone k s = cond (k .cr && begins s (0x0a ∷ [])) (record { line = record { text = k .text; cr = false }; next = 1; ended = true }) (goneBy k s (lineAt s 0))
+unfoldable pub joinOf : Kept → List ℕ → Join
+joinOf k s = cond (k .cr && begins s (0x0a ∷ [])) (record { line = record { text = k .text; cr = false }; next = 1; ended = true }) (joinBy k s (lineAt s 0))
 
-abbrev pub asJoined : Gone → Joined
+abbrev pub asJoined : Join → Joined
 asJoined g = record { held = asHeld (g .line); next = g .next; ended = g .ended }

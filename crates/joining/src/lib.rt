@@ -1,4 +1,17 @@
-// A text that comes in portions.
+// A text that comes in portions: which of its lines are whole, and what is kept of the one that is not. The lines that a portion ends are
+// judged where they stand; of the line behind them a short form is kept, at most 65 bytes, which is judged as the whole line would be.
+// No rule is known here. Read, under `specs/`:
+//
+//   Whole      the lines of a text that CR LF ended, and the rest behind them
+//   Short      the short form of a line, and what is kept of a rest: a CR at its end apart, since an LF may come
+//   Portions   what a consumer of lines has after a portion, and after closing
+//
+// Promised: `whole_len` says where the whole lines end; `none`, `add` and `join` keep what the definitions say, in an array with zeros
+// behind it (specs/Held.antt), whatever the record holds that they are given; `closing` and `ended` give the text to judge. Proved
+// under `proofs/`, for any consumer that cannot tell a line from its short form: every cutting gives what the whole gives (Portions.antt:
+// `cut-all`, `closing`), offsets too (`counts`), and `join` does with a portion what the definition says (Joins.antt: `join-ended`,
+// `join-open`). Unseen.antt: what is asked of a line gives the same answer for its short form. It stands on `text` and `lines`; on
+// `headings` and `fields` for that last law alone.
 ghost use mathlib.Core.Path.{_≡_};
 ghost use mathlib.Core.Bool.{false, cond};
 ghost use mathlib.Core.List.{[], _++_};
@@ -8,7 +21,27 @@ ghost use Rattle.laws.specs.Lists.{anyOf};
 ghost use Rattle.text.specs.Characters.{isInadmissible};
 ghost use Rattle.joining.specs.Whole.{whole, size};
 ghost use Rattle.joining.specs.Short.{short, crIf, withoutCr, keptText, added};
-ghost use Rattle.joining.specs.Held.{asText, asHeld, asJoined, keptIn, endedText, gone};
+ghost use Rattle.joining.specs.Held.{asText, asHeld, asJoined, keptIn, endedText, joinOf};
+
+// A text of at most 68 bytes: the first `len`, zeros behind them.
+pub struct Text {
+    pub text: [u8; 68],
+    pub len: usize,
+}
+
+// What is kept of a line that has not ended: its short form, at most 65 bytes, and whether a CR stands behind it.
+pub struct Held {
+    pub text: [u8; 68],
+    pub len: usize,
+    pub cr: bool,
+}
+
+// The line that is kept when more has come: what is kept of it now, where the text goes on behind it, and whether CR LF ended it.
+pub struct Joined {
+    pub held: Held,
+    pub next: usize,
+    pub ended: bool,
+}
 
 // How many bytes the whole lines of a text take. It is looked for from the back, so that it costs the length of the rest.
 pub fn whole_len(s: &[u8]) -> usize
@@ -22,19 +55,6 @@ pub fn whole_len(s: &[u8]) -> usize
         end -= 1;
     }
     0
-}
-
-// A short text: its first `len` bytes, zeros behind them.
-pub struct Text {
-    pub text: [u8; 68],
-    pub len: usize,
-}
-
-// What is kept of a line that has not ended: its short form, likewise, and whether a CR stands behind it.
-pub struct Held {
-    pub text: [u8; 68],
-    pub len: usize,
-    pub cr: bool,
 }
 
 fn least(a: usize, b: usize) -> usize
@@ -60,6 +80,7 @@ fn holds_bad(s: &[u8]) -> bool
     false
 }
 
+// The byte that stands for all behind the 64th.
 fn sign_of(bad: bool) -> u8
     ensures { λ r. ⌜ r ≡ cond bad 0x7F 0x20 ⌝ }
 {
@@ -150,6 +171,7 @@ fn bare_len(s: &[u8]) -> usize
     n
 }
 
+// Nothing is kept.
 pub fn none() -> Held
     ensures { λ r. ⌜ r ≡ asHeld (record { text = []; cr = false }) ⌝ }
 {
@@ -178,16 +200,9 @@ pub fn add(h: Held, s: &[u8]) -> Held
     }
 }
 
-// A line that is kept, gone on with: what is kept of it then, where the text goes on behind it, and whether CR LF ended it.
-pub struct Joined {
-    pub held: Held,
-    pub next: usize,
-    pub ended: bool,
-}
-
 // The line that is kept, up to its CR LF in the text that comes, or with all of it.
 pub fn join(h: Held, s: &[u8]) -> Joined
-    ensures { λ r. ⌜ r ≡ asJoined (gone (keptIn h) (now (s .entry))) ⌝ }
+    ensures { λ r. ⌜ r ≡ asJoined (joinOf (keptIn h) (now (s .entry))) ⌝ }
 {
     if h.cr & text::strings::starts(s, b"\n") {
         let t = with_cr(h, false);

@@ -1,6 +1,6 @@
 use Prim.Native.Nat.{_-_}
 use mathlib.Core.Path.{_≡_, refl, sym, ap, _∙_}
-use mathlib.Core.Bool.{Bool, false, not}
+use mathlib.Core.Bool.{false, not}
 use lib.ListN.{length, drop}
 use Rattle.laws.specs.Lists.{anyOf}
 use Rattle.laws.proofs.Any.{flag-set, flag-kept, flag-is}

@@ -1,4 +1,4 @@
-use Rattle.joining.proofs.Going.{found-part, joined-lf, joined-by}
+use Rattle.joining.proofs.Joins.{found-part, joined-lf, joined-by}
 use borrow.Author.Needs.{needs}
 use Rattle.joining.proofs.join.Statement.{statement}
 use Rattle.joining.proofs.join.Tie as tie

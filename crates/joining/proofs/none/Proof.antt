@@ -1,7 +1,6 @@
 use mathlib.Core.Path.{refl}
 use Rattle.laws.specs.Lists.{put}
 use Rattle.joining.specs.Held.{padded}
-use borrow.Author.Needs.{needs}
 use Rattle.joining.proofs.none.Statement.{statement}
 use Rattle.joining.proofs.none.Tie as tie
 

@@ -1,6 +1,5 @@
 use Rattle.joining.proofs.Padded.{text-start, take-min, fits}
 use mathlib.Core.Path.{ap, _∙_}
-use mathlib.Core.List.{List}
 use Prim.Native.Nat.{ℕ, min}
 use native.Mathlib.Omega.{arith}
 use lib.ListN.{length, take, length-take}

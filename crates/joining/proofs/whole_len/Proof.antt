@@ -1,5 +1,3 @@
-use Prim.Native.Nat.{ℕ}
-use lib.ListN.{length}
 use borrow.Author.Needs.{needs}
 use Rattle.joining.proofs.Behind.{Sought, seek-start, seek-more, seek-hit, seek-end}
 use Rattle.joining.proofs.whole_len.Statement.{statement}

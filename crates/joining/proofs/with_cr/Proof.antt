@@ -1,7 +1,7 @@
 use Rattle.joining.proofs.Padded.{text-is, text-behind, kept-is, few}
 use mathlib.Core.Path.{_≡_, sym, ap, _∙_}
 use mathlib.Core.Bool.{Bool}
-use mathlib.Core.List.{List, _++_, append-nil}
+use mathlib.Core.List.{_++_, append-nil}
 use native.Mathlib.Omega.{arith}
 use Rattle.joining.specs.declared.Held.{Held}
 use Rattle.joining.specs.Short.{crIf}

@@ -10,19 +10,20 @@ use lib.ListN.{length, take, drop, length-append, length-take}
 use Rattle.figures.proofs.Tests.{and-parts}
 use Rattle.text.specs.Strings.{begins}
 use Rattle.lines.specs.declared.Found.{Found}
-use Rattle.lines.specs.Lines.{Line, isByte, crlf, onto, lines}
-use Rattle.lines.specs.Reading.{lineAt, span, IsNext}
+use Rattle.lines.specs.Lines.{Line, isByte, crlf, lines}
+use Rattle.lines.specs.Reading.{lineAt}
 use Rattle.lines.proofs.Lines.{lines-none, lines-cut}
 use Rattle.lines.proofs.Reading.{is-next}
-use Rattle.joining.specs.Whole.{endedOnes, openOne, extent, size}
-use Rattle.joining.specs.Short.{short, endsCr, crIf, withoutCr, Kept, kept, keptText, leftOut, added}
+use Rattle.joining.specs.Whole.{endedOnes, openOne, whole, size}
+use Rattle.joining.specs.Short.{sign, shortTo, short, endsCr, crIf, withoutCr, Kept, kept, keptText, leftOut, added}
 use Rattle.joining.specs.declared.Text.{Text}
 use Rattle.joining.specs.declared.Held.{Held}
 use Rattle.joining.specs.declared.Joined.{Joined}
-use Rattle.joining.specs.Held.{padded, asText, asHeld, asJoined, keptIn, endedText, Gone, goneBy, gone}
-use Rattle.joining.specs.Portions.{Stand, Reached, tells, run, holding, goingOn, after}
+use Rattle.joining.specs.Held.{padded, asText, asHeld, asJoined, keptIn, endedText, Join, joinBy, joinOf}
+use Rattle.joining.specs.Portions.{Stand, run, holding, goingOn, after}
 use Rattle.joining.proofs.Cutting.{Clear, alone, ahead, clear-lines, firstBytes, first-clear, sizes}
 use Rattle.joining.proofs.Short.{short-short, length-short, cr-split, without-same, kept-on, kept-same, kept-short, kept-again, clear-bare, clear-short, kept-lines}
+use Rattle.joining.proofs.Behind.{whole-before, rest-behind}
 use Rattle.joining.proofs.Padded.{take-padded}
 use Rattle.joining.proofs.Portions.{going-alone, told-kept}
 
@@ -57,6 +58,15 @@ held-again r =
     let h : length t ≤ 65 = omega (arith, length-short (withoutCr r)) in
     let m : min 65 (length t) ≡ length t = omega arith in
     ap (λ (l : List ℕ). record { text = l; cr = endsCr r }) (ap (λ (k : ℕ). take k (padded t)) m ∙ take-padded t (omega arith))
+
+-- where nothing is kept, a piece is a rest of its own
+pub added-none : (s : List ℕ) → added (record { text = []; cr = false }) s ≡ kept s
+unfolding kept shortTo sign endsCr
+added-none s = added-kept [] s
+
+pub held-none : keptIn (asHeld (record { text = []; cr = false })) ≡ record { text = []; cr = false }
+unfolding kept shortTo sign endsCr
+held-none = held-again []
 
 short-on : (p s : List ℕ) (t : Bool) → (t ≡ false → endsCr p ≡ false) → kept (short p ++ (crIf t ++ s)) ≡ kept (p ++ (crIf t ++ s))
 short-on p s true h = kept-short p 0x0d s
@@ -113,6 +123,26 @@ unfolding lines
 found-fits [] = omega arith
 found-fits (b ∷ s) = let n = is-next (b ∷ s) 0 (lineAt (b ∷ s) 0) refl (omega arith) in omega (arith, n .closes, n .within)
 
+next-fits : (s : List ℕ) → lineAt s 0 .next ≤ length s
+unfolding lines
+next-fits [] = omega arith
+next-fits (b ∷ s) = is-next (b ∷ s) 0 (lineAt (b ∷ s) 0) refl (omega arith) .within
+
+lf-fits : (t : Bool) (s : List ℕ) → (t && begins s (0x0a ∷ [])) ≡ true → 1 ≤ length s
+unfolding begins
+lf-fits t [] e = absurd (false≢true (sym (and-false t) ∙ e))
+lf-fits t (b ∷ s) e = omega arith
+
+-- a text goes on within itself
+pub join-within : (k : Kept) (s : List ℕ) → joinOf k s .next ≤ length s
+unfolding joinOf joinBy
+join-within k s = go (k .cr && begins s (0x0a ∷ [])) refl
+  where
+    go : (t : Bool) → (k .cr && begins s (0x0a ∷ [])) ≡ t
+        → cond t (record { line = record { text = k .text; cr = false }; next = 1; ended = true }) (joinBy k s (lineAt s 0)) .next ≤ length s
+    go true e = lf-fits (k .cr) s e
+    go false e = next-fits s
+
 -- ---- as the code has it
 
 pub found-part : (s : List ℕ) (f : Found) → f ≡ lineAt s 0 → f .end ≡ length (take (f .end) s)
@@ -123,19 +153,19 @@ module _ (h : Held) (s : List ℕ) (b : Bool) (is-b : b ≡ begins s (0x0a ∷ [
   tested t e = ap (λ (u : Bool). h .cr && u) (sym is-b) ∙ e
 
   pub joined-lf : (t : Text) → (h .cr && b) ≡ true → t ≡ asText (keptIn h .text ++ crIf false)
-      → _≡_ {A = Joined} (record { held = record { text = t .text; len = t .len; cr = false }; next = 1; ended = true }) (asJoined (gone (keptIn h) s))
-  unfolding gone keptIn
+      → _≡_ {A = Joined} (record { held = record { text = t .text; len = t .len; cr = false }; next = 1; ended = true }) (asJoined (joinOf (keptIn h) s))
+  unfolding joinOf keptIn
   joined-lf t e f =
       ap (λ (u : Text). record { held = record { text = u .text; len = u .len; cr = false }; next = 1; ended = true }) (f ∙ ap asText (append-nil (keptIn h .text)))
-      ∙ ap (λ (u : Bool). asJoined (cond u (record { line = record { text = keptIn h .text; cr = false }; next = 1; ended = true }) (goneBy (keptIn h) s (lineAt s 0)))) (sym (tested true e))
+      ∙ ap (λ (u : Bool). asJoined (cond u (record { line = record { text = keptIn h .text; cr = false }; next = 1; ended = true }) (joinBy (keptIn h) s (lineAt s 0)))) (sym (tested true e))
 
   pub joined-by : (f : Found) (held : Held) → (h .cr && b) ≡ false → f ≡ lineAt s 0 → held ≡ asHeld (added (keptIn h) (take (f .end) s))
-      → _≡_ {A = Joined} (record { held = held; next = f .next; ended = f .ended }) (asJoined (gone (keptIn h) s))
-  unfolding gone goneBy keptIn
+      → _≡_ {A = Joined} (record { held = held; next = f .next; ended = f .ended }) (asJoined (joinOf (keptIn h) s))
+  unfolding joinOf joinBy keptIn
   joined-by f held e i k =
       ap (λ (u : Held). record { held = u; next = f .next; ended = f .ended }) k
-      ∙ ap (λ (g : Found). asJoined (goneBy (keptIn h) s g)) i
-      ∙ ap (λ (u : Bool). asJoined (cond u (record { line = record { text = keptIn h .text; cr = false }; next = 1; ended = true }) (goneBy (keptIn h) s (lineAt s 0)))) (sym (tested false e))
+      ∙ ap (λ (g : Found). asJoined (joinBy (keptIn h) s g)) i
+      ∙ ap (λ (u : Bool). asJoined (cond u (record { line = record { text = keptIn h .text; cr = false }; next = 1; ended = true }) (joinBy (keptIn h) s (lineAt s 0)))) (sym (tested false e))
 
 -- ---- what it means
 
@@ -195,12 +225,12 @@ pub ended-one : (x : List ℕ) → Clear x [] → lines (endedText (kept x)) ≡
 ended-one x q = seam x (0x0d ∷ 0x0a ∷ []) q (no-lf (endsCr x)) ∙ ap (ahead (keptText (kept x))) (crlf-cuts [] ∙ ap (λ (ls : List Line). record { bytes = []; ended = true } ∷ ls) lines-none) ∙ ap (λ (l : List ℕ). record { bytes = l; ended = true } ∷ []) (append-nil (keptText (kept x)))
 
 -- and so is the line that is joined, where CR LF ended it
-pub gone-one : (x s : List ℕ) → Clear x [] → gone (kept x) s .ended ≡ true → lines (endedText (gone (kept x) s .line)) ≡ record { bytes = keptText (gone (kept x) s .line); ended = true } ∷ []
-unfolding gone goneBy kept
-gone-one x s q f = go (endsCr x && begins s (0x0a ∷ [])) refl
+pub join-one : (x s : List ℕ) → Clear x [] → joinOf (kept x) s .ended ≡ true → lines (endedText (joinOf (kept x) s .line)) ≡ record { bytes = keptText (joinOf (kept x) s .line); ended = true } ∷ []
+unfolding joinOf joinBy kept
+join-one x s q f = go (endsCr x && begins s (0x0a ∷ [])) refl
   where
     go : (t : Bool) → (endsCr x && begins s (0x0a ∷ [])) ≡ t
-        → let g = cond t (record { line = record { text = short (withoutCr x); cr = false }; next = 1; ended = true }) (goneBy (kept x) s (lineAt s 0)) in
+        → let g = cond t (record { line = record { text = short (withoutCr x); cr = false }; next = 1; ended = true }) (joinBy (kept x) s (lineAt s 0)) in
         lines (endedText (g .line)) ≡ record { bytes = keptText (g .line); ended = true } ∷ []
     go true e = lf-one x q (endsCr x) refl (and-parts (endsCr x) (begins s (0x0a ∷ [])) e .0)
     go false e =
@@ -212,14 +242,20 @@ pub closed-one : (x : List ℕ) → Clear x [] → lines (keptText (kept x)) ≡
 closed-one x q =
     ap lines (sym (append-nil (keptText (kept x)))) ∙ seam x [] q (no-byte (endsCr x)) ∙ ap (ahead (keptText (kept x))) lines-none
 
+-- what comes behind the line that was joined: its whole lines are told where they stand, and its rest is kept
+pub going-cut : {L : Type 0} (told : L → ℕ → List ℕ → Bool → L) (r : Stand L) (c : List ℕ)
+    → goingOn told r (lines c) ≡ holding told (run told r (lines (take (size (whole c)) c))) (drop (size (whole c)) c)
+unfolding goingOn
+going-cut told r c = sym (λ i. holding told (run told r (whole-before c i)) (rest-behind c i))
+
 module _ {L : Type 0} (told : L → ℕ → List ℕ → Bool → L) (same : (d : L) (at : ℕ) (l : List ℕ) (e : Bool) → told d at (short l) e ≡ told d at l e) where
   -- the line by what is kept of it and what goes on with it
-  told-gone : (d : L) (at : ℕ) (x q : List ℕ) (e : Bool) → told d at (keptText (added (kept x) q)) e ≡ told d at (keptText (kept x) ++ q) e
-  told-gone d at x q e =
+  told-join : (d : L) (at : ℕ) (x q : List ℕ) (e : Bool) → told d at (keptText (added (kept x) q)) e ≡ told d at (keptText (kept x) ++ q) e
+  told-join d at x q e =
       ap (λ (k : Kept). told d at (keptText k) e) (added-kept x q ∙ sym (kept-text x q)) ∙ told-kept told same d at (keptText (kept x) ++ q) e
 
   -- CR LF ended it: it is told by what is kept of it, and what stands behind it comes next
-  abbrev Told : Stand L → List ℕ → List ℕ → Gone → Type 0
+  abbrev Told : Stand L → List ℕ → List ℕ → Join → Type 0
   Told r x s g =
       after told (record { stand = r; held = kept x }) s
       ≡ goingOn told (record { desk = told (r .desk) (r .at) (keptText (g .line)) true; at = r .at + r .over + length (keptText (kept x)) + g .next; over = 0 }) (lines (drop (g .next) s))
@@ -235,8 +271,8 @@ module _ {L : Type 0} (told : L → ℕ → List ℕ → Bool → L) (same : (d 
       ap (goingOn told r) (by-lf x s q true f e)
       ∙ (λ i. goingOn told (record { desk = told (r .desk) (r .at) (sym (append-nil p) i) true; at = n i; over = 0 }) (lines (drop 1 s)))
 
-  ended-by : (r : Stand L) (x s : List ℕ) → Clear x [] → (endsCr x && begins s (0x0a ∷ [])) ≡ false → lineAt s 0 .ended ≡ true → Told r x s (goneBy (kept x) s (lineAt s 0))
-  unfolding after goingOn run endedOnes openOne goneBy
+  ended-by : (r : Stand L) (x s : List ℕ) → Clear x [] → (endsCr x && begins s (0x0a ∷ [])) ≡ false → lineAt s 0 .ended ≡ true → Told r x s (joinBy (kept x) s (lineAt s 0))
+  unfolding after goingOn run endedOnes openOne joinBy
   ended-by r x [] q e f = absurd (false≢true (sym none-found ∙ f))
   ended-by r x (b ∷ s) q e f =
       let g : Found = lineAt (b ∷ s) 0 in
@@ -248,15 +284,15 @@ module _ {L : Type 0} (told : L → ℕ → List ℕ → Bool → L) (same : (d 
       let n : r .at + r .over + (length (k ++ l) + 2) ≡ r .at + r .over + length k + g .next =
       omega (arith, length-append k l, found-part (b ∷ s) g refl) in
       ap (goingOn told r) (seam x (b ∷ s) q e ∙ ap (ahead k) all)
-      ∙ sym (λ i. goingOn told (record { desk = told-gone (r .desk) (r .at) x l true i; at = sym n i; over = 0 }) (lines (drop (g .next) (b ∷ s))))
+      ∙ sym (λ i. goingOn told (record { desk = told-join (r .desk) (r .at) x l true i; at = sym n i; over = 0 }) (lines (drop (g .next) (b ∷ s))))
 
-  pub gone-ended : (r : Stand L) (x s : List ℕ) → Clear x [] → gone (kept x) s .ended ≡ true → Told r x s (gone (kept x) s)
-  unfolding gone goneBy kept
-  gone-ended r x s q = go (endsCr x && begins s (0x0a ∷ [])) refl
+  pub join-ended : (r : Stand L) (x s : List ℕ) → Clear x [] → joinOf (kept x) s .ended ≡ true → Told r x s (joinOf (kept x) s)
+  unfolding joinOf joinBy kept
+  join-ended r x s q = go (endsCr x && begins s (0x0a ∷ [])) refl
     where
       go : (t : Bool) → (endsCr x && begins s (0x0a ∷ [])) ≡ t
-          → cond t (record { line = record { text = short (withoutCr x); cr = false }; next = 1; ended = true }) (goneBy (kept x) s (lineAt s 0)) .ended ≡ true
-          → Told r x s (cond t (record { line = record { text = short (withoutCr x); cr = false }; next = 1; ended = true }) (goneBy (kept x) s (lineAt s 0)))
+          → cond t (record { line = record { text = short (withoutCr x); cr = false }; next = 1; ended = true }) (joinBy (kept x) s (lineAt s 0)) .ended ≡ true
+          → Told r x s (cond t (record { line = record { text = short (withoutCr x); cr = false }; next = 1; ended = true }) (joinBy (kept x) s (lineAt s 0)))
       go true e f = ended-lf r x s q (endsCr x) refl e
       go false e f = ended-by r x s q e f
 
@@ -270,25 +306,25 @@ module _ {L : Type 0} (told : L → ℕ → List ℕ → Bool → L) (same : (d 
       ∙ ap (λ (m : List ℕ). holding told r (k ++ m)) (open-all (b ∷ s) e)
 
   -- it goes on
-  abbrev Open : Stand L → List ℕ → List ℕ → Gone → Type 0
+  abbrev Open : Stand L → List ℕ → List ℕ → Join → Type 0
   Open r x s g =
       after told (record { stand = r; held = kept x }) s
       ≡ record { stand = record { desk = r .desk; at = r .at; over = r .over + leftOut (keptText (kept x) ++ s) }; held = g .line }
 
-  open-by : (r : Stand L) (x s : List ℕ) → Clear x [] → (endsCr x && begins s (0x0a ∷ [])) ≡ false → lineAt s 0 .ended ≡ false → Open r x s (goneBy (kept x) s (lineAt s 0))
-  unfolding after goneBy
+  open-by : (r : Stand L) (x s : List ℕ) → Clear x [] → (endsCr x && begins s (0x0a ∷ [])) ≡ false → lineAt s 0 .ended ≡ false → Open r x s (joinBy (kept x) s (lineAt s 0))
+  unfolding after joinBy
   open-by r x s q e f =
       ap (goingOn told r) (seam x s q e)
       ∙ open-goes r (keptText (kept x)) s f
       ∙ ap (λ (k : Kept). record { stand = record { desk = r .desk; at = r .at; over = r .over + leftOut (keptText (kept x) ++ s) }; held = k })
       (kept-text x s ∙ sym (added-kept x s) ∙ ap (added (kept x)) (sym (open-all s f)))
 
-  pub gone-open : (r : Stand L) (x s : List ℕ) → Clear x [] → gone (kept x) s .ended ≡ false → Open r x s (gone (kept x) s)
-  unfolding gone goneBy kept
-  gone-open r x s q = go (endsCr x && begins s (0x0a ∷ [])) refl
+  pub join-open : (r : Stand L) (x s : List ℕ) → Clear x [] → joinOf (kept x) s .ended ≡ false → Open r x s (joinOf (kept x) s)
+  unfolding joinOf joinBy kept
+  join-open r x s q = go (endsCr x && begins s (0x0a ∷ [])) refl
     where
       go : (t : Bool) → (endsCr x && begins s (0x0a ∷ [])) ≡ t
-          → cond t (record { line = record { text = short (withoutCr x); cr = false }; next = 1; ended = true }) (goneBy (kept x) s (lineAt s 0)) .ended ≡ false
-          → Open r x s (cond t (record { line = record { text = short (withoutCr x); cr = false }; next = 1; ended = true }) (goneBy (kept x) s (lineAt s 0)))
+          → cond t (record { line = record { text = short (withoutCr x); cr = false }; next = 1; ended = true }) (joinBy (kept x) s (lineAt s 0)) .ended ≡ false
+          → Open r x s (cond t (record { line = record { text = short (withoutCr x); cr = false }; next = 1; ended = true }) (joinBy (kept x) s (lineAt s 0)))
       go true e f = absurd (false≢true (sym f))
       go false e f = open-by r x s q e f
