@@ -10,7 +10,7 @@ use borrow.Author.Tests.{leb-true, leb-false, lt-ltb, le-ltb}
 use Rattle.laws.specs.Lists.{anyOf}
 use Rattle.text.specs.Characters.{isInadmissible}
 use Rattle.text.specs.Forms.{template}
-use Rattle.text.proofs.Layouts.{form-length}
+use Rattle.text.proofs.Pieces.{form-length}
 use Rattle.headings.specs.Reading.{layout, isHeading, headingOf}
 use Rattle.fields.specs.declared.classes.Class.{Class}
 use Rattle.fields.specs.Kinds.{kindOf}
