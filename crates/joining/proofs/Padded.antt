@@ -11,7 +11,7 @@ use lib.Seq.{take-all, take-length, drop-length, take-append-le, drop-append-le,
 use borrow.Author.Tests.{leb-true, leb-false, eqb-true, eq-eqb, ne-eqb, lt-ltb, le-ltb}
 use Rattle.laws.specs.Lists.{put, anyOf}
 use Rattle.laws.proofs.Any.{any-append}
-use Rattle.laws.proofs.Put.{put-is, length-put, take-put, put-both}
+use Rattle.laws.proofs.Put.{put-is, length-put, take-put, put-both, put-none}
 use Rattle.figures.proofs.Tests.{and-parts}
 use Rattle.text.specs.Characters.{isInadmissible}
 use Rattle.text.specs.Strings.{Wrote}
@@ -30,6 +30,10 @@ length-padded t h = length-put (replicate 68 0) 0 t (omega (arith, length-replic
 pub take-padded : (t : List ℕ) → length t ≤ 68 → take (length t) (padded t) ≡ t
 unfolding padded
 take-padded t h = ap (λ (k : ℕ). take k (put (replicate 68 0) 0 t)) (sym (zero-add (length t))) ∙ take-put (replicate 68 0) 0 t (omega (arith, length-replicate {A = ℕ} 68 0))
+
+pub padded-none : replicate 68 0 ≡ padded []
+unfolding padded
+padded-none = sym (put-none (replicate 68 0) 0)
 
 -- a text written over zeros
 pub text-start : {x after : List ℕ} {end : ℕ} → Wrote (replicate 68 0) 0 x after end → _≡_ {A = Text} (record { text = after; len = end }) (asText x)
@@ -264,6 +268,10 @@ few-with h false = omega (arith, few h, length-append (keptIn h .text) [])
 
 pub few-kept : (h : Held) → length (keptText (keptIn h)) ≤ 66
 few-kept h = few-with h (keptIn h .cr)
+
+pub kept-all : (h : Held) {t : Text} → t ≡ asText (keptIn h .text ++ crIf (h .cr)) → t ≡ asText (keptText (keptIn h))
+unfolding keptIn
+kept-all h e = e
 
 pub few-ended : (h : Held) → length (endedText (keptIn h)) ≤ 68
 few-ended h = omega (arith, few-kept h, length-append (keptText (keptIn h)) (0x0d ∷ 0x0a ∷ []))

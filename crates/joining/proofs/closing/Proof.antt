@@ -1,5 +1,5 @@
-use Rattle.joining.specs.Held.{keptIn}
 use borrow.Author.Needs.{needs}
+use Rattle.joining.proofs.Padded.{kept-all}
 use Rattle.joining.proofs.closing.Statement.{statement}
 use Rattle.joining.proofs.closing.Tie as tie
 
@@ -7,8 +7,7 @@ with-cr-requires : tie.Need-with-cr-requires
 with-cr-requires c κs = search needs
 
 returns : tie.Need-returns
-unfolding keptIn
-returns c = c .with-cr .ensures
+returns c = kept-all (c .before .args .h) (c .with-cr .ensures)
 
 pub closing-spec : {M : Type 1} → statement M
 closing-spec = tie.close (tie.spec with-cr-requires returns)
