@@ -43,7 +43,7 @@ use Rattle.judging.specs.Opening.{noOpen, moreOpen, lowOpen, readAs, headingIn,
 use Rattle.judging.specs.Closing.{closeAs, closeFaults}
 use Rattle.judging.proofs.Sets.{lineMarks}
 use Rattle.pass.specs.declared.Pass.{Pass}
-use Rattle.pass.specs.Starts.{Stands, WaitsAt}
+use Rattle.shutting.specs.Starts.{Stands, WaitsAt}
 use Rattle.pass.specs.Standing.{Bounded, Standing, Alike, InPlace, Fed}
 use Rattle.pass.proofs.Walk.{close-few, span-long, ident-few, reads-on, own-few}
 use Rattle.pass.proofs.Standing.{afterLow, afterField, afterHead, stand-low, stand-field, stand-head}

@@ -46,7 +46,7 @@ use Rattle.judging.specs.Closing.{lastMarks, closeAs, closeFaults}
 use Rattle.judging.proofs.Sets.{lineMarks}
 use Rattle.judging.proofs.Meaning.{Means, low-out, field-out, head-out, final-out, means-low, means-field, means-head}
 use Rattle.pass.specs.declared.Pass.{Pass}
-use Rattle.pass.specs.Starts.{Stands, WaitsAt}
+use Rattle.shutting.specs.Starts.{Stands, WaitsAt}
 use Rattle.pass.specs.Standing.{offIn, faultsAmong, fresh, Bounded, Placed, Standing}
 use Rattle.pass.proofs.Walk.{reads-again, zeros, means-as, head-as}
 

@@ -32,7 +32,7 @@ use Rattle.judging.specs.Opening.{noOpen, moreOpen, noPend, readAs}
 use Rattle.judging.specs.Closing.{noWait}
 use Rattle.judging.proofs.Meaning.{Means}
 use Rattle.pass.specs.declared.Pass.{Pass}
-use Rattle.pass.specs.Starts.{Stands}
+use Rattle.shutting.specs.Starts.{Stands}
 
 -- of some lines: where line n starts, and their faults. Of the lines of a body these are `offsetOf` and `faultsIn`
 abbrev pub offIn : List Line → ℕ → ℕ

@@ -3,8 +3,8 @@
 // Promised by `enter_faults`, for every body of at most 10,000,000 bytes and three lent slices of equal length: the slices and the
 // total are those of `faultsIn` of `rules`, beside each fault the offset of its line. It is `start`, one `feed` of the whole body and
 // `finish`; fed one text after the other the pass goes on where it stood, and what it holds means the same (specs/Standing.antt).
-// It judges no rule: lines, fields and items are judged by `judging`. The list stands in `ledger`, the cut in `lines`, the table of
-// characters in `text`.
+// It judges no rule: lines, fields and items are judged by `judging`, and entered as they close by `shutting`. The list stands in `ledger`,
+// the cut in `lines`, the table of characters in `text`.
 use blocks::Basis;
 use blocks::Block;
 use fields::classes;
@@ -24,6 +24,10 @@ use judging::opening;
 use judging::opening::Open;
 use judging::opening::Pend;
 use ledger::Ledger;
+use shutting::Starts;
+use shutting::again;
+use shutting::shut_all;
+use shutting::unseen;
 ghost use mathlib.Core.Path.{_≡_};
 ghost use mathlib.Core.List.{_++_};
 ghost use Prim.Native.Nat.{_+_, _≤_, _<_, _^_};
@@ -36,132 +40,7 @@ ghost use Rattle.ledger.specs.Slices.{Ready, Entered, Kept, Listed};
 ghost use Rattle.ledger.specs.Marks.{marked};
 ghost use Rattle.judging.specs.Closing.{closeAs, closeFaults};
 ghost use Rattle.judging.specs.Opening.{readAs, closeClaims};
-ghost use Rattle.pass.specs.Starts.{Stands, WaitsAt, startOf};
 ghost use Rattle.pass.specs.Standing.{fresh, Bounded, Fed, Finished};
-
-// No identifier stood.
-pub fn unseen() -> [u32; 1296]
-    ensures { λ r. ⌜ r ≡ replicate 1296 0 ⌝ }
-{
-    [0; 1296]
-}
-
-// Whether an identifier stood since a line; from now on it last stood at `no`. So nothing is cleared when an item ends.
-fn again(stood: &mut [u32; 1296], ident: usize, no: u32, since: u32) -> bool
-    requires { ⌜ ident < 1296 ⌝ }
-    ensures { λ r. ⌜ r ≡ ltb since (getD (now (stood .entry)) ident 0) ⌝ }
-    ensures { λ _. ⌜ now (stood .exit) ≡ set (now (stood .entry)) ident no ⌝ }
-{
-    let last = stood[ident];
-    stood[ident] = no;
-    since < last
-}
-
-// Where the lines start that are not entered yet: that of the open field, of the open heading, and of the heading that waits.
-pub struct Starts {
-    pub field: u32,
-    pub head: u32,
-    pub wait: u32,
-}
-
-pub struct Closed {
-    pub ledger: Ledger,
-    pub block: Block,
-    pub wait: Wait,
-    pub start: u32,
-}
-
-// Where the heading starts that waits when an item has closed: none (0), the item's own, or the one that waited.
-fn start_of(starts: Starts, line: u32, no: u32) -> u32
-    ensures { λ r. ⌜ r ≡ startOf starts line no ⌝ }
-{
-    if line == 0 {
-        return 0;
-    }
-    if line == no { starts.head } else { starts.wait }
-}
-
-// The open item closes, whose heading stands at the line `no` (0: none).
-fn shut_item(
-    lines: &mut [u32],
-    rules: &mut [u32],
-    places: &mut [u32],
-    g: Ledger,
-    starts: Starts,
-    basis: Basis,
-    no: u32,
-    own: u64,
-    read: Read,
-    claims: Claims,
-    b: Block,
-    w: Wait,
-) -> Closed
-    requires { ⌜ Ready (g .kept) (now lines) (now rules) ⌝ }
-    requires { ⌜ length (now lines) ≡ length (now places) ⌝ }
-    requires { ⌜ (g .total < 2 ^ 62) × (w .marks < 2 ^ 41) × (own ≤ 18) ⌝ }
-    ensures { λ r. ⌜ Entered (closeFaults basis b w no own read claims) g (now (lines .entry)) (now (rules .entry)) (r .ledger) (now (lines .exit)) (now (rules .exit)) ⌝ }
-    ensures { λ r. ⌜ (r .block ≡ closeAs basis b w no own read claims .block) × (r .wait ≡ closeAs basis b w no own read claims .wait) × (r .wait .marks < 2 ^ 41) ⌝ }
-    ensures { λ r. ⌜ Kept (λ off. Stands off starts no (w .line)) (g .kept) (now (lines .entry)) (now (places .entry)) (r .ledger .kept) (now (lines .exit)) (now (places .exit)) ⌝ }
-    ensures { λ r. ⌜ WaitsAt starts no (w .line) (r .wait .line) (r .start) ⌝ }
-{
-    let c = closing::close_item(basis, b, w, no, own, read, claims);
-    let block = c.block;
-    let wait = c.wait;
-    let start = start_of(starts, wait.line, no);
-    let first = ledger::enter(lines, rules, places, g, w.line, starts.wait, c.told);
-    let ledger = ledger::enter(lines, rules, places, first, no, starts.head, c.marks);
-    Closed {
-        ledger,
-        block,
-        wait,
-        start,
-    }
-}
-
-// All that is open closes.
-fn shut_all(
-    lines: &mut [u32],
-    rules: &mut [u32],
-    places: &mut [u32],
-    g: Ledger,
-    starts: Starts,
-    basis: Basis,
-    o: Open,
-    p: Pend,
-    no: u32,
-    own: u64,
-    reads: bool,
-    h: Heading,
-    claims: Claims,
-    b: Block,
-    w: Wait,
-) -> Closed
-    requires { ⌜ Ready (g .kept) (now lines) (now rules) ⌝ }
-    requires { ⌜ length (now lines) ≡ length (now places) ⌝ }
-    requires { ⌜ (g .total < 2 ^ 61) × (w .marks < 2 ^ 41) × (own ≤ 18) ⌝ }
-    ensures { λ r. ⌜ Entered (marked (o .no) (o .marks) ++ closeFaults basis b w no own (readAs reads h) (closeClaims claims o p)) g (now (lines .entry)) (now (rules .entry)) (r .ledger) (now (lines .exit)) (now (rules .exit)) ⌝ }
-    ensures { λ r. ⌜ (r .block ≡ closeAs basis b w no own (readAs reads h) (closeClaims claims o p) .block) × (r .wait ≡ closeAs basis b w no own (readAs reads h) (closeClaims claims o p) .wait) × (r .wait .marks < 2 ^ 41) ⌝ }
-    ensures { λ r. ⌜ Kept (λ off. (off (o .no) ≡ starts .field) × Stands off starts no (w .line)) (g .kept) (now (lines .entry)) (now (places .entry)) (r .ledger .kept) (now (lines .exit)) (now (places .exit)) ⌝ }
-    ensures { λ r. ⌜ WaitsAt starts no (w .line) (r .wait .line) (r .start) ⌝ }
-{
-    let g1 = ledger::enter(lines, rules, places, g, o.no, starts.field, o.marks);
-    let all = opening::claims_after(claims, o, p);
-    let read = opening::read_as(reads, h);
-    shut_item(
-        lines,
-        rules,
-        places,
-        g1,
-        starts,
-        basis,
-        no,
-        own,
-        read,
-        all,
-        b,
-        w,
-    )
-}
 
 // No heading yet.
 fn no_heading() -> Heading {
@@ -234,14 +113,14 @@ pub fn feed(
     basis: Basis,
     lines: &mut [u32],
     rules: &mut [u32],
-    places: &mut [u32],
+    offsets: &mut [u32],
     stood: &mut [u32; 1296],
     p: Pass,
 ) -> Pass
     requires { ⌜ base + length (now s) ≤ 10000000 ⌝ }
-    requires { ⌜ Bounded base p (now lines) (now rules) (now places) ⌝ }
-    ensures { λ r. ⌜ Bounded (base + length (now (s .entry))) r (now (lines .exit)) (now (rules .exit)) (now (places .exit)) ⌝ }
-    ensures { λ r. ⌜ Fed (now (s .entry)) base basis (now (lines .entry)) (now (rules .entry)) (now (places .entry)) (now (stood .entry)) p (now (lines .exit)) (now (rules .exit)) (now (places .exit)) (now (stood .exit)) r ⌝ }
+    requires { ⌜ Bounded base p (now lines) (now rules) (now offsets) ⌝ }
+    ensures { λ r. ⌜ Bounded (base + length (now (s .entry))) r (now (lines .exit)) (now (rules .exit)) (now (offsets .exit)) ⌝ }
+    ensures { λ r. ⌜ Fed (now (s .entry)) base basis (now (lines .entry)) (now (rules .entry)) (now (offsets .entry)) (now (stood .entry)) p (now (lines .exit)) (now (rules .exit)) (now (offsets .exit)) (now (stood .exit)) r ⌝ }
 {
     let table = text::characters::table();
     let mut g = p.ledger;
@@ -272,7 +151,7 @@ pub fn feed(
                 let t = shut_all(
                     lines,
                     rules,
-                    places,
+                    offsets,
                     g,
                     starts,
                     basis,
@@ -306,7 +185,7 @@ pub fn feed(
                 g = ledger::enter(
                     lines,
                     rules,
-                    places,
+                    offsets,
                     g,
                     n,
                     here,
@@ -316,7 +195,7 @@ pub fn feed(
                 open = opening::with_low(open, true, end - from);
             }
             Kind::Field(ident) => {
-                g = ledger::enter(lines, rules, places, g, open.no, starts.field, open.marks);
+                g = ledger::enter(lines, rules, offsets, g, open.no, starts.field, open.marks);
                 starts.field = here;
                 if 5 <= open.class {
                     claims = opening::claim_closed(claims, open, pend);
@@ -348,7 +227,7 @@ pub fn feed(
                 g = ledger::enter(
                     lines,
                     rules,
-                    places,
+                    offsets,
                     g,
                     n,
                     here,
@@ -378,11 +257,11 @@ pub fn finish(
     basis: Basis,
     lines: &mut [u32],
     rules: &mut [u32],
-    places: &mut [u32],
+    offsets: &mut [u32],
     p: Pass,
 ) -> Ledger
-    requires { ⌜ Bounded 10000000 p (now lines) (now rules) (now places) ⌝ }
-    ensures { λ r. ⌜ Finished basis (now (lines .entry)) (now (rules .entry)) (now (places .entry)) p r (now (lines .exit)) (now (rules .exit)) (now (places .exit)) ⌝ }
+    requires { ⌜ Bounded 10000000 p (now lines) (now rules) (now offsets) ⌝ }
+    ensures { λ r. ⌜ Finished basis (now (lines .entry)) (now (rules .entry)) (now (offsets .entry)) p r (now (lines .exit)) (now (rules .exit)) (now (offsets .exit)) ⌝ }
 {
     let g = p.ledger;
     let starts = p.starts;
@@ -395,7 +274,7 @@ pub fn finish(
     let t = shut_all(
         lines,
         rules,
-        places,
+        offsets,
         g,
         starts,
         basis,
@@ -410,7 +289,7 @@ pub fn finish(
         wait,
     );
     let last = closing::last_marks(t.block, t.wait);
-    ledger::enter(lines, rules, places, t.ledger, t.wait.line, t.start, last)
+    ledger::enter(lines, rules, offsets, t.ledger, t.wait.line, t.start, last)
 }
 
 // Enters the faults of a body, for the submitter's code and the accounting day.
@@ -420,16 +299,16 @@ pub fn enter_faults(
     day: u32,
     lines: &mut [u32],
     rules: &mut [u32],
-    places: &mut [u32],
+    offsets: &mut [u32],
 ) -> Ledger
     requires { ⌜ length (now s) ≤ 10000000 ⌝ }
     requires { ⌜ length (now lines) ≡ length (now rules) ⌝ }
-    requires { ⌜ length (now lines) ≡ length (now places) ⌝ }
-    ensures { λ r. ⌜ Listed (offsetOf (now (s .entry))) (faultsIn (input code day) (now (s .entry))) (now (lines .entry)) (now (rules .entry)) (now (places .entry)) r (now (lines .exit)) (now (rules .exit)) (now (places .exit)) ⌝ }
+    requires { ⌜ length (now lines) ≡ length (now offsets) ⌝ }
+    ensures { λ r. ⌜ Listed (offsetOf (now (s .entry))) (faultsIn (input code day) (now (s .entry))) (now (lines .entry)) (now (rules .entry)) (now (offsets .entry)) r (now (lines .exit)) (now (rules .exit)) (now (offsets .exit)) ⌝ }
 {
     let basis = blocks::own_rules::basis_of(Code(code), day);
     let mut stood = unseen();
     let first = start();
-    let p = feed(s, 0, basis, lines, rules, places, &mut stood, first);
-    finish(basis, lines, rules, places, p)
+    let p = feed(s, 0, basis, lines, rules, offsets, &mut stood, first);
+    finish(basis, lines, rules, offsets, p)
 }

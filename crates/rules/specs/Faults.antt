@@ -1,4 +1,4 @@
--- The faults of a file: the broken tests of each line, by line and then by rule; and what two lent slices hold of the list.
+-- The faults of a file: the broken tests of each line, by line and then by rule; and what a lent slice holds of the list.
 use Prim.Native.Nat.{ℕ}
 use mathlib.Core.List.{List, [], _∷_, _++_, map}
 use lib.ListN.{length, take, drop}

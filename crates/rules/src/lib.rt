@@ -14,7 +14,7 @@
 //   HeadingRules  rule 6 at a heading, and 11, 12 and 15 (10, 13 and 14, by which deriving refuses too, are `headings`' HeadRules)
 //   BlockRules    rules 16 to 21 and 30 to 39
 //   Spots         which rules are tested at which line, and all lines of a file in their order
-//   Faults        the list: the broken tests of each line, by line and then by rule; and what two lent slices hold of it
+//   Faults        the list: the broken tests of each line, by line and then by rule; and what a lent slice holds of it
 //   Demand        what is demanded of the list
 //
 // That the list is what is demanded is proved under `proofs/`: Demand.antt (every line once; just the broken rules; once and in order; no

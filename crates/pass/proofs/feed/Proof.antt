@@ -17,12 +17,12 @@ use borrow.Author.Needs.{needs}
 use Rattle.pass.proofs.feed.Tie as tie
 
 abbrev Inv-loop : tie.InvT-loop
-Inv-loop s base basis lines₀ rules₀ offsets₀ stood₀ table g₀ open₀ pend₀ since₀ top₀ reads₀ h₀ claims₀ block₀ wait₀ starts₀ at₀ n₀ lines rules places stood g «open» pend since top reads h claims block wait starts at n =
+Inv-loop s base basis lines₀ rules₀ offsets₀ stood₀ table g₀ open₀ pend₀ since₀ top₀ reads₀ h₀ claims₀ block₀ wait₀ starts₀ at₀ n₀ lines rules offsets stood g «open» pend since top reads h claims block wait starts at n =
     Feeding s base basis lines₀ rules₀ offsets₀ stood₀ (record { ledger = g₀; field = open₀; pend = pend₀; since = since₀; top = top₀; reads = reads₀; heading = h₀; claims = claims₀; block = block₀; wait = wait₀; starts = starts₀; n = n₀ })
-    lines rules places stood (record { ledger = g; field = «open»; pend = pend; since = since; top = top; reads = reads; heading = h; claims = claims; block = block; wait = wait; starts = starts; n = n }) at
+    lines rules offsets stood (record { ledger = g; field = «open»; pend = pend; since = since; top = top; reads = reads; heading = h; claims = claims; block = block; wait = wait; starts = starts; n = n }) at
 
 abbrev μ-loop : tie.MeasureT-loop
-μ-loop s base basis lines₀ rules₀ offsets₀ stood₀ table g₀ open₀ pend₀ since₀ top₀ reads₀ h₀ claims₀ block₀ wait₀ starts₀ at₀ n₀ lines rules places stood g «open» pend since top reads h claims block wait starts at n =
+μ-loop s base basis lines₀ rules₀ offsets₀ stood₀ table g₀ open₀ pend₀ since₀ top₀ reads₀ h₀ claims₀ block₀ wait₀ starts₀ at₀ n₀ lines rules offsets stood g «open» pend since top reads h claims block wait starts at n =
     length s - at
 
 -- the line that was found

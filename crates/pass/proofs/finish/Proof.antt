@@ -4,7 +4,8 @@ use Rattle.ledger.specs.Marks.{marked}
 use Rattle.ledger.proofs.Entering.{entered-both}
 use Rattle.judging.specs.Opening.{readAs, closeClaims}
 use Rattle.judging.specs.Closing.{lastMarks}
-use Rattle.pass.proofs.Walk.{entered-list, close-few}
+use Rattle.shutting.proofs.Waiting.{entered-list}
+use Rattle.pass.proofs.Walk.{close-few}
 use Rattle.pass.proofs.Standing.{stand-end}
 use Rattle.pass.proofs.Feeding.{bounded-room}
 use Rattle.pass.proofs.finish.Statement.{statement}

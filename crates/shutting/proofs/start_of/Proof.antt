@@ -1,6 +1,6 @@
 use borrow.Author.Tests.{eq-eqb, ne-eqb}
-use Rattle.pass.proofs.start_of.Statement.{statement}
-use Rattle.pass.proofs.start_of.Tie as tie
+use Rattle.shutting.proofs.start_of.Statement.{statement}
+use Rattle.shutting.proofs.start_of.Tie as tie
 
 returns : tie.Need-returns
 returns c = rw (eq-eqb _ _ (c .if1 .taken))

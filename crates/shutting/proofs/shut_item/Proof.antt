@@ -3,10 +3,10 @@ use native.Mathlib.Omega.{arith}
 use Rattle.ledger.specs.Marks.{marked}
 use Rattle.ledger.proofs.Entering.{entered-both}
 use Rattle.judging.specs.declared.Shut.{Shut}
-use Rattle.pass.proofs.Walk.{entered-list, waits-at}
-use Rattle.pass.proofs.shut_item.Statement.{statement}
+use Rattle.shutting.proofs.Waiting.{entered-list, waits-at}
+use Rattle.shutting.proofs.shut_item.Statement.{statement}
 use borrow.Author.Needs.{needs}
-use Rattle.pass.proofs.shut_item.Tie as tie
+use Rattle.shutting.proofs.shut_item.Tie as tie
 
 close-item-requires : tie.Need-close-item-requires
 close-item-requires c κs = search needs

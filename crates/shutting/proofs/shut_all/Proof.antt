@@ -3,10 +3,10 @@ use native.Mathlib.Omega.{arith}
 use Rattle.ledger.proofs.Marks.{marked-few}
 use Rattle.ledger.proofs.Entering.{entered-both}
 use Rattle.judging.specs.Closing.{closeAs, closeFaults}
-use Rattle.pass.proofs.Walk.{entered-list}
-use Rattle.pass.proofs.shut_all.Statement.{statement}
+use Rattle.shutting.proofs.Waiting.{entered-list}
+use Rattle.shutting.proofs.shut_all.Statement.{statement}
 use borrow.Author.Needs.{needs}
-use Rattle.pass.proofs.shut_all.Tie as tie
+use Rattle.shutting.proofs.shut_all.Tie as tie
 
 enter-requires : tie.Need-enter-requires
 enter-requires c κs =

@@ -3,7 +3,7 @@ use Prim.Native.Nat.{ℕ}
 use mathlib.Core.Path.{_≡_}
 use mathlib.Core.Bool.{cond}
 use lib.Dec.{eqb}
-use Rattle.pass.specs.declared.Starts.{Starts}
+use Rattle.shutting.specs.declared.Starts.{Starts}
 
 -- the line of the open heading and of the one that waits start where it is kept; line 0, which is none, at 0
 pub record Stands (off : ℕ → ℕ) (s : Starts) (head wait : ℕ) : Type 0 where
