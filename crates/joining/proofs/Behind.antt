@@ -7,11 +7,11 @@ use native.Mathlib.Omega.{arith}
 use lib.ListN.{length, take, drop, getD, length-drop, take-append-drop}
 use lib.Seq.{drop-cons, take-suc}
 use borrow.Author.Tests.{eqb-true}
-use Rattle.lines.specs.Lines.{Line, isByte, crlf, onto, lines}
+use Rattle.lines.specs.Lines.{Line, isByte, crlf, onto, lines, takenBy}
 use Rattle.lines.proofs.Lines.{lines-none, crlf-short}
 use Rattle.lines.proofs.Reading.{crlf-in}
 use Rattle.figures.proofs.Tests.{and-parts}
-use Rattle.joining.specs.Whole.{endedOnes, openOne, whole, rest, size}
+use Rattle.joining.specs.Whole.{endedOnes, openOne, whole, rest}
 use Rattle.joining.specs.Short.{endsCr, crIf, withoutCr}
 use Rattle.joining.proofs.Cutting.{Clear, alone, ahead, clear-lines, lines-append, rest-clear, sizes, whole-append, rest-append}
 use Rattle.joining.proofs.Short.{rest-lines}
@@ -74,7 +74,7 @@ module _ (s : List ℕ) (end : ℕ) (E : Ends s end) where
       ∙ append-nil (whole (take end s))
       ∙ sym w
 
-  pub ends-size : end ≡ size (whole s)
+  pub ends-size : end ≡ takenBy (whole s)
   ends-size = omega (arith, sizes s, ap length ends-rest, length-drop end s, E .within)
 
 -- ---- the search: no CR LF begins at or behind the byte before `end`
@@ -134,7 +134,7 @@ hit-at s end S h e =
     (hit s j (omega (arith, S .fits)) (eqb-true (getD s j 0) 0x0d (p .0)) (ap (λ (k : ℕ). getD s k 0) (sym next) ∙ eqb-true (getD s (end - 1) 0) 0x0a (p .1))
     (subst (λ (k : ℕ). Clear (drop k s) []) next (S .clear)))
 
-pub seek-hit : (s : List ℕ) (end : ℕ) → Sought s end → 1 < end → (isByte 0x0d (getD s (end - 2) 0) && isByte 0x0a (getD s (end - 1) 0)) ≡ true → end ≡ size (whole s)
+pub seek-hit : (s : List ℕ) (end : ℕ) → Sought s end → 1 < end → (isByte 0x0d (getD s (end - 2) 0) && isByte 0x0a (getD s (end - 1) 0)) ≡ true → end ≡ takenBy (whole s)
 seek-hit s end S h e = ends-size s end (hit-at s end S h e)
 
 -- nothing is left to look at
@@ -142,26 +142,26 @@ none-at : (s : List ℕ) (end : ℕ) → Sought s end → end ≤ 1 → Ends s 0
 unfolding lines openOne
 none-at s end S h = let z : end - 1 ≡ 0 = omega arith in record { within = omega arith; front = refl; behind = subst (λ (k : ℕ). Clear (drop k s) []) z (S .clear) }
 
-pub seek-end : (s : List ℕ) (end : ℕ) → Sought s end → end ≤ 1 → 0 ≡ size (whole s)
+pub seek-end : (s : List ℕ) (end : ℕ) → Sought s end → end ≤ 1 → 0 ≡ takenBy (whole s)
 seek-end s end S h = ends-size s 0 (none-at s end S h)
 
 -- ---- what the place that is found means
 
-find : (s : List ℕ) (n end : ℕ) → end ≡ n → Sought s end → Ends s (size (whole s))
+find : (s : List ℕ) (n end : ℕ) → end ≡ n → Sought s end → Ends s (takenBy (whole s))
 find s zero end e S = subst (Ends s) (seek-end s end S (omega arith)) (none-at s end S (omega arith))
 find s (suc zero) end e S = subst (Ends s) (seek-end s end S (omega arith)) (none-at s end S (omega arith))
 find s (suc (suc n)) end e S = go (isByte 0x0d (getD s (end - 2) 0) && isByte 0x0a (getD s (end - 1) 0)) refl (λ k f. find s (suc n) k f)
   where
-    go : (t : Bool) → (isByte 0x0d (getD s (end - 2) 0) && isByte 0x0a (getD s (end - 1) 0)) ≡ t → ((k : ℕ) → k ≡ suc n → Sought s k → Ends s (size (whole s))) → Ends s (size (whole s))
+    go : (t : Bool) → (isByte 0x0d (getD s (end - 2) 0) && isByte 0x0a (getD s (end - 1) 0)) ≡ t → ((k : ℕ) → k ≡ suc n → Sought s k → Ends s (takenBy (whole s))) → Ends s (takenBy (whole s))
     go true f rec = subst (Ends s) (seek-hit s end S (omega arith) f) (hit-at s end S (omega arith) f)
     go false f rec = rec (end - 1) (omega arith) (seek-more s end S (omega arith) f)
 
-ends : (s : List ℕ) → Ends s (size (whole s))
+ends : (s : List ℕ) → Ends s (takenBy (whole s))
 ends s = find s (length s) (length s) refl (seek-start s)
 
 -- the whole lines of a text are the lines of that many bytes, and the rest stands behind them
-pub whole-before : (s : List ℕ) → lines (take (size (whole s)) s) ≡ whole s
-whole-before s = ends-whole s (size (whole s)) (ends s)
+pub whole-before : (s : List ℕ) → lines (take (takenBy (whole s)) s) ≡ whole s
+whole-before s = ends-whole s (takenBy (whole s)) (ends s)
 
-pub rest-behind : (s : List ℕ) → drop (size (whole s)) s ≡ rest s
-rest-behind s = ends-rest s (size (whole s)) (ends s)
+pub rest-behind : (s : List ℕ) → drop (takenBy (whole s)) s ≡ rest s
+rest-behind s = ends-rest s (takenBy (whole s)) (ends s)

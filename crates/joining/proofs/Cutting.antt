@@ -5,9 +5,9 @@ use mathlib.Core.List.{List, [], _∷_, _++_}
 use Prim.Native.Nat.{ℕ, suc, _+_}
 use native.Mathlib.Omega.{arith}
 use lib.ListN.{length}
-use Rattle.lines.specs.Lines.{Line, crlf, onto, lines}
+use Rattle.lines.specs.Lines.{Line, crlf, onto, lines, takenBy}
 use Rattle.lines.proofs.Lines.{lines-cut, lines-on, crlf-short}
-use Rattle.joining.specs.Whole.{endedOnes, openOne, whole, rest, size}
+use Rattle.joining.specs.Whole.{endedOnes, openOne, whole, rest}
 
 -- ---- the first line
 
@@ -139,26 +139,26 @@ first-clear (b ∷ b' ∷ s) = go (crlf (b ∷ b' ∷ s)) refl (first-clear (b' 
 
 -- ---- lengths
 
-size-onto : (b : ℕ) (ls : List Line) → size (endedOnes (onto b ls)) + length (openOne (onto b ls)) ≡ suc (size (endedOnes ls) + length (openOne ls))
-unfolding endedOnes openOne size onto
+size-onto : (b : ℕ) (ls : List Line) → takenBy (endedOnes (onto b ls)) + length (openOne (onto b ls)) ≡ suc (takenBy (endedOnes ls) + length (openOne ls))
+unfolding endedOnes openOne takenBy onto
 size-onto b [] = refl
 size-onto b (l ∷ ls) = go (l .ended)
   where
     go : (t : Bool)
-        → size (cond t (record { bytes = b ∷ l .bytes; ended = t } ∷ endedOnes ls) []) + length (cond t (openOne ls) (b ∷ l .bytes))
-        ≡ suc (size (cond t (record { bytes = l .bytes; ended = t } ∷ endedOnes ls) []) + length (cond t (openOne ls) (l .bytes)))
+        → takenBy (cond t (record { bytes = b ∷ l .bytes; ended = t } ∷ endedOnes ls) []) + length (cond t (openOne ls) (b ∷ l .bytes))
+        ≡ suc (takenBy (cond t (record { bytes = l .bytes; ended = t } ∷ endedOnes ls) []) + length (cond t (openOne ls) (l .bytes)))
     go true = omega arith
     go false = omega arith
 
 -- each byte stands in a whole line or in the rest
-pub sizes : (t : List ℕ) → size (whole t) + length (rest t) ≡ length t
-unfolding lines endedOnes openOne size onto
+pub sizes : (t : List ℕ) → takenBy (whole t) + length (rest t) ≡ length t
+unfolding lines endedOnes openOne takenBy onto
 sizes [] = refl
 sizes (b ∷ []) = refl
 sizes (b ∷ b' ∷ s) = go (crlf (b ∷ b' ∷ s)) (sizes s) (sizes (b' ∷ s))
   where
-    go : (t : Bool) → size (whole s) + length (rest s) ≡ length s → size (whole (b' ∷ s)) + length (rest (b' ∷ s)) ≡ suc (length s)
-        → size (endedOnes (cond t (record { bytes = []; ended = true } ∷ lines s) (onto b (lines (b' ∷ s)))))
+    go : (t : Bool) → takenBy (whole s) + length (rest s) ≡ length s → takenBy (whole (b' ∷ s)) + length (rest (b' ∷ s)) ≡ suc (length s)
+        → takenBy (endedOnes (cond t (record { bytes = []; ended = true } ∷ lines s) (onto b (lines (b' ∷ s)))))
         + length (openOne (cond t (record { bytes = []; ended = true } ∷ lines s) (onto b (lines (b' ∷ s)))))
         ≡ suc (suc (length s))
     go true i j = omega arith

@@ -10,11 +10,11 @@ use lib.ListN.{length, take, drop, length-append, length-take}
 use Rattle.figures.proofs.Tests.{and-parts}
 use Rattle.text.specs.Strings.{begins}
 use Rattle.lines.specs.declared.Found.{Found}
-use Rattle.lines.specs.Lines.{Line, isByte, crlf, lines}
+use Rattle.lines.specs.Lines.{Line, isByte, crlf, lines, takenBy}
 use Rattle.lines.specs.Reading.{lineAt}
 use Rattle.lines.proofs.Lines.{lines-none, lines-cut}
 use Rattle.lines.proofs.Reading.{is-next}
-use Rattle.joining.specs.Whole.{endedOnes, openOne, whole, size}
+use Rattle.joining.specs.Whole.{endedOnes, openOne, whole}
 use Rattle.joining.specs.Short.{sign, shortTo, short, endsCr, crIf, withoutCr, Kept, kept, keptText, leftOut, added}
 use Rattle.joining.specs.declared.Text.{Text}
 use Rattle.joining.specs.declared.Held.{Held}
@@ -171,13 +171,13 @@ module _ (h : Held) (s : List ℕ) (b : Bool) (is-b : b ≡ begins s (0x0a ∷ [
 
 -- an open line is the last
 open-all : (s : List ℕ) → lineAt s 0 .ended ≡ false → take (lineAt s 0 .end) s ≡ s
-unfolding endedOnes openOne size lines
+unfolding endedOnes openOne takenBy lines
 open-all [] e = refl
 open-all (b ∷ s) e =
     let l : List ℕ = take (lineAt (b ∷ s) 0 .end) (b ∷ s) in
     let all : lines (b ∷ s) ≡ record { bytes = l; ended = false } ∷ lines (drop (lineAt (b ∷ s) 0 .next) (b ∷ s)) =
     first-line (b ∷ s) (omega arith) ∙ ap (λ (t : Bool). record { bytes = l; ended = t } ∷ lines (drop (lineAt (b ∷ s) 0 .next) (b ∷ s))) e in
-    let n : 0 + length l ≡ suc (length s) = ap (λ (ls : List Line). size (endedOnes ls) + length (openOne ls)) (sym all) ∙ sizes (b ∷ s) in
+    let n : 0 + length l ≡ suc (length s) = ap (λ (ls : List Line). takenBy (endedOnes ls) + length (openOne ls)) (sym all) ∙ sizes (b ∷ s) in
     take-all (lineAt (b ∷ s) 0 .end) (b ∷ s) (omega (arith, length-take (lineAt (b ∷ s) 0 .end) (b ∷ s)))
 
 none-found : lineAt [] 0 .ended ≡ false
@@ -244,7 +244,7 @@ closed-one x q =
 
 -- what comes behind the line that was joined: its whole lines are told where they stand, and its rest is kept
 pub going-cut : {L : Type 0} (told : L → ℕ → List ℕ → Bool → L) (r : Stand L) (c : List ℕ)
-    → goingOn told r (lines c) ≡ holding told (run told r (lines (take (size (whole c)) c))) (drop (size (whole c)) c)
+    → goingOn told r (lines c) ≡ holding told (run told r (lines (take (takenBy (whole c)) c))) (drop (takenBy (whole c)) c)
 unfolding goingOn
 going-cut told r c = sym (λ i. holding told (run told r (whole-before c i)) (rest-behind c i))
 

@@ -5,9 +5,9 @@ use mathlib.Core.List.{List, [], _∷_, _++_, append-assoc, append-nil}
 use Prim.Native.Nat.{ℕ, _+_, _-_}
 use native.Mathlib.Omega.{arith}
 use lib.ListN.{length, length-append}
-use Rattle.lines.specs.Lines.{Line, lines}
+use Rattle.lines.specs.Lines.{Line, lines, takenBy}
 use Rattle.lines.proofs.Lines.{lines-none}
-use Rattle.joining.specs.Whole.{endedOnes, openOne, whole, rest, size}
+use Rattle.joining.specs.Whole.{endedOnes, openOne, whole, rest}
 use Rattle.joining.specs.Short.{sign, shortTo, short, endsCr, crIf, withoutCr, Kept, kept, keptText, leftOut}
 use Rattle.joining.specs.Portions.{Stand, Reached, fresh, concat, tells, run, holding, goingOn, after, afterAll, closed}
 use Rattle.joining.proofs.Cutting.{First, here, on, first-of, lines-append, Clear, alone, ahead, rest-clear, sizes, ended-append, open-append}
@@ -76,8 +76,8 @@ module _ {L : Type 0} (told : L → ℕ → List ℕ → Bool → L) where
 
   -- ---- offsets
 
-  pub run-at : (r : Stand L) (ls : List Line) → run told r ls .at + run told r ls .over ≡ r .at + r .over + size ls
-  unfolding run size
+  pub run-at : (r : Stand L) (ls : List Line) → run told r ls .at + run told r ls .over ≡ r .at + r .over + takenBy ls
+  unfolding run takenBy
   run-at r [] = omega arith
   run-at r (l ∷ ls) = omega (arith, run-at (tells told r l) ls)
 

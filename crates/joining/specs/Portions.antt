@@ -3,8 +3,8 @@
 use Prim.Native.Nat.{ℕ, _+_}
 use mathlib.Core.Bool.{Bool, false}
 use mathlib.Core.List.{List, [], _∷_, _++_}
-use Rattle.lines.specs.Lines.{Line, lines}
-use Rattle.joining.specs.Whole.{endedOnes, openOne, extent}
+use Rattle.lines.specs.Lines.{Line, lines, taken}
+use Rattle.joining.specs.Whole.{endedOnes, openOne}
 use Rattle.joining.specs.Short.{Kept, kept, keptText, leftOut}
 
 -- where the consumer stands: the offset of the line to come, and how many bytes of that line are left out of what is kept of it. The
@@ -29,7 +29,7 @@ concat (p ∷ ps) = p ++ concat ps
 
 module _ {L : Type 0} (told : L → ℕ → List ℕ → Bool → L) where
   abbrev pub tells : Stand L → Line → Stand L
-  tells r l = record { desk = told (r .desk) (r .at) (l .bytes) (l .ended); at = r .at + r .over + extent l; over = 0 }
+  tells r l = record { desk = told (r .desk) (r .at) (l .bytes) (l .ended); at = r .at + r .over + taken l; over = 0 }
 
   unfoldable pub run : Stand L → List Line → Stand L
   run r [] = r

@@ -1,8 +1,7 @@
 -- What CR LF has ended of a text so far, and what stands behind it.
-use Prim.Native.Nat.{ℕ, _+_}
+use Prim.Native.Nat.{ℕ}
 use mathlib.Core.Bool.{cond}
 use mathlib.Core.List.{List, [], _∷_}
-use lib.ListN.{length}
 use Rattle.lines.specs.Lines.{Line, lines}
 
 -- of lines in their order, those that CR LF ended: only the last can be without
@@ -22,11 +21,3 @@ whole t = endedOnes (lines t)
 -- what stands behind the last of them
 abbrev pub rest : List ℕ → List ℕ
 rest t = openOne (lines t)
-
--- how many bytes a line takes, its CR LF included
-abbrev pub extent : Line → ℕ
-extent l = length (l .bytes) + cond (l .ended) 2 0
-
-unfoldable pub size : List Line → ℕ
-size [] = 0
-size (l ∷ ls) = extent l + size ls

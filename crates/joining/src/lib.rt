@@ -19,7 +19,8 @@ ghost use Prim.Native.Nat.{_+_, _<_, _≤_, min};
 ghost use lib.ListN.{length, take};
 ghost use Rattle.laws.specs.Lists.{anyOf};
 ghost use Rattle.text.specs.Characters.{isInadmissible};
-ghost use Rattle.joining.specs.Whole.{whole, size};
+ghost use Rattle.joining.specs.Whole.{whole};
+ghost use Rattle.lines.specs.Lines.{takenBy};
 ghost use Rattle.joining.specs.Short.{short, crIf, withoutCr, keptText, added};
 ghost use Rattle.joining.specs.Held.{asText, asHeld, asJoined, keptIn, endedText, joinOf};
 
@@ -45,7 +46,7 @@ pub struct Joined {
 
 // How many bytes the whole lines of a text take. It is looked for from the back, so that it costs the length of the rest.
 pub fn whole_len(s: &[u8]) -> usize
-    ensures { λ r. ⌜ r ≡ size (whole (now (s .entry))) ⌝ }
+    ensures { λ r. ⌜ r ≡ takenBy (whole (now (s .entry))) ⌝ }
 {
     let mut end = s.len();
     while 1 < end {
