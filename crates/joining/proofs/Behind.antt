@@ -17,12 +17,12 @@ use Rattle.joining.proofs.Cutting.{Clear, alone, ahead, clear-lines, li
 use Rattle.joining.proofs.Short.{rest-lines}
 
 -- a text with no CR LF is all rest
-open-alone : (p : List ℕ) → openOne (alone p) ≡ p
+pub open-alone : (p : List ℕ) → openOne (alone p) ≡ p
 unfolding openOne
 open-alone [] = refl
 open-alone (b ∷ p) = refl
 
-ended-alone : (p : List ℕ) → endedOnes (alone p) ≡ []
+pub ended-alone : (p : List ℕ) → endedOnes (alone p) ≡ []
 unfolding endedOnes
 ended-alone [] = refl
 ended-alone (b ∷ p) = refl

@@ -27,7 +27,7 @@ use Rattle.joining.proofs.Behind.{whole-before, rest-behind}
 use Rattle.joining.proofs.Padded.{take-padded}
 use Rattle.joining.proofs.Portions.{going-alone, told-kept}
 
-crlf-cuts : (s : List ℕ) → lines (0x0d ∷ 0x0a ∷ s) ≡ record { bytes = []; ended = true } ∷ lines s
+pub crlf-cuts : (s : List ℕ) → lines (0x0d ∷ 0x0a ∷ s) ≡ record { bytes = []; ended = true } ∷ lines s
 unfolding crlf
 crlf-cuts s = lines-cut (0x0d ∷ 0x0a ∷ s) refl
 
@@ -51,13 +51,15 @@ added-kept r s =
     ∙ ap kept (sym (append-assoc (withoutCr r) (crIf (endsCr r)) s) ∙ ap (λ (l : List ℕ). l ++ s) (cr-split r))
 
 -- a record that was made stands for what it was made of
+pub held-same : (k : Kept) → length (k .text) ≤ 65 → keptIn (asHeld k) ≡ k
+unfolding keptIn
+held-same k h =
+    let m : min 65 (length (k .text)) ≡ length (k .text) = omega arith in
+    ap (λ (l : List ℕ). record { text = l; cr = k .cr }) (ap (λ (n : ℕ). take n (padded (k .text))) m ∙ take-padded (k .text) (omega arith))
+
 pub held-again : (r : List ℕ) → keptIn (asHeld (kept r)) ≡ kept r
-unfolding keptIn kept
-held-again r =
-    let t : List ℕ = short (withoutCr r) in
-    let h : length t ≤ 65 = omega (arith, length-short (withoutCr r)) in
-    let m : min 65 (length t) ≡ length t = omega arith in
-    ap (λ (l : List ℕ). record { text = l; cr = endsCr r }) (ap (λ (k : ℕ). take k (padded t)) m ∙ take-padded t (omega arith))
+unfolding kept
+held-again r = held-same (kept r) (omega (arith, length-short (withoutCr r)))
 
 -- where nothing is kept, a piece is a rest of its own
 pub added-none : (s : List ℕ) → added (record { text = []; cr = false }) s ≡ kept s
@@ -82,12 +84,12 @@ kept-text r s =
 
 -- ---- where what is kept meets what comes
 
-clear-append : (p q x : List ℕ) → Clear p (q ++ x) → Clear q x → Clear (p ++ q) x
+pub clear-append : (p q x : List ℕ) → Clear p (q ++ x) → Clear q x → Clear (p ++ q) x
 clear-append [] q x c d = d
 clear-append (b ∷ p) q x c d = (ap (λ (l : List ℕ). crlf (b ∷ l)) (append-assoc p q x) ∙ c .0, clear-append p q x (c .1) d)
 
 -- no LF behind the CR that is held
-clear-cr : (t : Bool) (s : List ℕ) → (t && begins s (0x0a ∷ [])) ≡ false → Clear (crIf t) s
+pub clear-cr : (t : Bool) (s : List ℕ) → (t && begins s (0x0a ∷ [])) ≡ false → Clear (crIf t) s
 unfolding crlf begins
 clear-cr false s e = tt
 clear-cr true [] e = (refl, tt)
@@ -114,7 +116,7 @@ by-lf x (b ∷ s) q true f e =
     ∙ ap (λ (l : List ℕ). record { bytes = l; ended = true } ∷ lines s) (append-nil (short (withoutCr x)))
 
 -- the first line of what comes, where there is one
-first-line : (s : List ℕ) → 0 < length s → lines s ≡ record { bytes = take (lineAt s 0 .end) s; ended = lineAt s 0 .ended } ∷ lines (drop (lineAt s 0 .next) s)
+pub first-line : (s : List ℕ) → 0 < length s → lines s ≡ record { bytes = take (lineAt s 0 .end) s; ended = lineAt s 0 .ended } ∷ lines (drop (lineAt s 0 .next) s)
 first-line s h = let e : lineAt s 0 .end - 0 ≡ lineAt s 0 .end = omega arith in is-next s 0 (lineAt s 0) refl h .cut ∙ ap (λ (n : ℕ). record { bytes = take n s; ended = lineAt s 0 .ended } ∷ lines (drop (lineAt s 0 .next) s)) e
 
 -- what the reader finds lies in the text
@@ -170,7 +172,7 @@ module _ (h : Held) (s : List ℕ) (b : Bool) (is-b : b ≡ begins s (0x0a ∷ [
 -- ---- what it means
 
 -- an open line is the last
-open-all : (s : List ℕ) → lineAt s 0 .ended ≡ false → take (lineAt s 0 .end) s ≡ s
+pub open-all : (s : List ℕ) → lineAt s 0 .ended ≡ false → take (lineAt s 0 .end) s ≡ s
 unfolding endedOnes openOne takenBy lines
 open-all [] e = refl
 open-all (b ∷ s) e =
@@ -180,12 +182,12 @@ open-all (b ∷ s) e =
     let n : 0 + length l ≡ suc (length s) = ap (λ (ls : List Line). takenBy (endedOnes ls) + length (openOne ls)) (sym all) ∙ sizes (b ∷ s) in
     take-all (lineAt (b ∷ s) 0 .end) (b ∷ s) (omega (arith, length-take (lineAt (b ∷ s) 0 .end) (b ∷ s)))
 
-none-found : lineAt [] 0 .ended ≡ false
+pub none-found : lineAt [] 0 .ended ≡ false
 unfolding lines
 none-found = refl
 
 -- what was found has no CR LF in it
-found-clear : (s : List ℕ) → Clear (take (lineAt s 0 .end) s) []
+pub found-clear : (s : List ℕ) → Clear (take (lineAt s 0 .end) s) []
 unfolding lines
 found-clear [] = tt
 found-clear (b ∷ s) = subst (λ (ls : List Line). Clear (firstBytes ls) []) (first-line (b ∷ s) (omega arith)) (first-clear (b ∷ s))
@@ -197,7 +199,7 @@ begins-take t (suc n) [] e = and-false t
 begins-take t (suc n) (b ∷ s) e = e
 
 -- nor has a rest that goes on with it
-clear-on : (x q : List ℕ) → Clear x [] → (endsCr x && begins q (0x0a ∷ [])) ≡ false → Clear q [] → Clear (x ++ q) []
+pub clear-on : (x q : List ℕ) → Clear x [] → (endsCr x && begins q (0x0a ∷ [])) ≡ false → Clear q [] → Clear (x ++ q) []
 clear-on x q c e d =
     let here : Clear (withoutCr x ++ crIf (endsCr x)) q = clear-append (withoutCr x) (crIf (endsCr x)) q (clear-bare x q c) (clear-cr (endsCr x) q e) in
     clear-append x q [] (subst (λ (l : List ℕ). Clear x l) (sym (append-nil q)) (subst (λ (l : List ℕ). Clear l q) (cr-split x) here)) d

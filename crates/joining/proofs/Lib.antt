@@ -5,3 +5,4 @@ pub mod Unseen
 pub mod Behind
 pub mod Padded
 pub mod Joins
+pub mod Real
