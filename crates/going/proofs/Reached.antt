@@ -9,8 +9,9 @@ use lib.Dec.{eqb}
 use lib.ListN.{length, take, drop, replicate, length-append, length-take, length-drop}
 use lib.Seq.{take-all}
 use Rattle.figures.proofs.Tests.{and-parts}
-use Rattle.lines.specs.Lines.{Line, lines, takenBy, taken}
+use Rattle.lines.specs.Lines.{Line, lines, takenBy, taken, offsetOf}
 use Rattle.rules.specs.Terms.{Terms}
+use Rattle.rules.specs.Faults.{faultsIn}
 use Rattle.ledger.specs.declared.Ledger.{Ledger}
 use Rattle.ledger.specs.Slices.{Listed}
 use Rattle.blocks.specs.declared.Basis.{Basis}
@@ -23,11 +24,11 @@ use Rattle.joining.specs.declared.Text.{Text}
 use Rattle.joining.specs.declared.Held.{Held}
 use Rattle.joining.specs.declared.Joined.{Joined}
 use Rattle.joining.specs.Whole.{endedOnes, openOne, whole, rest}
-use Rattle.joining.specs.Short.{sign, shortTo, short, endsCr, Kept, kept, keptText, added}
-use Rattle.joining.specs.Held.{padded, asText, asHeld, asJoined, keptIn, endedText, Join, joinOf}
+use Rattle.joining.specs.Short.{sign, shortTo, endsCr, Kept, kept, keptText, added}
+use Rattle.joining.specs.Held.{asText, asHeld, asJoined, keptIn, endedText, Join, joinOf}
 use Rattle.joining.specs.Portions.{concat}
-use Rattle.joining.proofs.Cutting.{Clear, alone, rest-clear, sizes, whole-append, rest-append}
-use Rattle.joining.proofs.Padded.{text-is, take-padded, few-kept, few-ended}
+use Rattle.joining.proofs.Cutting.{alone, rest-clear, sizes, whole-append, rest-append}
+use Rattle.joining.proofs.Padded.{text-is, take-padded, few-kept}
 use Rattle.joining.proofs.Behind.{whole-before, rest-behind}
 use Rattle.joining.proofs.Joins.{added-none, held-none, held-same, held-again, join-within, join-one, closed-one}
 use Rattle.joining.proofs.Real.{kept-like, kept-nothing, lines-all, Ended, join-real, Goes, join-goes, held-few, added-few, join-fits}
@@ -285,3 +286,15 @@ unfolding concat
 over-all {a = a} no-more terms t ls₀ rs₀ ps₀ ej R = subst (λ (l : List ℕ). ReachedAt terms l ls₀ rs₀ ps₀ a) (sym (append-nil t)) R
 over-all {b = b} (one-more {s} {ss} G T) terms t ls₀ rs₀ ps₀ ej R =
     subst (λ (l : List ℕ). ReachedAt terms l ls₀ rs₀ ps₀ b) (append-assoc t s (concat ss)) (over-all T terms (t ++ s) ls₀ rs₀ ps₀ ej (G terms t ls₀ rs₀ ps₀ ej R))
+
+-- and from the start on, at the end: the faults of that text are listed, as the pass over the whole lists them
+pub all-listed : {j : Basis} {ss : List (List ℕ)} {a b : State} → Begun (a .going) → length (a .lines-in) ≡ length (a .rules-in) → length (a .lines-in) ≡ length (a .offsets-in)
+    → a .stood-in ≡ replicate 1296 0 → Thens j ss a b → {r : Ledger} {ls rs ps : List ℕ}
+    → Done j (b .lines-in) (b .rules-in) (b .offsets-in) (b .stood-in) (b .going) r ls rs ps → (terms : Terms) → j ≡ basisOf terms
+    → Listed (offsetOf (concat ss)) (faultsIn terms (concat ss)) (a .lines-in) (a .rules-in) (a .offsets-in) r ls rs ps
+all-listed {ss = ss} {a} B same level es T D terms ej =
+    let ls : List ℕ = a .lines-in in
+    let rs : List ℕ = a .rules-in in
+    let ps : List ℕ = a .offsets-in in
+    let R : ReachedAt terms [] ls rs ps a = subst (λ (l : List ℕ). Reached terms [] ls rs ps ls rs ps l (a .going)) (sym es) (B ls rs ps same level .1 terms) in
+    D terms (concat ss) ls rs ps ej (over-all T terms [] ls rs ps ej R)

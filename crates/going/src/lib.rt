@@ -1,10 +1,10 @@
 // A body that comes in pieces, judged line by line: the bytes of a file before its end mark, however they are cut. The lines that a
-// piece holds whole are judged where they stand. Of the line that a piece leaves open a short form is kept, and that is judged, at the
-// place of the line, when its CR LF has come.
-// Promised (specs/Reached.antt): after any pieces, one behind the other, what is known means what it would mean of the text that they
-// make (`go_on`; over a list of pieces `over-all` of proofs/Reached.antt), and at the end the faults of that text are listed, each
-// with its line's offset (`finish`), as the pass over the whole lists them. No rule is judged here: lines are judged by `pass`, and what is whole and
-// what is kept is said by `joining`.
+// piece holds whole are judged where they stand. Of the line that it leaves open a short form is kept, and when the line's CR LF has
+// come, or the end, that is judged in its place.
+// Promised (specs/Reached.antt): after any pieces, one behind the other, what is known is what would be known of the text that they
+// make (`go_on`); at the end the faults of that text are listed, beside each the offset of its line (`finish`), as `pass` lists those
+// of a whole body. Proved over a list of pieces in proofs/Reached.antt (`over-all`, `all-listed`). No rule is judged here: lines are
+// judged by `pass`, and what of a text is whole and what is kept of it is said by `joining`.
 use blocks::Basis;
 use joining::Held;
 use ledger::Ledger;
