@@ -3,10 +3,11 @@
  * The rules, the refusals and their numbers are those of documents 01 and 02.
  * Every function returns 0, or the number of the refusal, but for
  * certis_turnover_text, which refuses nothing and returns a length. A refusal
- * leaves everything behind the pointers as it stood. No function keeps a
- * pointer, allocates, fails in any other way or runs for ever; calls from
- * several threads do not disturb each other. A call takes less than 16 KB of
- * stack, but for certis_register_enter, which takes less than 2 MB.
+ * leaves everything behind the pointers as it stood; certis_portions_close alone
+ * marks its state as closed whatever it answers. No function keeps a pointer,
+ * allocates, fails in any other way or runs for ever; calls from several threads
+ * do not disturb each other. A call takes less than 16 KB of stack, but for
+ * certis_register_enter, which takes less than 2 MB.
  *
  * What a caller owes, for every function:
  *   - each pointer is not null and properly aligned;
@@ -14,7 +15,7 @@
  *     fine: nothing is then read or written there);
  *   - behind a pointer without a length is room for one element, which need not
  *     be initialised: it is written where nothing is refused, and never read; or
- *     for as many as the comment beside it says;
+ *     for as many as the comment beside it says (a sheet and a state are read);
  *   - no region that is written overlaps any other region given.
  * Nothing is asked of the values: every byte, number and length has an answer.
  */
@@ -27,7 +28,7 @@
 
 /* The first number changes where a host that was written for an older header
  * must change its calls. */
-#define CERTIS_VERSION "3.0"
+#define CERTIS_VERSION "3.1"
 
 /* The most bytes of a file that is checked, and the bytes of a heading. */
 #define CERTIS_FILE_MOST 10000000
@@ -50,6 +51,7 @@ enum certis_refusal {
     CERTIS_NO_OUTGOING = 14,   /* the table of outgoing types has no entry for this sender */
     CERTIS_BAD_NUMBER = 15,    /* the output number is not in its class */
     CERTIS_SHORT_TARGET = 16,  /* the target has fewer than CERTIS_HEADING bytes */
+    CERTIS_AFTER_CLOSING = 18, /* portions: the file is closed, or was never opened */
     CERTIS_BAD_LIST = 19,      /* the list is too long, repeats a code, or has one not 1 to 9999 */
     CERTIS_HAS_FAULTS = 20,    /* the file has faults */
     CERTIS_NOT_LISTED = 21,    /* payer or beneficiary of an item that posts is not listed */
@@ -147,6 +149,116 @@ uint32_t certis_check(const uint8_t *file, size_t file_len,
                       uint32_t *rules, size_t rules_len,
                       uint32_t *offsets, size_t offsets_len,
                       uint64_t *total);
+
+/* A file that comes in portions.
+ *
+ * For a host that cannot hold the whole file: it opens a state, adds the bytes
+ * portion by portion as they come, and closes. However the file is cut, closing
+ * answers what certis_check would of the whole, with rooms of
+ * CERTIS_PORTIONS_ROOM places. Nothing is handed out before that.
+ *
+ * What is inside a state is the library's own affair. There is no pointer in
+ * it: a host may move it, keep it, or copy it, and both copies then go on, each
+ * with its own bytes. Memory that is zero throughout is a state that is closed.
+ * A state that is no longer wanted is simply left.
+ */
+#define CERTIS_PORTIONS_ROOM 256
+
+struct certis_portions {
+    uint64_t wide[38];
+    uint64_t length;
+    uint32_t narrow[33];
+    uint32_t frame[8]; /* frame[0] is 0 once it is closed */
+    uint32_t lines[CERTIS_PORTIONS_ROOM];
+    uint32_t rules[CERTIS_PORTIONS_ROOM];
+    uint32_t offsets[CERTIS_PORTIONS_ROOM];
+    uint32_t stood[1296];
+    uint8_t small[19];
+    uint8_t text[68];
+};
+
+/* The three calls as the archive has them, with the parts of a state apart; the
+ * functions below are shorter. Each part has the length that it has above, and
+ * lines, rules and offsets need not be initialised before the opening. */
+uint32_t certis_open_portions(uint32_t code, uint32_t day,
+                              uint64_t *wide, uint64_t *length,
+                              uint32_t *narrow, uint32_t *frame,
+                              uint32_t *stood, uint8_t *small, uint8_t *text);
+uint32_t certis_add_portion(const uint8_t *bytes, size_t bytes_len,
+                            uint64_t *wide, uint64_t *length,
+                            uint32_t *narrow, uint32_t *frame,
+                            uint32_t *lines, uint32_t *rules, uint32_t *offsets,
+                            uint32_t *stood, uint8_t *small, uint8_t *text);
+uint32_t certis_close_portions(uint64_t *wide, uint64_t *length,
+                               uint32_t *narrow, uint32_t *frame,
+                               uint32_t *lines, uint32_t *rules, uint32_t *offsets,
+                               uint32_t *stood, uint8_t *small, uint8_t *text,
+                               uint32_t *out_lines /* CERTIS_PORTIONS_ROOM */,
+                               uint32_t *out_rules /* CERTIS_PORTIONS_ROOM */,
+                               uint32_t *out_offsets /* CERTIS_PORTIONS_ROOM */,
+                               uint64_t *total);
+
+/* Opening: no byte has come yet.
+ *
+ * The state need not be initialised; one that was open begins anew.
+ *
+ * Refusals, the first that applies; the state then stays as it stood:
+ *   1  the code is not 1 to 9999
+ *   2  the day is not a real day from 20000101 to 20991231
+ */
+static inline uint32_t certis_portions_open(struct certis_portions *state,
+                                            uint32_t code, uint32_t day)
+{
+    return certis_open_portions(code, day, state->wide, &state->length,
+                                state->narrow, state->frame, state->stood,
+                                state->small, state->text);
+}
+
+/* Adding the next bytes, of any number; none is fine.
+ *
+ * Adding and closing read the state: it was opened, or is memory that is
+ * initialised throughout. The bytes are not needed any more when the call
+ * returns. There is no bad portion: what is wrong with the file is said at
+ * closing, and however many bytes come, none makes a counter wrap.
+ *
+ * Refusal:
+ *   18  the state is not open: it was closed, or no opening made it. Nothing
+ *       changes.
+ */
+static inline uint32_t certis_portions_add(struct certis_portions *state,
+                                           const uint8_t *bytes, size_t bytes_len)
+{
+    return certis_add_portion(bytes, bytes_len, state->wide, &state->length,
+                              state->narrow, state->frame, state->lines,
+                              state->rules, state->offsets, state->stood,
+                              state->small, state->text);
+}
+
+/* Closing: the file is whole, and this is its answer.
+ *
+ * Writes the first faults, as many as there are or CERTIS_PORTIONS_ROOM, by line
+ * and then by rule, as certis_check does, and sets *total to the true total.
+ * Places after the last fault keep what they held. The state is then closed, by
+ * a refusal too, until it is opened again; a refusal changes nothing else.
+ *
+ * Refusals, the first that applies:
+ *   18  the state is not open, as above; it stays as it stood
+ *   3   more than 10,000,000 bytes came, those after the 1A included
+ *   5   no byte 1A came; also where no byte came at all
+ *   9   a byte came after the first 1A
+ *   6   the byte 1A came alone
+ */
+static inline uint32_t certis_portions_close(struct certis_portions *state,
+                                             uint32_t *lines /* CERTIS_PORTIONS_ROOM */,
+                                             uint32_t *rules /* CERTIS_PORTIONS_ROOM */,
+                                             uint32_t *offsets /* CERTIS_PORTIONS_ROOM */,
+                                             uint64_t *total)
+{
+    return certis_close_portions(state->wide, &state->length, state->narrow,
+                                 state->frame, state->lines, state->rules,
+                                 state->offsets, state->stood, state->small,
+                                 state->text, lines, rules, offsets, total);
+}
 
 /* Telling what would go out.
  *

@@ -8,7 +8,7 @@
 
 int printf(const char *format, ...);
 
-enum { ROUNDS = 50000, SHEETS = 5000, REGISTERS = 5000, ROOM = 32, HEADING = 54, ONE_RANGE = 25 };
+enum { ROUNDS = 50000, PORTIONS = 5000, SHEETS = 5000, REGISTERS = 5000, ROOM = 32, HEADING = 54, ONE_RANGE = 25 };
 
 #define L(text) text "\r\n"
 
@@ -88,6 +88,35 @@ static void check_one(struct tally *tally)
     fold(tally, refusal);
     fold(tally, total);
     for (size_t i = 0; i < ROOM; i++) {
+        fold(tally, (uint64_t)lines[i] << 32 | rules[i]);
+        fold(tally, offsets[i]);
+    }
+}
+
+/* The same file in portions of up to 80 bytes. */
+static void portions_one(struct tally *tally)
+{
+    static struct certis_portions state;
+    static uint32_t lines[CERTIS_PORTIONS_ROOM];
+    static uint32_t rules[CERTIS_PORTIONS_ROOM];
+    static uint32_t offsets[CERTIS_PORTIONS_ROOM];
+    uint8_t file[FILE_LENGTH];
+    uint64_t total = 0;
+    vary(file, FILE_TEXT, FILE_LENGTH);
+    uint32_t code = 300 + below(8) / 7;
+    uint32_t day = 20240200 + below(132);
+    fold(tally, certis_portions_open(&state, code, day));
+    for (uint32_t at = 0; at < FILE_LENGTH;) {
+        uint32_t length = below(81);
+        length = length < FILE_LENGTH - at ? length : FILE_LENGTH - at;
+        fold(tally, certis_portions_add(&state, file + at, length));
+        at += length;
+    }
+    uint32_t refusal = certis_portions_close(&state, lines, rules, offsets, &total);
+    tally->answered += refusal == 0;
+    fold(tally, refusal);
+    fold(tally, total);
+    for (size_t i = 0; i < CERTIS_PORTIONS_ROOM; i++) {
         fold(tally, (uint64_t)lines[i] << 32 | rules[i]);
         fold(tally, offsets[i]);
     }
@@ -182,6 +211,7 @@ static void enter_one(struct tally *tally)
 int main(void)
 {
     struct tally files = { 0 };
+    struct tally portions = { 0 };
     struct tally headings = { 0 };
     struct tally accounts = { 0 };
     struct tally sheets = { 0 };
@@ -191,6 +221,9 @@ int main(void)
         derive_one(&headings);
         account_one(&accounts);
     }
+    for (int round = 0; round < PORTIONS; round++) {
+        portions_one(&portions);
+    }
     for (int round = 0; round < SHEETS; round++) {
         post_one(&sheets);
     }
@@ -198,6 +231,7 @@ int main(void)
         enter_one(&registers);
     }
     show("files", files);
+    show("portions", portions);
     show("headings", headings);
     show("accounts", accounts);
     show("sheets", sheets);

@@ -48,6 +48,33 @@ static void *check(void *ignored)
     return ignored;
 }
 
+/* A state and its three calls; the file is cut in two. */
+static struct certis_portions state;
+
+static void *open_portions(void *ignored)
+{
+    certis_portions_open(&state, 300, 20240304);
+    return ignored;
+}
+
+static void *add_portions(void *ignored)
+{
+    size_t half = faulty.length / 2;
+    certis_portions_add(&state, faulty.bytes, half);
+    certis_portions_add(&state, faulty.bytes + half, faulty.length - half);
+    return ignored;
+}
+
+static void *close_portions(void *ignored)
+{
+    static uint32_t lines[CERTIS_PORTIONS_ROOM];
+    static uint32_t rules[CERTIS_PORTIONS_ROOM];
+    static uint32_t offsets[CERTIS_PORTIONS_ROOM];
+    uint64_t faults = 0;
+    certis_portions_close(&state, lines, rules, offsets, &faults);
+    return ignored;
+}
+
 static const char heading[] = "HD:12 20240304 0000300 0000017 0000710 0000000 0000000";
 
 static void *tell(void *ignored)
@@ -131,6 +158,9 @@ int main(int count, char **words)
         size_t promised;
     } JOBS[] = {
         { "certis_total", total, 16 << 10 },     { "certis_check", check, 16 << 10 },
+        { "certis_portions_open", open_portions, 16 << 10 },
+        { "certis_portions_add", add_portions, 16 << 10 },
+        { "certis_portions_close", close_portions, 16 << 10 },
         { "certis_tell", tell, 16 << 10 },       { "certis_derive", derive, 16 << 10 },
         { "certis_account", account, 16 << 10 }, { "certis_sheet_post", post, 16 << 10 },
         { "certis_register_enter", enter, 2 << 20 },

@@ -2,7 +2,8 @@
  *
  * Prints for each file the listing of document 01 with every fault, or the first
  * N; or how often each rule is broken; or explains the faults; or writes them as
- * a page for the screen.
+ * a page for the screen. Standard input, and a file if that is asked for, is
+ * listed as it comes and not held; the first 256 faults are then listed.
  */
 
 #include "certis.h"
@@ -15,16 +16,20 @@
 #include <string.h>
 
 static const struct form FORM = {
-    .usage = "[--explain] [--offsets] [--most N | --summary] CODE DAY FILE... | --page OUT.html [--most N] CODE DAY FILE",
+    .usage = "[--explain] [--offsets] [--most N | --summary] CODE DAY FILE... | --page OUT.html [--most N] CODE DAY FILE |\n"
+             "       --portions N [--offsets] [--most N] CODE DAY FILE...",
     .help = "  CODE       the submitter's code, up to four digits\n"
             "  DAY        the accounting day, as 20240304\n"
-            "  FILE       an input file, or - for standard input\n"
+            "  FILE       an input file, or - for standard input, which is taken in as it comes: the first 256 faults are\n"
+            "             listed, and more only where an option asks for them\n"
             "  --explain  say each rule in words, and show the lines\n"
             "  --offsets  say where in the file the first byte of each fault's line stands, counted from 0\n"
             "  --most N   list no more than the first N faults of a file\n"
             "  --summary  count the faults of each rule, and list none\n"
             "  --page OUT.html  write the faults, or the refusal, as a page for the screen; the first 500 if --most\n"
             "             says nothing else\n"
+            "  --portions N  take a file in by N bytes at a time, 1 to 10000000, and hold no more; it lists the first 256\n"
+            "             faults\n"
             "exit status: 0 no fault; 1 faults; 2 a file was refused or cannot be read, the page cannot be written, or\n"
             "wrong arguments\n",
     .least = 3,
@@ -141,9 +146,54 @@ static int check_file(const struct request *asked, const char *name, const struc
     return status;
 }
 
+/* What a portion of standard input is at most. */
+enum { PORTION = 1 << 16 };
+
+/* Whether the request asks for more than portions keep: they have the first
+ * faults, and no line of the file. */
+static bool needs_whole(const struct request *asked)
+{
+    bool many = asked->most != EVERY && asked->most > CERTIS_PORTIONS_ROOM;
+    return asked->explain || asked->summary || asked->page != NULL || many;
+}
+
+static bool in_portions(const struct request *asked, const char *name)
+{
+    return asked->portion != 0 || (strcmp(name, "-") == 0 && !needs_whole(asked));
+}
+
+/* A listing that is cut must not pass for all there is. */
+static void tell_cut(const struct request *asked, const char *name, const struct faults *found)
+{
+    if (found->refusal == 0 && asked->most == EVERY && found->count < found->total) {
+        complain("%s: the first %zu of %" PRIu64 " faults are listed", strcmp(name, "-") == 0 ? "standard input" : name, found->count,
+                 found->total);
+    }
+}
+
+static int list_portions(const struct request *asked, const char *name, bool named)
+{
+    uint32_t places[3][CERTIS_PORTIONS_ROOM];
+    struct faults found = { .lines = places[0], .rules = places[1], .offsets = places[2] };
+    if (!check_portions(name, asked->portion != 0 ? asked->portion : PORTION, asked, &found)) {
+        return FAILED;
+    }
+    if (named) {
+        printf("file %s\n", name);
+    }
+    found.count = wanted(asked, found.total);
+    found.count = found.count < CERTIS_PORTIONS_ROOM ? found.count : CERTIS_PORTIONS_ROOM;
+    int status = answer(asked, name, NULL, &found);
+    tell_cut(asked, name, &found);
+    return status;
+}
+
 static int list_file(const struct request *asked, const char *name, bool named)
 {
     struct bytes file;
+    if (in_portions(asked, name)) {
+        return list_portions(asked, name, named);
+    }
     if (!read_file(name, FILE_ROOM, &file)) {
         return FAILED;
     }
@@ -166,6 +216,12 @@ static bool names_page(const char *name)
 /* What is wrong with the options together, or NULL. */
 static const char *at_odds(const struct request *asked, int files)
 {
+    if (asked->portion != 0) {
+        return asked->explain || asked->summary || asked->page != NULL
+                   ? "--portions holds no file: --explain, --summary and --page need it whole and have no place with it"
+               : needs_whole(asked) ? "--portions keeps 256 faults: --most is at most 256 with it"
+                                    : NULL;
+    }
     if (asked->page == NULL) {
         return !asked->summary           ? NULL
                : asked->most != EVERY    ? "--summary lists no fault: --most has no place with it"
@@ -178,21 +234,38 @@ static const char *at_odds(const struct request *asked, int files)
                                                               : NULL;
 }
 
+static bool take_portion(const char *text, uint32_t *portion)
+{
+    if (!take_number(&FORM, "--portions", text, portion)) {
+        return false;
+    }
+    if (*portion == 0 || *portion > CERTIS_FILE_MOST) {
+        wrong_arguments(&FORM, "--portions is 1 to %d, not %s", CERTIS_FILE_MOST, text);
+        return false;
+    }
+    return true;
+}
+
 int desk_list(int count, char **words)
 {
     struct request asked = { .most = EVERY };
+    const char *portions = NULL;
     const struct option options[] = {
         { .name = "--explain", .flag = &asked.explain },
         { .name = "--offsets", .flag = &asked.offsets },
         { .name = "--summary", .flag = &asked.summary },
         { .name = "--most", .number = &asked.most },
         { .name = "--page", .word = &asked.page },
+        { .name = "--portions", .word = &portions },
         { .name = NULL },
     };
     int status = FAILED;
     int kept = read_arguments(count, words, &FORM, options, &status);
     if (kept < 0) {
         return status;
+    }
+    if (portions != NULL && !take_portion(portions, &asked.portion)) {
+        return FAILED;
     }
     const char *wrong = at_odds(&asked, kept - 2);
     if (wrong != NULL) {

@@ -4,6 +4,7 @@
  *   blocks.c   what a 51 states, and what its block holds
  *   explain.c  the listing with lines and words
  *   hints.c    what a whole file has wrong
+ *   portions.c the faults of a file that is not held
  *   screen.c   the listing as a page for the screen, whose parts are in screen.h
  */
 
@@ -17,8 +18,9 @@ struct request {
     bool explain;
     bool offsets;
     bool summary;
-    const char *page; /* where the page goes, or NULL */
-    uint32_t most;    /* EVERY, or what --most says */
+    const char *page;  /* where the page goes, or NULL */
+    uint32_t most;     /* EVERY, or what --most says */
+    uint32_t portion;  /* 0 for files that are read whole, or what --portions says */
     uint32_t code;
     uint32_t day;
 };
@@ -56,6 +58,14 @@ void explain_faults(const struct bytes *file, const struct faults *found, const 
 /* Writes the page, with the first faults or the refusal. All faults of the file
  * must have been found. Complains and returns false if it cannot be written. */
 bool write_page(const char *name, const struct bytes *file, const struct faults *found, const struct request *asked);
+
+/* Portions */
+
+/* Checks the file of that name, or standard input for -, portion by portion, of
+ * at most so many bytes each. The lines, rules and offsets of *found are rooms
+ * for CERTIS_PORTIONS_ROOM; refusal and total are set. Complains and returns
+ * false if it cannot be read. */
+bool check_portions(const char *name, size_t room, const struct request *asked, struct faults *found);
 
 /* Blocks */
 

@@ -26,6 +26,50 @@ mod raw {
             total: *mut u64,
         ) -> u32;
 
+        pub fn certis_open_portions(
+            code: u32,
+            day: u32,
+            wide: *mut u64,
+            length: *mut u64,
+            narrow: *mut u32,
+            frame: *mut u32,
+            stood: *mut u32,
+            small: *mut u8,
+            text: *mut u8,
+        ) -> u32;
+
+        pub fn certis_add_portion(
+            bytes: *const u8,
+            bytes_len: usize,
+            wide: *mut u64,
+            length: *mut u64,
+            narrow: *mut u32,
+            frame: *mut u32,
+            lines: *mut u32,
+            rules: *mut u32,
+            offsets: *mut u32,
+            stood: *mut u32,
+            small: *mut u8,
+            text: *mut u8,
+        ) -> u32;
+
+        pub fn certis_close_portions(
+            wide: *mut u64,
+            length: *mut u64,
+            narrow: *mut u32,
+            frame: *mut u32,
+            lines: *mut u32,
+            rules: *mut u32,
+            offsets: *mut u32,
+            stood: *mut u32,
+            small: *mut u8,
+            text: *mut u8,
+            out_lines: *mut u32,
+            out_rules: *mut u32,
+            out_offsets: *mut u32,
+            total: *mut u64,
+        ) -> u32;
+
         pub fn certis_tell(
             heading: *const u8,
             heading_len: usize,
@@ -113,6 +157,81 @@ pub fn check(
             rules_len,
             offsets.as_mut_ptr(),
             offsets_len,
+            total,
+        )
+    }
+}
+
+/// The parts of a state of portions, wherever they stand.
+pub struct Portions<'a> {
+    pub wide: &'a mut [u64; 38],
+    pub length: &'a mut u64,
+    pub narrow: &'a mut [u32; 33],
+    pub frame: &'a mut [u32; 8],
+    pub lines: &'a mut [u32; 256],
+    pub rules: &'a mut [u32; 256],
+    pub offsets: &'a mut [u32; 256],
+    pub stood: &'a mut [u32; 1296],
+    pub small: &'a mut [u8; 19],
+    pub text: &'a mut [u8; 68],
+}
+
+pub fn portions_open(code: u32, day: u32, state: Portions) -> u32 {
+    unsafe {
+        raw::certis_open_portions(
+            code,
+            day,
+            state.wide.as_mut_ptr(),
+            state.length,
+            state.narrow.as_mut_ptr(),
+            state.frame.as_mut_ptr(),
+            state.stood.as_mut_ptr(),
+            state.small.as_mut_ptr(),
+            state.text.as_mut_ptr(),
+        )
+    }
+}
+
+pub fn portions_add(bytes: &[u8], state: Portions) -> u32 {
+    unsafe {
+        raw::certis_add_portion(
+            bytes.as_ptr(),
+            bytes.len(),
+            state.wide.as_mut_ptr(),
+            state.length,
+            state.narrow.as_mut_ptr(),
+            state.frame.as_mut_ptr(),
+            state.lines.as_mut_ptr(),
+            state.rules.as_mut_ptr(),
+            state.offsets.as_mut_ptr(),
+            state.stood.as_mut_ptr(),
+            state.small.as_mut_ptr(),
+            state.text.as_mut_ptr(),
+        )
+    }
+}
+
+/// The rooms are those for lines, rules and offsets.
+pub fn portions_close(
+    state: Portions,
+    [lines, rules, offsets]: [&mut [u32; 256]; 3],
+    total: &mut u64,
+) -> u32 {
+    unsafe {
+        raw::certis_close_portions(
+            state.wide.as_mut_ptr(),
+            state.length,
+            state.narrow.as_mut_ptr(),
+            state.frame.as_mut_ptr(),
+            state.lines.as_mut_ptr(),
+            state.rules.as_mut_ptr(),
+            state.offsets.as_mut_ptr(),
+            state.stood.as_mut_ptr(),
+            state.small.as_mut_ptr(),
+            state.text.as_mut_ptr(),
+            lines.as_mut_ptr(),
+            rules.as_mut_ptr(),
+            offsets.as_mut_ptr(),
             total,
         )
     }

@@ -18,6 +18,7 @@ pub mod heading;
 pub mod items;
 pub mod lines;
 pub mod listing;
+pub mod portions;
 pub mod register;
 pub mod rules;
 pub mod samples;

@@ -22,7 +22,7 @@ use Rattle.lines.specs.Lines.{body}
 use Rattle.lines.proofs.Body.{body-take}
 use Rattle.item_reader.specs.declared.Slip.{Slip}
 use Rattle.item_reader.specs.Slips.{slipsFrom}
-use Rattle.item_reader.specs.Accepted.{Fine, Each}
+use Rattle.item_reader.specs.Accepted.{Fine, Each, Readable}
 use Rattle.item_reader.proofs.Accepted.{accepted}
 use Rattle.listing.specs.Checking.{isCode, isAccountingDay}
 use Rattle.register.specs.Register.{Range, Register, version, mostOf, sizeOf, registerBytes, registerOf, rangeStands, allStand, inOrder, latestStands, wellFormed, isRegister}
@@ -84,6 +84,17 @@ accepted-dated code today file e = dated today (usesOf file) (fine-days (input c
 
 pub body-dated : (file : List ℕ) (k : ℕ) → k ≡ length (body file) → Dated (usesOf file) → Dated (used (slipsFrom 1 (take k file)))
 body-dated file k e D = subst (λ (s : List ℕ). Dated (used (slipsFrom 1 s))) (sym (ap (λ (n : ℕ). take n file) e ∙ body-take file)) D
+
+-- ---- the headings of an accepted file read
+fine-read : (terms : Terms) (ss : List Slip) → Each (Fine terms) ss → Each Readable ss
+fine-read terms [] E = tt
+fine-read terms (s ∷ ss) E = ((E .0 .heading, E .0 .reads), fine-read terms ss (E .1))
+
+pub accepted-read : (code today : ℕ) (file : List ℕ) → length (faults (input code today) file) ≡ 0 → Each Readable (slipsFrom 1 (body file))
+accepted-read code today file e = fine-read (input code today) (slipsFrom 1 (body file)) (accepted (input code today) file e)
+
+pub body-read : (file : List ℕ) (k : ℕ) → k ≡ length (body file) → Each Readable (slipsFrom 1 (body file)) → Each Readable (slipsFrom 1 (take k file))
+body-read file k e R = subst (λ (s : List ℕ). Each Readable (slipsFrom 1 s)) (sym (ap (λ (n : ℕ). take n file) e ∙ body-take file)) R
 
 -- ---- the days of the ranges that stay
 module _ (old today : ℕ) (ro : isReal old ≡ true) (rt : isReal today ≡ true) (h : old ≤ today) where

@@ -1,7 +1,7 @@
 -- The loops that make rows of keys: of a file's items, of the ranges that a register keeps, and the test of their order.
 use Prim.Native.Nat.{ℕ, _+_, _-_, _*_, _≤_, _<_}
 use native.Mathlib.Omega.{arith}
-use mathlib.Core.Path.{_≡_, refl, sym, ap, _∙_}
+use mathlib.Core.Path.{_≡_, refl, sym, ap, subst, _∙_}
 use mathlib.Core.Bool.{Bool, true, false, cond}
 use mathlib.Core.List.{List, [], _∷_, _++_, append-nil}
 use lib.Dec.{eqb}
@@ -15,7 +15,9 @@ use Rattle.lines.specs.Lines.{lines}
 use Rattle.rules.specs.Rows.{rowsFrom}
 use Rattle.item_reader.specs.declared.Next.{Next}
 use Rattle.item_reader.specs.declared.Slip.{Slip}
+use Rattle.item_reader.specs.declared.Numbered.{Numbered}
 use Rattle.item_reader.specs.Slips.{slipsFrom, Headed, IsFirst, IsSlip}
+use Rattle.item_reader.specs.Accepted.{Each, Readable, IsNumbered}
 use Rattle.sorting.specs.Sorting.{Rises}
 use Rattle.register.specs.Bytes.{bigAt}
 use Rattle.register.specs.Register.{Range, rangesIn}
@@ -42,12 +44,20 @@ keyed (Reads h) us = go (eqb (h .number .0) 0) refl
     go false p = rw (ne-eqb (key (h .day) (h .number .0)) 0 (λ e. eqb-false (h .number .0) 0 p (omega (arith, e))))
 keyed Unreadable us = refl
 
-pub key-used : {head : Read} {h : Heading} {r : ℕ} → head ≡ Reads h → (h .number .0 ≡ 0 → ⊥) → r ≡ key (h .day) (h .number .0) → r ≡ keyAt head
-key-used {head} {h} e z q = q ∙ sym (ap keyAt e ∙ (rw (ne-eqb (h .number .0) 0 z)))
+module _ {s : List ℕ} {at : ℕ} {x : Numbered} (X : IsNumbered s at x) where
+  key-is : keyAt (Reads (X .heading)) ≡ cond (eqb (x .number) 0) 0 (key (x .day) (x .number))
+  key-is = let d = sym (X .day) in let n = sym (X .number) in λ i. cond (eqb (n i) 0) 0 (key (d i) (n i))
+
+  pub key-none : x .number ≡ 0 → 0 ≡ keyAt (Reads (X .heading))
+  key-none z = sym (key-is ∙ (rw (eq-eqb (x .number) 0 z)))
+
+  pub key-used : (x .number ≡ 0 → ⊥) → {k : ℕ} → k ≡ key (x .day) (x .number) → (k ≡ keyAt (Reads (X .heading))) × (k ≡ 0 → ⊥)
+  key-used z q = (q ∙ sym (key-is ∙ (rw (ne-eqb (x .number) 0 z))), λ e. z (omega (arith, e, q)))
 
 pub record Gathering (s keys : List ℕ) (n at : ℕ) : Type 0 where
   pub to : at ≤ length s
   pub headed : at < length s → Headed s at
+  pub reads : Each Readable (slipsFrom 1 (drop at s))
   pub few : 54 * n ≤ at
   pub left : keysOf (used (slipsFrom 1 s)) ≡ take n keys ++ keysOf (used (slipsFrom 1 (drop at s)))
 
@@ -59,10 +69,11 @@ unfolding rowsFrom lines
 nothing-left s at h = ap keysFrom (drop-past s at h)
 
 module _ {s keys : List ℕ} where
-  pub gather-start : {at : ℕ} → IsFirst s 0 at → Gathering s keys 0 at
-  gather-start B = record {
+  pub gather-start : {at : ℕ} → IsFirst s 0 at → Each Readable (slipsFrom 1 s) → Gathering s keys 0 at
+  gather-start B R = record {
     to = B .within;
     headed = B .headed;
+    reads = subst (Each Readable) (B .after 1) R;
     few = omega arith;
     left = ap (λ (l : List Slip). keysOf (used l)) (B .after 1);
   }
@@ -74,10 +85,14 @@ module _ {s keys : List ℕ} where
         ∙ keyed (x .slip .head) (used (slipsFrom 1 (drop (x .next) s)))
         ∙ ap (λ (k : ℕ). cond (eqb k 0) (keysFrom (drop (x .next) s)) (k ∷ keysFrom (drop (x .next) s))) (sym e)
 
+    still : Each Readable (slipsFrom 1 (drop (x .next) s))
+    still = subst (Each Readable) (X .cut 1) (G .reads) .1
+
     pub gather-none : k ≡ 0 → Gathering s keys n (x .next)
     gather-none z = record {
       to = X .within;
       headed = X .headed;
+      reads = still;
       few = omega (arith, G .few, X .moves);
       left = G .left ∙ ap (λ (l : List ℕ). take n keys ++ l) (on ∙ (rw (eq-eqb k 0 z)));
     }
@@ -97,6 +112,7 @@ module _ {s keys : List ℕ} where
       gather-key = record {
         to = X .within;
         headed = X .headed;
+        reads = still;
         few = omega (arith, G .few, past);
         left = stored n keys k (keysFrom (drop (x .next) s)) (keysFrom s) gather-room (G .left ∙ ap (λ (l : List ℕ). take n keys ++ l) (on ∙ (rw (ne-eqb k 0 z))));
       }

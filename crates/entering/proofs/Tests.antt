@@ -1,5 +1,5 @@
 -- Entering and a new register, by their tests in order.
-use Prim.Native.Nat.{ℕ, zero, suc, _+_, _*_, _≤_, _<_}
+use Prim.Native.Nat.{ℕ, zero, suc, _+_, _-_, _*_, _≤_, _<_}
 use native.Mathlib.Omega.{arith}
 use mathlib.Core.Path.{_≡_, refl, sym, ap, _∙_, subst}
 use mathlib.Core.Bool.{Bool, true, false, cond, not, _&&_, _||_}
@@ -18,6 +18,7 @@ use Rattle.item_reader.specs.Slips.{slipsFrom}
 use Rattle.listing.specs.declared.checking.Checked.{Checked}
 use Rattle.listing.specs.declared.checking.Checked.the-variants.{Total, Refused}
 use Rattle.listing.specs.declared.checking.Unchecked.{Unchecked}
+use Rattle.listing.proofs.Answers.{body-and-mark}
 use Rattle.listing.proofs.Unique.{some-number}
 use Rattle.listing.specs.Checking.{checkRefusals, uncheckedNumber, checkedNumber, checkedOr, Totals}
 use Rattle.register.specs.Register.{isVersion, version, mostOf, versionIn, countIn, sizeOf, headBytes, registerBytes, registerOf, hasLayout, wellFormed, isRegister}
@@ -88,6 +89,10 @@ module _ (register file : List ℕ) (code day : ℕ) (before : List ℕ) where
 
       pub not-long : length file ≤ 10000000
       not-long = ltb-false 10000000 (length file) (none-applies (checkRefusals file (input code day) 0 0 0) tt none .1 .1 .0)
+
+      -- the mark stands, and it stands last
+      pub mark-last : (1 ≤ length file) × (length file - 1 ≡ length (body file))
+      mark-last = let b = body-and-mark file (input code day) 0 0 0 none in (omega (arith, b), omega (arith, b))
 
       past : refusal ≡ first ((23 if not (isRegister register)) ∷ from-24)
       past = first-past (checkRefusals file (input code day) 0 0 0) ((23 if not (isRegister register)) ∷ from-24) tt none

@@ -11,6 +11,7 @@ ghost use mathlib.Core.Bool.{true};
 ghost use Prim.Native.Nat.{_+_, _*_, _≤_};
 ghost use lib.ListN.{length};
 ghost use Rattle.item_reader.specs.Slips.{slipsFrom};
+ghost use Rattle.item_reader.specs.Accepted.{Readable, Each};
 ghost use Rattle.register.specs.Register.{isRegister, registerOf};
 ghost use Rattle.register.specs.Entering.{used, kept};
 ghost use Rattle.register.specs.Spans.{spansOf};
@@ -57,7 +58,7 @@ fn enter_keys(register: &[u8], keys: &[u64], code: u32, day: u32, target: &mut [
 
 // The items of an accepted file. 54 * 185186 bytes are more than a file may have.
 fn enter_items(register: &[u8], s: &[u8], code: u32, day: u32, target: &mut [u8]) -> Entered
-    requires { ⌜ (isRegister (now register) ≡ true) × (length (now s) ≤ 10000000) × Dated (used (slipsFrom 1 (now s))) ⌝ }
+    requires { ⌜ (isRegister (now register) ≡ true) × (length (now s) ≤ 10000000) × Dated (used (slipsFrom 1 (now s))) × Each Readable (slipsFrom 1 (now s)) ⌝ }
     ensures { λ r. ⌜ EntersUses (registerOf (now (register .entry))) (used (slipsFrom 1 (now (s .entry)))) code day (now (target .entry)) r (now (target .exit)) ⌝ }
 {
     let mut keys = [0u64; 185186];
@@ -85,7 +86,8 @@ pub fn enter(register: &[u8], file: &[u8], code: u32, day: u32, target: &mut [u8
             if total != 0 {
                 return Entered::HasFaults;
             }
-            let k = lines::body_len(file);
+            // What checking takes has the mark as its last byte.
+            let k = file.len() - 1;
             enter_items(register, &file[..k], code, day, target)
         }
     }

@@ -1,5 +1,4 @@
 // The numbers that a file uses and the ranges that a register keeps, as keys: a day and a number in one.
-use headings::Read;
 use register::bytes;
 use register::reading;
 ghost use mathlib.Core.Path.{_≡_};
@@ -7,11 +6,12 @@ ghost use mathlib.Core.Bool.{true};
 ghost use Prim.Native.Nat.{_+_, _*_, _≤_};
 ghost use lib.ListN.{length, drop};
 ghost use Rattle.item_reader.specs.Slips.{slipsFrom};
+ghost use Rattle.item_reader.specs.Accepted.{Readable, Each};
 ghost use Rattle.register.specs.Register.{rangesIn};
 ghost use Rattle.register.specs.Entering.{used, kept};
 ghost use Rattle.register.specs.Spans.{key, spansOf};
 ghost use Rattle.sorting.specs.Sorting.{Rises, Within, Ordered};
-ghost use Rattle.entering.specs.Keys.{keyAt, Gathered, Kept};
+ghost use Rattle.entering.specs.Keys.{Gathered, Kept};
 
 fn key_of(day: u32, number: u32) -> u64
     ensures { λ r. ⌜ r ≡ key day number ⌝ }
@@ -19,35 +19,19 @@ fn key_of(day: u32, number: u32) -> u64
     (day as u64) * 10000000 + (number as u64)
 }
 
-// The key of a heading, 0 where it uses no number.
-fn key_at(head: Read) -> u64
-    ensures { λ r. ⌜ r ≡ keyAt head ⌝ }
-{
-    match head {
-        Read::Reads(h) => {
-            if h.number.0 == 0 {
-                return 0;
-            }
-            key_of(h.day, h.number.0)
-        }
-        Read::Unreadable => 0,
-    }
-}
-
-// The keys of a file's items, in the order of the file. A heading has 54 bytes, so that they have room.
+// The keys of the items of a file whose headings read, in the order of the file. A heading has 54 bytes, so that they have room.
 pub fn gather(s: &[u8], keys: &mut [u64]) -> usize
-    requires { ⌜ length (now s) ≤ 54 * length (now keys) ⌝ }
+    requires { ⌜ (length (now s) ≤ 54 * length (now keys)) × Each Readable (slipsFrom 1 (now s)) ⌝ }
     ensures { λ r. ⌜ Gathered (length (now (s .entry))) (used (slipsFrom 1 (now (s .entry)))) r (now (keys .exit)) ⌝ }
 {
     let mut n = 0;
     let mut at = item_reader::heading_from(s, 0);
     while at < s.len() {
-        let x = item_reader::head_at(s, at);
-        let head = x.head;
+        let x = item_reader::number_at(s, at);
+        let number = x.number;
         at = x.next;
-        let key = key_at(head);
-        if key != 0 {
-            keys[n] = key;
+        if number != 0 {
+            keys[n] = key_of(x.day, number);
             n += 1;
         }
     }

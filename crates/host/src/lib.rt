@@ -16,6 +16,7 @@ ghost use mathlib.Core.Bool.{cond};
 ghost use lib.Dec.{eqb};
 ghost use Rattle.listing.specs.Checking.{checkedNumber, checkedOr};
 ghost use Rattle.sheet.specs.Shown.{Shows};
+ghost use Rattle.host.specs.Arriving.{PortionsOpenedAt, PortionAddedAt, PortionsClosedAt};
 ghost use Rattle.host.specs.Face.{TotalAt, CheckedAt, ToldAt, DerivedAt, AccountAt, OpenedAt, PostedAt, BlankedAt, EnteredAt};
 
 // A total behind a pointer, where the job is done.
@@ -180,5 +181,91 @@ pub extern "C" fn certis_register_enter(
     let answer = registering::enter(register, file, code, day, target);
     let refusal = registering::number_of(answer);
     store_size(written, refusal == 0, registering::written_or(answer, 0));
+    refusal
+}
+
+// Opens a file that is to come in portions; of `struct certis_portions` the three lists are not asked for.
+#[no_mangle]
+pub extern "C" fn certis_open_portions(
+    code: u32,
+    day: u32,
+    wide: &mut [u64; 38],
+    length: &mut u64,
+    narrow: &mut [u32; 33],
+    frame: &mut [u32; 8],
+    stood: &mut [u32; 1296],
+    small: &mut [u8; 19],
+    text: &mut [u8; 68],
+) -> u32
+    ensures { λ r. ⌜ PortionsOpenedAt code day (record { wide = now (wide .entry); length = now (length .entry); narrow = now (narrow .entry); frame = now (frame .entry); small = now (small .entry); text = now (text .entry) }) (now (stood .entry)) r (record { wide = now (wide .exit); length = now (length .exit); narrow = now (narrow .exit); frame = now (frame .exit); small = now (small .exit); text = now (text .exit) }) (now (stood .exit)) ⌝ }
+{
+    let r = portions::opening::open(code, day, stood);
+    let answer = r.answer;
+    let state = r.state;
+    let refusal = portions::opening::number_of(answer);
+    stored::store(
+        refusal == 0,
+        state,
+        wide,
+        length,
+        narrow,
+        frame,
+        small,
+        text,
+    );
+    refusal
+}
+
+// A portion comes.
+#[no_mangle]
+pub extern "C" fn certis_add_portion(
+    bytes: &[u8],
+    wide: &mut [u64; 38],
+    length: &mut u64,
+    narrow: &mut [u32; 33],
+    frame: &mut [u32; 8],
+    lines: &mut [u32; 256],
+    rules: &mut [u32; 256],
+    offsets: &mut [u32; 256],
+    stood: &mut [u32; 1296],
+    small: &mut [u8; 19],
+    text: &mut [u8; 68],
+) -> u32
+    ensures { λ r. ⌜ PortionAddedAt (now (bytes .entry)) (record { numbers = record { wide = now (wide .entry); length = now (length .entry); narrow = now (narrow .entry); frame = now (frame .entry); small = now (small .entry); text = now (text .entry) }; lines = now (lines .entry); rules = now (rules .entry); offsets = now (offsets .entry); stood = now (stood .entry) }) r (record { numbers = record { wide = now (wide .exit); length = now (length .exit); narrow = now (narrow .exit); frame = now (frame .exit); small = now (small .exit); text = now (text .exit) }; lines = now (lines .exit); rules = now (rules .exit); offsets = now (offsets .exit); stood = now (stood .exit) }) ⌝ }
+{
+    let before = stored::state_in(wide, *length, narrow, frame, small, text);
+    let r = portions::adding::add(bytes, before, lines, rules, offsets, stood);
+    let state = r.state;
+    stored::store(r.taken, state, wide, length, narrow, frame, small, text);
+    portions::adding::number_of(r.taken)
+}
+
+// No more comes: `first`, `second` and `third` take the line numbers, the rules and the offsets.
+#[no_mangle]
+pub extern "C" fn certis_close_portions(
+    wide: &mut [u64; 38],
+    length: &mut u64,
+    narrow: &mut [u32; 33],
+    frame: &mut [u32; 8],
+    lines: &mut [u32; 256],
+    rules: &mut [u32; 256],
+    offsets: &mut [u32; 256],
+    stood: &mut [u32; 1296],
+    small: &mut [u8; 19],
+    text: &mut [u8; 68],
+    first: &mut [u32; 256],
+    second: &mut [u32; 256],
+    third: &mut [u32; 256],
+    total: &mut u64,
+) -> u32
+    ensures { λ r. ⌜ PortionsClosedAt (record { numbers = record { wide = now (wide .entry); length = now (length .entry); narrow = now (narrow .entry); frame = now (frame .entry); small = now (small .entry); text = now (text .entry) }; lines = now (lines .entry); rules = now (rules .entry); offsets = now (offsets .entry); stood = now (stood .entry) }) (now (first .entry)) (now (second .entry)) (now (third .entry)) (now (total .entry)) r (record { numbers = record { wide = now (wide .exit); length = now (length .exit); narrow = now (narrow .exit); frame = now (frame .exit); small = now (small .exit); text = now (text .exit) }; lines = now (lines .exit); rules = now (rules .exit); offsets = now (offsets .exit); stood = now (stood .exit) }) (now (first .exit)) (now (second .exit)) (now (third .exit)) (now (total .exit)) ⌝ }
+{
+    let before = stored::state_in(wide, *length, narrow, frame, small, text);
+    let r = answering::close(before, lines, rules, offsets, stood, first, second, third);
+    let answer = r.answer;
+    let refusal = answering::number_of(answer);
+    let faults = answering::total_or(answer, 0);
+    store_total(total, refusal == 0, faults);
+    stored::close(refusal != 18, frame);
     refusal
 }

@@ -157,6 +157,10 @@ pub kc-alike : (ls : List Line) (n m : ℕ) → kcIn n ls ≡ kcIn m ls
 unfolding Alike
 kc-alike ls n m = alike ls n m .1
 
+pub top-alike : (ls : List Line) (n m : ℕ) → topIn n ls ≡ topIn m ls
+unfolding Alike
+top-alike ls n m = alike ls n m .2
+
 -- the first KC of any lines is small
 pub kc-small : (ls : List Line) (n : ℕ) → amountOf (kcIn n ls) < 1000000000000000
 kc-small [] n = subst (λ (k : FirstKc). amountOf k < 1000000000000000) (sym (none-in n .1)) (omega arith)
@@ -202,7 +206,7 @@ module _ (l : Line) (ls : List Line) (n : ℕ) where
   unfolding Alike
   top-other e = in-other l ls n e .2 ∙ alike ls (suc n) n .2
 
-  slips-past : (kindOf (l .bytes) ≡ Heading → ⊥) → slipsIn n (l ∷ ls) ≡ slipsIn n ls
+  pub slips-past : (kindOf (l .bytes) ≡ Heading → ⊥) → slipsIn n (l ∷ ls) ≡ slipsIn n ls
   unfolding Alike
   slips-past h = go (kindOf (l .bytes)) refl ∙ alike ls (suc n) n .0
     where

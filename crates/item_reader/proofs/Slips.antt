@@ -35,10 +35,10 @@ use Rattle.rules.specs.declared.FirstKc.{FirstKc}
 use Rattle.rules.specs.declared.FirstKc.the-variants.{NoKc}
 use Rattle.item_reader.specs.declared.Gap.{Gap}
 use Rattle.item_reader.specs.declared.Title.{Title}
-use Rattle.item_reader.specs.Slips.{amountOf, Headed, IsFirst, IsSlip, IsHead}
+use Rattle.item_reader.specs.Slips.{amountOf, Headed, IsFirst, IsSlip}
 use Rattle.item_reader.specs.Search.{standsAt, Quiet, IsSign, IsGap, kcLine, readsTo, IsTitle}
 use Rattle.item_reader.proofs.Starts.{kind-told, heading-told, kc-told}
-use Rattle.item_reader.proofs.Passing.{slipsIn, kcIn, topIn, none-in, others, kc-alike, kc-small, item-here, kc-none, kc-here, top-heading, top-continuation, top-field, top-other, line-slips, line-kc, byte-slips, byte-kc}
+use Rattle.item_reader.proofs.Passing.{slipsIn, kcIn, topIn, none-in, others, kc-small, item-here, kc-none, kc-here, top-heading, top-continuation, top-field, top-other, line-slips, line-kc, byte-slips, byte-kc}
 use Rattle.item_reader.proofs.Signs.{begins-size, sign-size}
 
 -- ---- from a place to another, with no sign between
@@ -236,7 +236,7 @@ form-plain (t ∷ ts) (b ∷ x) e f =
         let z : 0x0d ≡ t = eqb-true 0x0d t (either (eqb 0x0d t) (eqb t 48) w) in
         true≢false (ap (isByte 0x0d) z ∙ or-left (isByte 0x0d t) (anyOf (isByte 0x0d) ts) e)
 
-read-plain : (x : List ℕ) → readsTo (headingOf x) ≡ true → anyOf (isByte 0x0d) x ≡ false
+pub read-plain : (x : List ℕ) → readsTo (headingOf x) ≡ true → anyOf (isByte 0x0d) x ≡ false
 unfolding headingOf template anyOf
 read-plain x e = go (isHeading x) refl e
   where
@@ -288,6 +288,3 @@ module _ {s : List ℕ} {at : ℕ} (l : at < length s) (H : Headed s at) {t : Ti
       within = F .within;
       headed = F .headed;
     }
-
-    pub head-is : IsHead s at (record { head = cond c Unreadable (t .head); next = next })
-    head-is = record { kc = kcIn 0 (lines (drop (t .next) s)); item = slip-is (λ n. kc-alike (lines (drop (t .next) s)) n 0) }

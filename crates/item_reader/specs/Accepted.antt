@@ -13,6 +13,8 @@ use Rattle.rules.specs.declared.FirstKc.the-variants.{Pays}
 use Rattle.rules.specs.Terms.{Terms}
 use Rattle.rules.specs.HeadingRules.{rule11}
 use Rattle.item_reader.specs.declared.Slip.{Slip}
+use Rattle.item_reader.specs.declared.Numbered.{Numbered}
+use Rattle.item_reader.specs.Slips.{IsHead}
 
 -- its heading reads and keeps 10 to 14, and a payment's first KC reads
 pub record Fine (terms : Terms) (s : Slip) : Type 0 where
@@ -28,3 +30,14 @@ pub record Fine (terms : Terms) (s : Slip) : Type 0 where
 abbrev pub Each : (Slip → Type 0) → List Slip → Type 0
 Each P [] = Unit {0}
 Each P (s ∷ ss) = P s × Each P ss
+
+-- its heading reads
+abbrev pub Readable : Slip → Type 0
+Readable s = (h : Heading) × (s .head ≡ Reads h)
+
+-- the day and the number that the heading at a place says, where it is known to read, and the place of the next
+pub record IsNumbered (s : List ℕ) (at : ℕ) (r : Numbered) : Type 0 where
+  pub heading : Heading
+  pub head : IsHead s at (record { head = Reads heading; next = r .next })
+  pub day : r .day ≡ heading .day
+  pub number : r .number ≡ heading .number .0

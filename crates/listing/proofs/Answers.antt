@@ -6,8 +6,10 @@ use mathlib.Core.Bool.{Bool, true, false, not, _&&_, true≢false}
 use mathlib.Core.List.{List}
 use lib.Dec.{ltb, eqb}
 use lib.ListN.{length, take}
-use borrow.Author.Tests.{lt-ltb, le-ltb, eq-eqb, ne-eqb, eqb-true}
+use borrow.Author.Tests.{lt-ltb, le-ltb, ltb-true, ltb-false, eq-eqb, ne-eqb, eqb-true}
 use Rattle.laws.specs.Refusals.{first}
+use Rattle.laws.proofs.Truth.{not-false}
+use Rattle.laws.proofs.Refusals.{none-applies}
 use Rattle.lines.specs.Lines.{body, hasMark, hasLeftovers, startsWithMark, offsetOf}
 use Rattle.lines.proofs.Body.{body-take, body-shorter, leftovers-long, body-empty}
 use Rattle.rules.specs.Terms.{Terms}
@@ -28,6 +30,14 @@ level m n k e = go (eqb m n) refl (eqb m k) refl e
     go true ea true eb e = (eqb-true m n ea, eqb-true m k eb)
     go true ea false eb e = absurd (true≢false e)
     go false ea b eb e = absurd (true≢false e)
+
+-- a file that is not refused is its body and one mark
+pub body-and-mark : (file : List ℕ) (terms : Terms) (m n k : ℕ) → first (checkRefusals file terms m n k) ≡ 0 → suc (length (body file)) ≡ length file
+body-and-mark file terms m n k e =
+    let none = none-applies (checkRefusals file terms m n k) tt e in
+    let marked : length (body file) < length file = ltb-true _ _ (body-shorter file ∙ not-false (hasMark file) (none .1 .1 .1 .1 .0)) in
+    let last : length file ≤ suc (length (body file)) = ltb-false _ _ (leftovers-long file ∙ none .1 .1 .1 .1 .1 .0) in
+    omega arith
 
 module _ (file : List ℕ) (terms : Terms) (ls rs ps : List ℕ) where
   abbrev refusal : ℕ

@@ -21,13 +21,13 @@ pub enum Checked {
     Refused(Unchecked),
 }
 
-fn is_code(code: u32) -> bool
+pub fn is_code(code: u32) -> bool
     ensures { λ r. ⌜ r ≡ isCode code ⌝ }
 {
     (1 <= code) & (code <= 9999)
 }
 
-fn is_accounting_day(day: u32) -> bool
+pub fn is_accounting_day(day: u32) -> bool
     ensures { λ r. ⌜ r ≡ isAccountingDay day ⌝ }
 {
     let real = days::is_real(day);

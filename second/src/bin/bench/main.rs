@@ -11,6 +11,7 @@ mod ends;
 #[path = "../../face.rs"]
 #[allow(unsafe_code)]
 mod face;
+mod portions;
 mod register;
 mod sheet;
 
@@ -43,6 +44,7 @@ fn main() {
     missed += small_calls(rounds);
     missed += growth(clean.job(), rounds);
     missed += worst_files(clean.job(), rounds);
+    missed += portions::portions(rounds);
     missed += sheet::posting(rounds);
     missed += register::entering(rounds);
     println!("\ngoals missed: {missed}");

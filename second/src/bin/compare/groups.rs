@@ -12,6 +12,7 @@ use crate::calls;
 use crate::group::Group;
 use crate::judge::Judge;
 use crate::options::Options;
+use crate::portions;
 use crate::refusals;
 use crate::registers;
 use crate::sheets;
@@ -24,6 +25,7 @@ pub fn all(options: &Options) -> Vec<Group> {
     let mut groups = refusals::all();
     groups.extend(calls::all());
     groups.extend(edges);
+    groups.extend(portions::all(options.files, options.large));
     groups.extend(sheets::all(options.files));
     groups.extend(registers::all(options.files));
     groups.extend(random_files(options.files));
@@ -95,23 +97,48 @@ fn other_job(judge: &mut Judge, dice: &mut Dice, _: u64) {
     judge.small(&sample, dice);
 }
 
-/// A clean file with the mutations of these numbers, one after another.
 fn mutated(judge: &mut Judge, dice: &mut Dice, numbers: &[u64]) {
+    judge.small(&mutated_file(dice, numbers), dice);
+}
+
+/// A clean file with the mutations of these numbers, one after another.
+fn mutated_file(dice: &mut Dice, numbers: &[u64]) -> Sample {
     let mut draft = clean::small(dice);
     for number in numbers {
         let mutation = &MUTATIONS[(number % MUTATIONS.len() as u64) as usize];
         (mutation.apply)(&mut draft, dice);
     }
-    judge.small(&draft.sample(), dice);
+    draft.sample()
+}
+
+fn changed_bytes(judge: &mut Judge, dice: &mut Dice, _: u64) {
+    judge.small(&changed_file(dice), dice);
 }
 
 /// A clean file with a few bytes replaced, put in or left out.
-fn changed_bytes(judge: &mut Judge, dice: &mut Dice, _: u64) {
+fn changed_file(dice: &mut Dice) -> Sample {
     let mut sample = clean::small(dice).sample();
     for _ in 0..dice.range(1, 4) {
         change_byte(&mut sample, dice);
     }
-    judge.small(&sample, dice);
+    sample
+}
+
+/// A small file of any of these makes.
+pub fn any_file(dice: &mut Dice) -> Sample {
+    match dice.below(10) {
+        0 => clean::small(dice).sample(),
+        kind @ 1..=3 => {
+            let times = if kind == 3 { dice.range(3, 12) } else { kind };
+            let numbers: Vec<u64> = (0..times).map(|_| dice.throw() >> 8).collect();
+            mutated_file(dice, &numbers)
+        }
+        4 => changed_file(dice),
+        5 | 6 => soup::lines(dice),
+        7 => soup::bytes(dice),
+        8 => soup::pieces(dice),
+        _ => soup::noise(dice),
+    }
 }
 
 fn change_byte(sample: &mut Sample, dice: &mut Dice) {

@@ -3,6 +3,7 @@
 
 const MARGIN: usize = 16;
 
+#[derive(Clone, PartialEq)]
 pub struct Lent<T> {
     places: Vec<T>,
     pattern: T,
@@ -29,6 +30,13 @@ impl<T: Copy + PartialEq> Lent<T> {
     /// The same where the length is a part of the type.
     pub fn lend_array<const N: usize>(&mut self) -> &mut [T; N] {
         self.lend().try_into().expect("memory of that length")
+    }
+
+    /// What lies around it is as it was.
+    pub fn is_framed(&self) -> bool {
+        let (before, rest) = self.places.split_at(MARGIN);
+        let behind = &rest[rest.len() - MARGIN..];
+        before.iter().chain(behind).all(|&place| place == self.pattern)
     }
 
     /// The first places hold these values, and all others what they held.

@@ -15,10 +15,12 @@ mod groups;
 mod judge;
 mod lent;
 mod options;
+mod portions;
 mod refusals;
 mod registers;
 mod report;
 mod sheets;
+mod state;
 mod tally;
 
 use std::process::ExitCode;
@@ -159,9 +161,11 @@ fn finish(entries: &[Entry], is_whole: bool) -> ExitCode {
     let mut failed = entries.iter().filter(|entry| entry.judge.failed > 0).count();
     let mut groups = entries.len();
     if is_whole {
-        groups += 4;
+        groups += 5;
         failed += usize::from(is_missing("rules", &all.tally.missing_rules()));
         failed += usize::from(is_missing("refusals", &all.tally.missing_refusals()));
+        let missing = all.tally.missing_portion_answers();
+        failed += usize::from(is_missing("answers of portions", &missing));
         let missing = all.tally.missing_sheet_answers();
         failed += usize::from(is_missing("answers of the sheet", &missing));
         let missing = all.tally.missing_register_answers();

@@ -5,11 +5,15 @@ use second::account::Halves;
 use second::check::Record;
 use second::samples::{Job, Sample};
 
+use crate::state::Call;
+
 /// Bytes of an input that are shown.
 const SHOWN: usize = 1_200;
 /// Larger inputs are not made smaller: each attempt checks the whole.
 const SHRINKABLE: usize = 200_000;
 const ATTEMPTS: usize = 1_000;
+/// Calls that are told.
+const CALLS: usize = 40;
 
 /// Still wrong, and in which way.
 type Differs<'a> = &'a dyn Fn(Job) -> Option<String>;
@@ -101,6 +105,21 @@ pub fn account(
     let (prefix, number) = (shown(prefix), shown(number));
     format!(
         "certis_account {prefix} {number}: expected {expected:?}, found {found}, answers were {before} and are {after:?}"
+    )
+}
+
+/// All calls on a state, of which the last went wrong.
+pub fn portions(calls: &[Call], expected: u32, found: u32) -> String {
+    let told = calls.iter().map(|call| match call {
+        Call::Open(code, day) => format!("open for {code} and {day}"),
+        Call::Add(start, length) => format!("add {length} bytes {}", shown(start)),
+        Call::Close => "close".to_string(),
+    });
+    let (from, told) = (calls.len().saturating_sub(CALLS), told.collect::<Vec<_>>());
+    format!(
+        "portions: expected {expected}, found {found}, or other memory than expected, after {} calls, the last of them\n  {}",
+        calls.len(),
+        told[from..].join("\n  ")
     )
 }
 

@@ -7,6 +7,8 @@ use second::check::Record;
 pub struct Tally {
     rules: [u64; 64],
     refusals: [u64; 20],
+    /// Answers of opening, adding and closing portions, 0 where it was done.
+    portion_answers: [u64; 19],
     /// Answers of opening a sheet and of posting on one, 0 where it was done.
     sheet_answers: [u64; 23],
     /// Answers of a new register and of entering, 0 where one was written.
@@ -16,6 +18,8 @@ pub struct Tally {
 /// Every rule and every refusal that the C face can give.
 const RULES: [std::ops::RangeInclusive<usize>; 3] = [1..=21, 23..=24, 30..=39];
 const REFUSALS: [std::ops::RangeInclusive<usize>; 2] = [1..=6, 9..=16];
+/// No 4: the rooms have one length by their types.
+const PORTION_ANSWERS: [std::ops::RangeInclusive<usize>; 4] = [0..=3, 5..=6, 9..=9, 18..=18];
 /// Checking's own among them; no rooms are lent, so 4 cannot be.
 const SHEET_ANSWERS: [std::ops::RangeInclusive<usize>; 4] = [0..=3, 5..=6, 9..=9, 19..=22];
 const REGISTER_ANSWERS: [std::ops::RangeInclusive<usize>; 4] = [0..=3, 5..=6, 9..=9, 23..=29];
@@ -25,6 +29,7 @@ impl Tally {
         Tally {
             rules: [0; 64],
             refusals: [0; 20],
+            portion_answers: [0; 19],
             sheet_answers: [0; 23],
             register_answers: [0; 30],
         }
@@ -40,6 +45,10 @@ impl Tally {
         self.refusals[number as usize] += 1;
     }
 
+    pub fn portion_answer(&mut self, number: u32) {
+        self.portion_answers[number as usize] += 1;
+    }
+
     pub fn sheet_answer(&mut self, number: u32) {
         self.sheet_answers[number as usize] += 1;
     }
@@ -53,6 +62,9 @@ impl Tally {
             *sum += more;
         }
         for (sum, more) in self.refusals.iter_mut().zip(other.refusals) {
+            *sum += more;
+        }
+        for (sum, more) in self.portion_answers.iter_mut().zip(other.portion_answers) {
             *sum += more;
         }
         for (sum, more) in self.sheet_answers.iter_mut().zip(other.sheet_answers) {
@@ -73,6 +85,12 @@ impl Tally {
         REFUSALS.into_iter().flatten().filter(|&number| self.refusals[number] == 0).collect()
     }
 
+    /// The answers of portions that were never given.
+    pub fn missing_portion_answers(&self) -> Vec<usize> {
+        let numbers = PORTION_ANSWERS.into_iter().flatten();
+        numbers.filter(|&number| self.portion_answers[number] == 0).collect()
+    }
+
     /// The answers of the sheet that were never given.
     pub fn missing_sheet_answers(&self) -> Vec<usize> {
         let numbers = SHEET_ANSWERS.into_iter().flatten();
@@ -90,6 +108,9 @@ impl Tally {
         print_table(RULES.into_iter().flatten().map(|rule| (rule, self.rules[rule])));
         println!("and each refusal:");
         print_table(REFUSALS.into_iter().flatten().map(|number| (number, self.refusals[number])));
+        println!("and each answer of portions, 0 where it was opened, added to or closed:");
+        let numbers = PORTION_ANSWERS.into_iter().flatten();
+        print_table(numbers.map(|number| (number, self.portion_answers[number])));
         println!("and each answer of the sheet, 0 where it was opened or posted on:");
         let numbers = SHEET_ANSWERS.into_iter().flatten();
         print_table(numbers.map(|number| (number, self.sheet_answers[number])));

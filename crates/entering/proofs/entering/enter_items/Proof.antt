@@ -18,7 +18,7 @@ slice-aggregate-gather : tie.Need-slice-aggregate-gather
 slice-aggregate-gather c = search needs
 
 gather-requires : tie.Need-gather-requires
-gather-requires c κs = search needs
+gather-requires c κs = (search needs, c .before .before .before .before .pre .3)
 
 array-borrow-prefix-keys : tie.Need-array-borrow-prefix-keys
 array-borrow-prefix-keys c = c .before .gather .ensures .within

@@ -2,7 +2,7 @@ use Prim.Native.Nat.{_-_}
 use native.Mathlib.Omega.{arith}
 use mathlib.Core.Path.{_≡_, refl, _∙_}
 use lib.ListN.{length, length-set}
-use Rattle.entering.proofs.Items.{Gathering, gather-start, gather-room, gather-key, gather-none, gather-end}
+use Rattle.entering.proofs.Items.{Gathering, key-none, key-used, gather-start, gather-room, gather-key, gather-none, gather-end}
 use borrow.Author.Needs.{needs}
 use Rattle.entering.proofs.gathering.gather.Statement.{statement}
 use Rattle.entering.proofs.gathering.gather.Tie as tie
@@ -17,13 +17,15 @@ heading-from-requires : tie.Need-heading-from-requires Inv-loop μ-loop
 heading-from-requires c κs = search needs
 
 loop-holds : tie.Need-loop-holds Inv-loop μ-loop
-loop-holds c = (gather-start (c .heading-from .ensures), refl)
+loop-holds c = (gather-start (c .heading-from .ensures) (c .before .before .before .pre .1), refl)
 
-head-at-requires : tie.Need-head-at-requires Inv-loop μ-loop
-head-at-requires c κs = (c .loop-test .taken, c .before .loop .inv .0 .headed (c .loop-test .taken))
+number-at-requires : tie.Need-number-at-requires Inv-loop μ-loop
+number-at-requires c κs =
+    let g = c .before .loop .inv .0 in
+    (c .loop-test .taken, g .headed (c .loop-test .taken), g .reads)
 
-key-at-requires : tie.Need-key-at-requires Inv-loop μ-loop
-key-at-requires c κs = search needs
+key-of-requires : tie.Need-key-of-requires Inv-loop μ-loop
+key-of-requires c κs = search needs
 
 mul-keys : tie.Need-mul-keys Inv-loop μ-loop
 mul-keys c = search needs
@@ -31,7 +33,9 @@ mul-keys c = search needs
 slice-write-keys : tie.Need-slice-write-keys Inv-loop μ-loop
 slice-write-keys c =
     let l = c .before .before .before .before in
-    gather-room (l .loop .inv .0) (c .before .before .head-at .ensures .item) (c .before .key-at .ensures) (c .if1 .taken) (l .before .before .before .before .pre) (l .loop .inv .1)
+    let x = c .before .before .number-at .ensures in
+    let k = key-used x (c .before .if1 .taken) (c .key-of .ensures) in
+    gather-room (l .loop .inv .0) (x .head .item) (k .0) (k .1) (l .before .before .before .before .pre .0) (l .loop .inv .1)
 
 add-n : tie.Need-add-n Inv-loop μ-loop
 add-n c =
@@ -39,26 +43,29 @@ add-n c =
     record { fits = omega (arith, l .loop .inv .0 .few, l .loop .inv .0 .to, l .before .before .before .before .good .0 .0) }
 
 loop-less : tie.Need-loop-less Inv-loop μ-loop
-loop-less c = omega (arith, c .before .before .head-at .ensures .item .moves, c .before .before .head-at .ensures .item .within)
+loop-less c = let x = c .before .before .number-at .ensures .head .item in omega (arith, x .moves, x .within)
 
 loop-again : tie.Need-loop-again Inv-loop μ-loop
 loop-again c =
     let l = c .before .before .before .before in
-    (gather-key (l .loop .inv .0) (c .before .before .head-at .ensures .item) (c .before .key-at .ensures) (c .if1 .taken) (l .before .before .before .before .pre) (l .loop .inv .1), length-set (l .loop .keys) (l .loop .n) (c .before .key-at .result) ∙ l .loop .inv .1)
+    let x = c .before .before .number-at .ensures in
+    let k = key-used x (c .before .if1 .taken) (c .key-of .ensures) in
+    (gather-key (l .loop .inv .0) (x .head .item) (k .0) (k .1) (l .before .before .before .before .pre .0) (l .loop .inv .1), length-set (l .loop .keys) (l .loop .n) (c .key-of .result) ∙ l .loop .inv .1)
 
 loop-less-2 : tie.Need-loop-less-2 Inv-loop μ-loop
-loop-less-2 c = omega (arith, c .before .before .head-at .ensures .item .moves, c .before .before .head-at .ensures .item .within)
+loop-less-2 c = let x = c .before .number-at .ensures .head .item in omega (arith, x .moves, x .within)
 
 loop-again-2 : tie.Need-loop-again-2 Inv-loop μ-loop
 loop-again-2 c =
-    let l = c .before .before .before .before in
-    (gather-none (l .loop .inv .0) (c .before .before .head-at .ensures .item) (c .before .key-at .ensures) (c .if1 .left), l .loop .inv .1)
+    let l = c .before .before .before in
+    let x = c .before .number-at .ensures in
+    (gather-none (l .loop .inv .0) (x .head .item) (key-none x (c .if1 .left)) refl, l .loop .inv .1)
 
 same-length : tie.Need-same-length Inv-loop μ-loop
 same-length c = c .before .loop .inv .1
 
 returns : tie.Need-returns Inv-loop μ-loop
-returns c = gather-end (c .before .loop .inv .0) (c .loop-test .left) (c .before .before .before .before .before .pre) (c .before .loop .inv .1)
+returns c = gather-end (c .before .loop .inv .0) (c .loop-test .left) (c .before .before .before .before .before .pre .0) (c .before .loop .inv .1)
 
 pub gather-spec : {M : Type 1} → statement M
 gather-spec =
@@ -68,8 +75,8 @@ gather-spec =
     μ-loop
     heading-from-requires
     loop-holds
-    head-at-requires
-    key-at-requires
+    number-at-requires
+    key-of-requires
     mul-keys
     slice-write-keys
     add-n

@@ -1,0 +1,20 @@
+use Rattle.host.proofs.Arrived.{opened-at}
+use borrow.Author.Needs.{needs}
+use Rattle.host.proofs.certis_open_portions.Statement.{statement}
+use Rattle.host.proofs.certis_open_portions.Tie as tie
+
+open-requires : tie.Need-open-requires
+open-requires c κs = search needs
+
+number-of-requires : tie.Need-number-of-requires
+number-of-requires c κs = search needs
+
+store-requires : tie.Need-store-requires
+store-requires c κs = search needs
+
+returns : tie.Need-returns
+returns c = opened-at _ _ (c .before .before .before .before .before .before .before .before .before .«open» .ensures) (c .before .before .before .before .before .before .before .number-of .ensures) (c .store .ensures)
+
+pub certis-open-portions-spec : {M : Type 1} → statement M
+certis-open-portions-spec =
+    tie.close (tie.spec open-requires number-of-requires store-requires returns)
