@@ -1,68 +1,21 @@
 // The C face: numbers and bytes only. Each function answers 0, or the number of the refusal by document 01 or 02, and a refusal leaves
 // everything behind the pointers as it was: a total or an answer is stored where nothing is refused, and is never loaded. The promises
-// are those of the jobs below, said with numbers: `listing` for checking, `outcomes` for telling and deriving, `figures` for the account
-// check, `sheet` for the turnovers, `entering` for the register.
-use entering::blanking;
-use entering::entering as registering;
-use figures::accounts;
-use headings::ItemNo;
-use listing::checking;
-use listing::checking::Checked;
-use sheet::opening;
-use sheet::posting;
+// are those of the jobs below, said with numbers, and each function is one call of the crate that proves them: `checking_face`,
+// `heading_face`, `account_face`, `sheet_face`, `register_face`, `portions_face`, and `sheet` for a turnover's text.
 use sheet::showing;
-ghost use mathlib.Core.Path.{_≡_};
-ghost use mathlib.Core.Bool.{cond};
-ghost use lib.Dec.{eqb};
-ghost use Rattle.listing.specs.Checking.{checkedNumber, checkedOr};
 ghost use Rattle.sheet.specs.Shown.{Shows};
-ghost use Rattle.host.specs.Arriving.{PortionsOpenedAt, PortionAddedAt, PortionsClosedAt};
-ghost use Rattle.host.specs.Face.{TotalAt, CheckedAt, ToldAt, DerivedAt, AccountAt, OpenedAt, PostedAt, BlankedAt, EnteredAt};
-
-// A total behind a pointer, where the job is done.
-fn store_total(at: &mut u64, done: bool, total: u64)
-    ensures { λ _. ⌜ now (at .exit) ≡ cond done total (now (at .entry)) ⌝ }
-{
-    if done {
-        *at = total;
-    }
-}
-
-// The refusal of a check, 0 for none; then its total stands behind the pointer.
-fn leave_total(answer: Checked, total: &mut u64) -> u32
-    ensures number { λ r. ⌜ r ≡ checkedNumber answer ⌝ }
-    ensures after { λ _. ⌜ now (total .exit) ≡ cond (eqb (checkedNumber answer) 0) (checkedOr answer 0) (now (total .entry)) ⌝ }
-{
-    let refusal = checking::number_of(answer);
-    let sum = checking::total_or(answer, 0);
-    store_total(total, refusal == 0, sum);
-    refusal
-}
-
-// A number behind a pointer, where the job is done.
-fn store_answer(at: &mut u32, done: bool, answer: u32)
-    ensures { λ _. ⌜ now (at .exit) ≡ cond done answer (now (at .entry)) ⌝ }
-{
-    if done {
-        *at = answer;
-    }
-}
-
-// A length behind a pointer, where the job is done.
-fn store_size(at: &mut usize, done: bool, size: usize)
-    ensures { λ _. ⌜ now (at .exit) ≡ cond done size (now (at .entry)) ⌝ }
-{
-    if done {
-        *at = size;
-    }
-}
+ghost use Rattle.checking_face.specs.Face.{TotalAt, CheckedAt};
+ghost use Rattle.heading_face.specs.Face.{ToldAt, DerivedAt};
+ghost use Rattle.account_face.specs.Face.{AccountAt};
+ghost use Rattle.sheet_face.specs.Face.{OpenedAt, PostedAt};
+ghost use Rattle.register_face.specs.Face.{BlankedAt, EnteredAt};
+ghost use Rattle.portions_face.specs.Arriving.{PortionsOpenedAt, PortionAddedAt, PortionsClosedAt};
 
 #[no_mangle]
 pub extern "C" fn certis_total(file: &[u8], code: u32, day: u32, total: &mut u64) -> u32
     ensures { λ r. ⌜ TotalAt (now (file .entry)) code day (now (total .entry)) r (now (total .exit)) ⌝ }
 {
-    let answer = checking::total(file, code, day);
-    leave_total(answer, total)
+    checking_face::total(file, code, day, total)
 }
 
 #[no_mangle]
@@ -77,8 +30,7 @@ pub extern "C" fn certis_check(
 ) -> u32
     ensures { λ r. ⌜ CheckedAt (now (file .entry)) code day (now (lines .entry)) (now (rules .entry)) (now (offsets .entry)) (now (total .entry)) r (now (lines .exit)) (now (rules .exit)) (now (offsets .exit)) (now (total .exit)) ⌝ }
 {
-    let answer = checking::check(file, code, day, lines, rules, offsets);
-    leave_total(answer, total)
+    checking_face::check(file, code, day, lines, rules, offsets, total)
 }
 
 #[no_mangle]
@@ -91,11 +43,7 @@ pub extern "C" fn certis_tell(
 ) -> u32
     ensures { λ r. ⌜ ToldAt (now (heading .entry)) outcome standing (now (kind .entry)) (now (recipient .entry)) r (now (kind .exit)) (now (recipient .exit)) ⌝ }
 {
-    let answer = outcomes::tell(heading, outcome, standing);
-    let refusal = outcomes::told_number(answer);
-    store_answer(kind, refusal == 0, outcomes::told_kind(answer, 0));
-    store_answer(recipient, refusal == 0, outcomes::told_recipient(answer, 0));
-    refusal
+    heading_face::tell(heading, outcome, standing, kind, recipient)
 }
 
 #[no_mangle]
@@ -108,7 +56,7 @@ pub extern "C" fn certis_derive(
 ) -> u32
     ensures { λ r. ⌜ DerivedAt (now (heading .entry)) outcome standing number (now (target .entry)) r (now (target .exit)) ⌝ }
 {
-    outcomes::number_of(outcomes::derive(heading, outcome, standing, ItemNo(number), target))
+    heading_face::derive(heading, outcome, standing, number, target)
 }
 
 // Behind `first` stands the answer for the prefix, behind `second` that for the number.
@@ -121,11 +69,7 @@ pub extern "C" fn certis_account(
 ) -> u32
     ensures { λ r. ⌜ AccountAt (now (prefix .entry)) (now (number .entry)) (now (first .entry)) (now (second .entry)) r (now (first .exit)) (now (second .exit)) ⌝ }
 {
-    let answer = accounts::check(prefix, number);
-    let refusal = accounts::number_of(answer);
-    store_answer(first, refusal == 0, accounts::prefix_value(answer, 0));
-    store_answer(second, refusal == 0, accounts::number_value(answer, 0));
-    refusal
+    account_face::check(prefix, number, first, second)
 }
 
 // A new sheet for at most 64 participants: of participant i, [4 * i] is the debit, [4 * i + 1] the credit, and the next two the same on
@@ -134,7 +78,7 @@ pub extern "C" fn certis_account(
 pub extern "C" fn certis_sheet_open(codes: &[u32], turnovers: &mut [i64; 256]) -> u32
     ensures { λ r. ⌜ OpenedAt (now (codes .entry)) (now (turnovers .entry)) r (now (turnovers .exit)) ⌝ }
 {
-    opening::number_of(opening::open(codes, turnovers))
+    sheet_face::open(codes, turnovers)
 }
 
 // Posts a file on an open sheet; the list is the one that it was opened with.
@@ -148,7 +92,7 @@ pub extern "C" fn certis_sheet_post(
 ) -> u32
     ensures { λ r. ⌜ PostedAt (now (codes .entry)) (now (turnovers .entry)) (now (file .entry)) code day r (now (turnovers .exit)) ⌝ }
 {
-    posting::number_of(posting::post(codes, turnovers, file, code, day))
+    sheet_face::post(codes, turnovers, file, code, day)
 }
 
 // Writes a turnover with its sign at the front of 20 bytes, and answers how many it took. It refuses nothing.
@@ -164,7 +108,7 @@ pub extern "C" fn certis_turnover_text(turnover: i64, target: &mut [u8; 20]) -> 
 pub extern "C" fn certis_register_new(code: u32, target: &mut [u8]) -> u32
     ensures { λ r. ⌜ BlankedAt code (now (target .entry)) r (now (target .exit)) ⌝ }
 {
-    blanking::number_of(blanking::blank(code, target))
+    register_face::blank(code, target)
 }
 
 #[no_mangle]
@@ -178,10 +122,7 @@ pub extern "C" fn certis_register_enter(
 ) -> u32
     ensures { λ r. ⌜ EnteredAt (now (register .entry)) (now (file .entry)) code day (now (target .entry)) (now (written .entry)) r (now (target .exit)) (now (written .exit)) ⌝ }
 {
-    let answer = registering::enter(register, file, code, day, target);
-    let refusal = registering::number_of(answer);
-    store_size(written, refusal == 0, registering::written_or(answer, 0));
-    refusal
+    register_face::enter(register, file, code, day, target, written)
 }
 
 // Opens a file that is to come in portions; of `struct certis_portions` the three lists are not asked for.
@@ -199,21 +140,7 @@ pub extern "C" fn certis_open_portions(
 ) -> u32
     ensures { λ r. ⌜ PortionsOpenedAt code day (record { wide = now (wide .entry); length = now (length .entry); narrow = now (narrow .entry); frame = now (frame .entry); small = now (small .entry); text = now (text .entry) }) (now (stood .entry)) r (record { wide = now (wide .exit); length = now (length .exit); narrow = now (narrow .exit); frame = now (frame .exit); small = now (small .exit); text = now (text .exit) }) (now (stood .exit)) ⌝ }
 {
-    let r = portions::opening::open(code, day, stood);
-    let answer = r.answer;
-    let state = r.state;
-    let refusal = portions::opening::number_of(answer);
-    stored::store(
-        refusal == 0,
-        state,
-        wide,
-        length,
-        narrow,
-        frame,
-        small,
-        text,
-    );
-    refusal
+    portions_face::open(code, day, wide, length, narrow, frame, stood, small, text)
 }
 
 // A portion comes.
@@ -233,11 +160,19 @@ pub extern "C" fn certis_add_portion(
 ) -> u32
     ensures { λ r. ⌜ PortionAddedAt (now (bytes .entry)) (record { numbers = record { wide = now (wide .entry); length = now (length .entry); narrow = now (narrow .entry); frame = now (frame .entry); small = now (small .entry); text = now (text .entry) }; lines = now (lines .entry); rules = now (rules .entry); offsets = now (offsets .entry); stood = now (stood .entry) }) r (record { numbers = record { wide = now (wide .exit); length = now (length .exit); narrow = now (narrow .exit); frame = now (frame .exit); small = now (small .exit); text = now (text .exit) }; lines = now (lines .exit); rules = now (rules .exit); offsets = now (offsets .exit); stood = now (stood .exit) }) ⌝ }
 {
-    let before = stored::state_in(wide, *length, narrow, frame, small, text);
-    let r = portions::adding::add(bytes, before, lines, rules, offsets, stood);
-    let state = r.state;
-    stored::store(r.taken, state, wide, length, narrow, frame, small, text);
-    portions::adding::number_of(r.taken)
+    portions_face::add(
+        bytes,
+        wide,
+        length,
+        narrow,
+        frame,
+        lines,
+        rules,
+        offsets,
+        stood,
+        small,
+        text,
+    )
 }
 
 // No more comes: `first`, `second` and `third` take the line numbers, the rules and the offsets.
@@ -260,12 +195,20 @@ pub extern "C" fn certis_close_portions(
 ) -> u32
     ensures { λ r. ⌜ PortionsClosedAt (record { numbers = record { wide = now (wide .entry); length = now (length .entry); narrow = now (narrow .entry); frame = now (frame .entry); small = now (small .entry); text = now (text .entry) }; lines = now (lines .entry); rules = now (rules .entry); offsets = now (offsets .entry); stood = now (stood .entry) }) (now (first .entry)) (now (second .entry)) (now (third .entry)) (now (total .entry)) r (record { numbers = record { wide = now (wide .exit); length = now (length .exit); narrow = now (narrow .exit); frame = now (frame .exit); small = now (small .exit); text = now (text .exit) }; lines = now (lines .exit); rules = now (rules .exit); offsets = now (offsets .exit); stood = now (stood .exit) }) (now (first .exit)) (now (second .exit)) (now (third .exit)) (now (total .exit)) ⌝ }
 {
-    let before = stored::state_in(wide, *length, narrow, frame, small, text);
-    let r = answering::close(before, lines, rules, offsets, stood, first, second, third);
-    let answer = r.answer;
-    let refusal = answering::number_of(answer);
-    let faults = answering::total_or(answer, 0);
-    store_total(total, refusal == 0, faults);
-    stored::close(refusal != 18, frame);
-    refusal
+    portions_face::close(
+        wide,
+        length,
+        narrow,
+        frame,
+        lines,
+        rules,
+        offsets,
+        stood,
+        small,
+        text,
+        first,
+        second,
+        third,
+        total,
+    )
 }

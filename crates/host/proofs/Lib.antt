@@ -1,3 +1,0 @@
-pub mod Stored
-pub mod Unique
-pub mod Arrived
