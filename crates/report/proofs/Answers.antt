@@ -9,9 +9,9 @@ use lib.Seq.{take-length}
 use borrow.Author.Tests.{eq-eqb, ne-eqb, eqb-true, lt-ltb, le-ltb}
 use Rattle.rules.specs.Faults.{Fault, written}
 use Rattle.ledger.specs.Slices.{held}
-use Rattle.report.specs.declared.job.Job.the-variants.{Of, NoJob}
-use Rattle.report.specs.Job.{jobOf}
-use Rattle.report.specs.Printing.{listingText, refusedText}
+use Rattle.listing_texts.specs.declared.job.Job.the-variants.{Of, NoJob}
+use Rattle.listing_texts.specs.Job.{jobOf}
+use Rattle.listing_texts.specs.Printing.{listingText, refusedText}
 use Rattle.report.specs.Program.{answerText, jobText, printed}
 
 -- ---- an answer

@@ -1,4 +1,2 @@
-pub mod Jobs
-pub mod Listings
 pub mod Answers
 pub mod Lists

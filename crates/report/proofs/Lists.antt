@@ -9,7 +9,7 @@ use Rattle.rules.specs.Faults.{faults}
 use Rattle.ledger.specs.Slices.{held}
 use Rattle.listing.specs.declared.checking.Checked.{Checked}
 use Rattle.listing.specs.Checking.{Checks, checkRefusals, checkedNumber, checkedOr}
-use Rattle.report.specs.declared.job.Job.the-variants.{Of}
+use Rattle.listing_texts.specs.declared.job.Job.the-variants.{Of}
 use Rattle.report.specs.Program.{answerText, fileText}
 use Rattle.report.proofs.Answers.{answered}
 

@@ -1,3 +1,1 @@
-pub mod Job
-pub mod Printing
 pub mod Program

@@ -8,10 +8,10 @@ use Rattle.laws.specs.Refusals.{first}
 use Rattle.rules.specs.Terms.{input}
 use Rattle.rules.specs.Faults.{Fault, faults}
 use Rattle.listing.specs.Checking.{checkRefusals}
-use Rattle.report.specs.declared.job.Job.{Job}
-use Rattle.report.specs.declared.job.Job.the-variants.{Of, NoJob}
-use Rattle.report.specs.Job.{jobOf}
-use Rattle.report.specs.Printing.{listingText, refusedText}
+use Rattle.listing_texts.specs.declared.job.Job.{Job}
+use Rattle.listing_texts.specs.declared.job.Job.the-variants.{Of, NoJob}
+use Rattle.listing_texts.specs.Job.{jobOf}
+use Rattle.listing_texts.specs.Printing.{listingText, refusedText}
 
 -- 'a line `refused K`, or the listing'; refusal 0 is none
 unfoldable pub answerText : ℕ → ℕ → ℕ → List Fault → ℕ → List ℕ

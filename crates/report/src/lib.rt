@@ -1,6 +1,3 @@
-// The texts of the listing program (document 01): the job line that it reads, the listing and the refusal that it prints.
-// Each writer promises every byte that it writes, and keeps the lent bytes that it does not write.
-// Stands on `laws`, `text`, `ledger` and `listing`.
-pub mod job;
-pub mod printing;
+// What the listing program prints for an input (document 01): a refusal, or the listing with room for 256 pairs. Promised: every byte, and
+// the lent bytes behind them are kept. Stands on `listing_texts` for the job line and the writers, and on `listing` for checking.
 pub mod program;

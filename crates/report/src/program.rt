@@ -1,17 +1,17 @@
 // The listing program's job: what it prints for an input.
-use super::job::Job;
-use super::job::read_job;
-use super::printing::put_listing;
-use super::printing::put_refused;
 use listing::checking::check;
 use listing::checking::number_of;
 use listing::checking::total_or;
+use listing_texts::job::Job;
+use listing_texts::job::read_job;
+use listing_texts::printing::put_listing;
+use listing_texts::printing::put_refused;
 ghost use mathlib.Core.Path.{_≡_};
 ghost use Prim.Native.Nat.{_≤_, min};
 ghost use lib.ListN.{length};
 ghost use Rattle.ledger.specs.Slices.{held};
-ghost use Rattle.report.specs.declared.job.Job.the-variants.{Of};
-ghost use Rattle.report.specs.Printing.{Begins};
+ghost use Rattle.listing_texts.specs.declared.job.Job.the-variants.{Of};
+ghost use Rattle.listing_texts.specs.Printing.{Begins};
 ghost use Rattle.report.specs.Program.{answerText, fileText, listOf};
 
 // How many rows a listing with room for 256 pairs has.

@@ -2,10 +2,10 @@ use native.Mathlib.Omega.{arith}
 use mathlib.Core.Path.{_≡_, sym, _∙_}
 use Prim.Native.Nat.{_≤_}
 use lib.ListN.{length}
-use Rattle.report.specs.declared.job.Job.the-variants.{Of}
-use Rattle.report.specs.Job.{jobOf}
-use Rattle.report.proofs.Jobs.{whole}
-use Rattle.report.proofs.Listings.{begins-same}
+use Rattle.listing_texts.specs.declared.job.Job.the-variants.{Of}
+use Rattle.listing_texts.specs.Job.{jobOf}
+use Rattle.listing_texts.proofs.Jobs.{whole}
+use Rattle.listing_texts.proofs.Listings.{begins-same}
 use Rattle.report.proofs.Answers.{too-long, no-job, has-job}
 use Rattle.report.proofs.program.list.Statement.{statement}
 use borrow.Author.Needs.{needs}

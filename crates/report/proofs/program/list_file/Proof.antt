@@ -1,5 +1,5 @@
 use mathlib.Core.Path.{refl}
-use Rattle.report.proofs.Listings.{begins-same}
+use Rattle.listing_texts.proofs.Listings.{begins-same}
 use Rattle.report.proofs.Lists.{shown}
 use Rattle.report.proofs.program.list_file.Statement.{statement}
 use borrow.Author.Needs.{needs}

@@ -1,5 +1,5 @@
 use borrow.Author.Needs.{needs}
-use Rattle.report.proofs.Listings.{begins-same}
+use Rattle.listing_texts.proofs.Listings.{begins-same}
 use Rattle.report.proofs.Answers.{refused, listed}
 use Rattle.report.proofs.program.put_answer.Statement.{statement}
 use Rattle.report.proofs.program.put_answer.Tie as tie

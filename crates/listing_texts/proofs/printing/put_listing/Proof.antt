@@ -6,11 +6,11 @@ use Rattle.text.specs.Strings.{Wrote}
 use Rattle.text.proofs.Wrote.{then}
 use Rattle.text.proofs.Wrote.{same-length as as-long}
 use Rattle.ledger.specs.Slices.{held}
-use Rattle.report.specs.Printing.{rowTexts, listingText}
-use Rattle.report.proofs.Listings.{rows-none, rows-more, at-start}
-use Rattle.report.proofs.printing.put_listing.Statement.{statement}
+use Rattle.listing_texts.specs.Printing.{rowTexts, listingText}
+use Rattle.listing_texts.proofs.Listings.{rows-none, rows-more, at-start}
+use Rattle.listing_texts.proofs.printing.put_listing.Statement.{statement}
 use borrow.Author.Needs.{needs}
-use Rattle.report.proofs.printing.put_listing.Tie as tie
+use Rattle.listing_texts.proofs.printing.put_listing.Tie as tie
 
 abbrev Inv-loop : tie.InvT-loop
 Inv-loop out₀ code day lines rules n total at₀ i₀ out at i =

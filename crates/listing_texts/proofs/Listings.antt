@@ -14,7 +14,7 @@ use Rattle.text.proofs.Bare.{decimal-length}
 use Rattle.text.proofs.Wrote.{then, same-length}
 use Rattle.rules.specs.Faults.{fault}
 use Rattle.ledger.specs.Slices.{held}
-use Rattle.report.specs.Printing.{rowText, rowTexts, Begins}
+use Rattle.listing_texts.specs.Printing.{rowText, rowTexts, Begins}
 
 -- a number has 20 digits at most
 pub room-for : (v at n : ℕ) → at + 20 ≤ n → at + length (decimal v) ≤ n

@@ -1,8 +1,8 @@
 use Rattle.text.proofs.Wrote.{then}
-use Rattle.report.specs.Printing.{headerText}
-use Rattle.report.proofs.printing.put_header.Statement.{statement}
+use Rattle.listing_texts.specs.Printing.{headerText}
+use Rattle.listing_texts.proofs.printing.put_header.Statement.{statement}
 use borrow.Author.Needs.{needs}
-use Rattle.report.proofs.printing.put_header.Tie as tie
+use Rattle.listing_texts.proofs.printing.put_header.Tie as tie
 
 slice-aggregate-put : tie.Need-slice-aggregate-put
 slice-aggregate-put c = search needs

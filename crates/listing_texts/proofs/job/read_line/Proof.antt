@@ -6,10 +6,10 @@ use native.Mathlib.Omega.{arith}
 use borrow.Author.Needs.{needs}
 use Rattle.text.specs.Forms.{template}
 use Rattle.text.proofs.Pieces.{ready}
-use Rattle.report.specs.Job.{jobLayout, isJobLine}
-use Rattle.report.proofs.Jobs.{found, lost}
-use Rattle.report.proofs.job.read_line.Statement.{statement}
-use Rattle.report.proofs.job.read_line.Tie as tie
+use Rattle.listing_texts.specs.Job.{jobLayout, isJobLine}
+use Rattle.listing_texts.proofs.Jobs.{found, lost}
+use Rattle.listing_texts.proofs.job.read_line.Statement.{statement}
+use Rattle.listing_texts.proofs.job.read_line.Tie as tie
 
 abbrev L : tie.Then1 → List ℕ
 L c = c .before .before .before .before .args .line .now

@@ -5,8 +5,8 @@ use mathlib.Core.List.{List, [], _∷_}
 use lib.ListN.{getD, take}
 use Rattle.laws.specs.Ascii.{ascii}
 use Rattle.text.specs.Forms.{Piece, fixed, padded, template, hasForm, numbers}
-use Rattle.report.specs.declared.job.Job.{Job}
-use Rattle.report.specs.declared.job.Job.the-variants.{Of, NoJob}
+use Rattle.listing_texts.specs.declared.job.Job.{Job}
+use Rattle.listing_texts.specs.declared.job.Job.the-variants.{Of, NoJob}
 
 abbrev pub jobLayout : List Piece
 jobLayout = padded 4 ∷ fixed (ascii " ") ∷ padded 8 ∷ fixed (ascii "\n") ∷ []

@@ -1,9 +1,9 @@
 use Rattle.text.proofs.Wrote.{then}
-use Rattle.report.specs.Printing.{refusedText}
-use Rattle.report.proofs.Listings.{room-for, at-start}
-use Rattle.report.proofs.printing.put_refused.Statement.{statement}
+use Rattle.listing_texts.specs.Printing.{refusedText}
+use Rattle.listing_texts.proofs.Listings.{room-for, at-start}
+use Rattle.listing_texts.proofs.printing.put_refused.Statement.{statement}
 use borrow.Author.Needs.{needs}
-use Rattle.report.proofs.printing.put_refused.Tie as tie
+use Rattle.listing_texts.proofs.printing.put_refused.Tie as tie
 
 slice-aggregate-put : tie.Need-slice-aggregate-put
 slice-aggregate-put c = search needs

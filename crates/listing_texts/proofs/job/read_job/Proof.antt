@@ -1,10 +1,10 @@
 use mathlib.Core.Path.{sym}
 use lib.Seq.{length-take-le}
 use borrow.Author.Needs.{needs}
-use Rattle.report.specs.Job.{jobOf}
-use Rattle.report.proofs.Jobs.{short}
-use Rattle.report.proofs.job.read_job.Statement.{statement}
-use Rattle.report.proofs.job.read_job.Tie as tie
+use Rattle.listing_texts.specs.Job.{jobOf}
+use Rattle.listing_texts.proofs.Jobs.{short}
+use Rattle.listing_texts.proofs.job.read_job.Statement.{statement}
+use Rattle.listing_texts.proofs.job.read_job.Tie as tie
 
 returns : tie.Need-returns
 returns c = short _ (c .if1 .taken)

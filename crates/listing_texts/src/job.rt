@@ -2,7 +2,7 @@
 use text::forms::has_form;
 use text::forms::part;
 ghost use mathlib.Core.Path.{_≡_};
-ghost use Rattle.report.specs.Job.{jobLineOf, jobOf};
+ghost use Rattle.listing_texts.specs.Job.{jobLineOf, jobOf};
 
 // The code and the day that it gives.
 pub enum Job {

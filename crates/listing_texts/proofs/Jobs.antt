@@ -9,8 +9,8 @@ use lib.ListN.{length, take, length-take}
 use borrow.Author.Tests.{leb-true, leb-false}
 use Rattle.text.specs.Forms.{template, numbers, partAt}
 use Rattle.text.proofs.Pieces.{form-length, placed, placed-is}
-use Rattle.report.specs.declared.job.Job.the-variants.{Of, NoJob}
-use Rattle.report.specs.Job.{jobLayout, isJobLine, jobLineOf, jobOf}
+use Rattle.listing_texts.specs.declared.job.Job.the-variants.{Of, NoJob}
+use Rattle.listing_texts.specs.Job.{jobLayout, isJobLine, jobLineOf, jobOf}
 
 module _ (line : List ℕ) where
   places : numbers jobLayout line ≡ placed jobLayout 0 line

@@ -9,7 +9,7 @@ ghost use lib.ListN.{length};
 ghost use Rattle.text.specs.Strings.{Wrote};
 ghost use Rattle.rules.specs.Faults.{fault};
 ghost use Rattle.ledger.specs.Slices.{held};
-ghost use Rattle.report.specs.Printing.{headerText, rowText, totalText, listingText, refusedText, Begins};
+ghost use Rattle.listing_texts.specs.Printing.{headerText, rowText, totalText, listingText, refusedText, Begins};
 
 fn put_header(out: &mut [u8], at: usize, code: u32, day: u32) -> usize
     requires { ⌜ at + 22 ≤ length (now out) ⌝ }
