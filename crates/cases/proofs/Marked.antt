@@ -13,8 +13,9 @@ use Rattle.headings.specs.ItemTypes.{isInput, isTrilateral, isPriority, isPayme
 use Rattle.headings.specs.HeadRules.{rule10, rule13, rule14}
 use Rattle.headings.specs.Reading.{headingOf}
 use Rattle.headings.specs.Writing.{headingText}
-use Rattle.outcomes.specs.Outcomes.{outgoing, codes, inClass}
-use Rattle.outcomes.specs.Deriving.{barred, barredTo, turned, tellRefusals, outgoingKind, recipient, numberRefusals, deriveRefusals, derivedTarget}
+use Rattle.outcome_tables.specs.Outcomes.{outgoing, codes, inClass}
+use Rattle.turning.specs.Turning.{barred, barredTo, turned}
+use Rattle.outcomes.specs.Deriving.{tellRefusals, outgoingKind, recipient, numberRefusals, deriveRefusals, derivedTarget}
 use Rattle.figures.specs.Layouts.{run, isEmpty, headIs, fits, part}
 use Rattle.figures.specs.Accounts.{weight, weighed, passes, halvesOf, accountOf}
 use Rattle.fields.specs.Kinds.{place, kindOf}

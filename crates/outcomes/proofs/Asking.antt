@@ -13,10 +13,11 @@ use Rattle.headings.specs.declared.Read.the-variants.{Reads, Unreadable}
 use Rattle.headings.specs.Reading.{headingOf}
 use Rattle.outcomes.specs.declared.Told.{Told}
 use Rattle.outcomes.specs.declared.Derived.{Derived}
-use Rattle.outcomes.specs.Deriving.{turned, numbered, tellRefusals, Tells, deriveRefusals, Derives}
+use Rattle.turning.specs.Turning.{turned}
+use Rattle.outcomes.specs.Deriving.{numbered, tellRefusals, Tells, deriveRefusals, Derives}
 use Rattle.outcomes.specs.Asking.{Foretold, Together}
 use Rattle.outcomes.proofs.Granted.{granted}
-use Rattle.outcomes.proofs.Steps.{some}
+use Rattle.turning.proofs.Steps.{some}
 use Rattle.outcomes.proofs.Joined.{joins}
 use Rattle.outcomes.proofs.Telling.{goes}
 use Rattle.outcomes.proofs.Sound.{derived-reads}

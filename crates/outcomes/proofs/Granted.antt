@@ -11,15 +11,10 @@ use Rattle.headings.specs.declared.ItemNo.{ItemNo}
 use Rattle.headings.specs.declared.Heading.{Heading}
 use Rattle.headings.specs.declared.Read.the-variants.{Reads}
 use Rattle.headings.specs.Reading.{headingOf}
-use Rattle.outcomes.specs.Outcomes.{inClass}
-use Rattle.outcomes.specs.Deriving.{barredTo, isOutcome, isStanding, isMissing, tellRefusals, numberRefusals, deriveRefusals}
-
-pub and-parts : (a b : Bool) → (a && b) ≡ true → (a ≡ true) × (b ≡ true)
-and-parts true b e = (refl, e)
-and-parts false b e = absurd (false≢true e)
-
-pub one-of-seven : (o : ℕ) → isOutcome o ≡ true → (1 ≤ o) × (o ≤ 7)
-one-of-seven o e = let v = and-parts (leb 1 o) (leb o 7) e in (leb-true 1 o (v .0), leb-true o 7 (v .1))
+use Rattle.outcome_tables.specs.Outcomes.{inClass}
+use Rattle.turning.specs.Turning.{barredTo, isOutcome, isStanding, isMissing}
+use Rattle.turning.proofs.Steps.{and-parts}
+use Rattle.outcomes.specs.Deriving.{tellRefusals, numberRefusals, deriveRefusals}
 
 pub record Granted (h : Heading) (o p : ℕ) (n : ItemNo) : Type 0 where
   pub open-to : barredTo p h ≡ false

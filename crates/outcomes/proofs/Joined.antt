@@ -14,7 +14,8 @@ use Rattle.headings.specs.Reading.{headingOf}
 use Rattle.headings.specs.Writing.{headingText, targetAfter}
 use Rattle.outcomes.specs.declared.Derived.{Derived}
 use Rattle.outcomes.specs.declared.Derived.the-variants.{NoHeading}
-use Rattle.outcomes.specs.Deriving.{barredTo, isOutcome, isStanding, isMissing, turned, numbered, turnRefusals, issueRefusals, issuedTarget, turnRefusalsOf, tellRefusals, derivedNumber, issueRefusalsOf, numberRefusals, deriveRefusals, derivedTarget, Derives}
+use Rattle.turning.specs.Turning.{barredTo, isOutcome, isStanding, isMissing, turned, turnRefusals}
+use Rattle.outcomes.specs.Deriving.{numbered, issueRefusals, issuedTarget, turnRefusalsOf, tellRefusals, derivedNumber, issueRefusalsOf, numberRefusals, deriveRefusals, derivedTarget, Derives}
 
 -- the first step's refusal wins, and where it has none the second's does
 first-wins : (a b c : Bool) (rs : List Refusal) → let k = first ((12 if a) ∷ (13 if b) ∷ (14 if c) ∷ []) in

@@ -1,12 +1,9 @@
-pub mod Seven
 pub mod Granted
-pub mod Cells
-pub mod Steps
+pub mod Issuing
 pub mod Joined
 pub mod Telling
 pub mod Small
 pub mod Sound
 pub mod Unique
 pub mod Asking
-pub mod Origins
 pub mod Whose

@@ -18,11 +18,13 @@ use Rattle.headings.specs.Reading.{headingOf}
 use Rattle.headings.specs.Writing.{headingText}
 use Rattle.headings.proofs.Answers.{text-size}
 use Rattle.headings.proofs.RoundTrips.{read-written, fits-read}
-use Rattle.outcomes.specs.Outcomes.{codes, inClass}
-use Rattle.outcomes.specs.Deriving.{turned, numbered, deriveRefusals, derivedTarget}
-use Rattle.outcomes.proofs.Seven.{seven}
-use Rattle.outcomes.proofs.Granted.{and-parts, one-of-seven, granted}
-use Rattle.outcomes.proofs.Cells.{two-digits}
+use Rattle.outcome_tables.specs.Outcomes.{codes, inClass}
+use Rattle.turning.specs.Turning.{turned}
+use Rattle.outcomes.specs.Deriving.{numbered, deriveRefusals, derivedTarget}
+use Rattle.outcome_tables.proofs.Seven.{seven}
+use Rattle.turning.proofs.Steps.{and-parts, one-of-seven}
+use Rattle.outcomes.proofs.Granted.{granted}
+use Rattle.outcome_tables.proofs.Cells.{two-digits}
 use Rattle.outcomes.proofs.Small.{Small, small, fits-small}
 
 small-codes : (b : Bool) (x y z : Code) → x .0 < 10000000 → y .0 < 10000000 → z .0 < 10000000 → (o : ℕ) → 1 ≤ o → o ≤ 7

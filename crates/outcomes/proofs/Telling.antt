@@ -10,7 +10,8 @@ use Rattle.headings.specs.declared.Read.the-variants.{Reads, Unreadable}
 use Rattle.headings.specs.Reading.{headingOf}
 use Rattle.outcomes.specs.declared.Told.{Told}
 use Rattle.outcomes.specs.declared.Told.the-variants.{Goes, NoHeading}
-use Rattle.outcomes.specs.Deriving.{turned, turnRefusals, toldNumber, toldKind, toldRecipient, tellRefusals, outgoingKind, recipient, Tells}
+use Rattle.turning.specs.Turning.{turned, turnRefusals}
+use Rattle.outcomes.specs.Deriving.{toldNumber, toldKind, toldRecipient, tellRefusals, outgoingKind, recipient, Tells}
 
 module _ (s : List ℕ) (o p : ℕ) where
   pub unread : headingOf s ≡ Unreadable → Tells s o p NoHeading

@@ -20,17 +20,20 @@ use Rattle.headings.specs.HeadRules.{rule10, rule13, rule14}
 use Rattle.headings.specs.Reading.{headingOf}
 use Rattle.headings.specs.Writing.{headingText as headingTextOf}
 use Rattle.headings.proofs.RoundTrips.{written-read}
-use Rattle.outcomes.specs.declared.Codes.{Codes}
+use Rattle.outcome_tables.specs.declared.Codes.{Codes}
 use Rattle.outcomes.specs.declared.Derived.{Derived}
-use Rattle.outcomes.specs.Outcomes.{outgoing, codes, inClass}
-use Rattle.outcomes.specs.Whose.{returned, ofType, Twins, OneItem}
-use Rattle.outcomes.specs.Deriving.{barred, barredTo, withheld, turned, numbered, tellRefusals, outgoingKind, derivedNumber, deriveRefusals, derivedTarget, Derives}
+use Rattle.outcome_tables.specs.Outcomes.{outgoing, codes, inClass}
+use Rattle.outcome_tables.specs.Outcomes.{returned}
+use Rattle.outcomes.specs.Whose.{ofType, Twins, OneItem}
+use Rattle.turning.specs.Turning.{barred, barredTo, withheld, turned}
+use Rattle.outcomes.specs.Deriving.{numbered, tellRefusals, outgoingKind, derivedNumber, deriveRefusals, derivedTarget, Derives}
 use Rattle.laws.proofs.Any.{or-left, or-right}
-use Rattle.outcomes.proofs.Seven.{seven}
-use Rattle.outcomes.proofs.Granted.{Granted, one-of-seven, granted}
+use Rattle.outcome_tables.proofs.Seven.{seven}
+use Rattle.turning.proofs.Steps.{one-of-seven}
+use Rattle.outcomes.proofs.Granted.{Granted, granted}
 use Rattle.outcomes.proofs.Telling.{kind-is}
 use Rattle.outcomes.proofs.Sound.{derived-reads}
-use Rattle.outcomes.proofs.Origins.{one-class, one-origin}
+use Rattle.outcome_tables.proofs.Origins.{one-class, one-origin}
 
 -- ---- the codes back again
 module _ (x y z x′ y′ z′ : Code) where

@@ -1,4 +1,3 @@
-pub mod Outcomes
 pub mod Deriving
 pub mod Asking
 pub mod Whose

@@ -1,17 +1,13 @@
 -- Whose item it was (A13): what two input headings have in common from which one heading was derived.
 use mathlib.Core.Path.{_≡_}
-use mathlib.Core.Bool.{Bool, true}
-use mathlib.Core.List.{List, [], _∷_}
+use mathlib.Core.Bool.{true}
+use mathlib.Core.List.{List}
 use mathlib.Core.Logic.{_⊎_}
 use Prim.Native.Nat.{ℕ}
-use Rattle.laws.specs.Tests.{among}
 use Rattle.headings.specs.declared.Heading.{Heading}
 use Rattle.headings.specs.declared.Read.the-variants.{Reads}
 use Rattle.headings.specs.Reading.{headingOf}
-
--- 'both were returned as 61 or both as 71'
-abbrev pub returned : ℕ → Bool
-returned e = among e (61 ∷ 71 ∷ [])
+use Rattle.outcome_tables.specs.Outcomes.{returned}
 
 -- a heading with another type
 abbrev pub ofType : ℕ → Heading → Heading

@@ -3,8 +3,8 @@ use mathlib.Core.Bool.{true}
 use borrow.Author.Needs.{needs}
 use borrow.Author.Tests.{not-true, not-false}
 use Rattle.headings.proofs.Answers.{at-start}
-use Rattle.outcomes.specs.Outcomes.{inClass}
-use Rattle.outcomes.proofs.Steps.{not-in-class, no-room, issued}
+use Rattle.outcome_tables.specs.Outcomes.{inClass}
+use Rattle.outcomes.proofs.Issuing.{not-in-class, no-room, issued}
 use Rattle.outcomes.proofs.issue.Statement.{statement}
 use Rattle.outcomes.proofs.issue.Tie as tie
 

@@ -3,9 +3,9 @@ use borrow.Author.Needs.{needs}
 use Rattle.headings.specs.declared.Heading.{Heading}
 use Rattle.headings.specs.declared.Read.the-variants.{Reads}
 use Rattle.headings.specs.Reading.{headingOf}
-use Rattle.outcomes.specs.declared.Turned.{Turned}
+use Rattle.turning.specs.declared.Turned.{Turned}
 use Rattle.outcomes.specs.declared.Told.the-variants.{NotInput, NoOutcome, NoEntry}
-use Rattle.outcomes.specs.Deriving.{turned, turnNumber, turnHeading}
+use Rattle.turning.specs.Turning.{turned, turnNumber, turnHeading}
 use Rattle.outcomes.proofs.Telling.{unread, stops, goes}
 use Rattle.outcomes.proofs.tell.Statement.{statement}
 use Rattle.outcomes.proofs.tell.Tie as tie

@@ -1,6 +1,6 @@
 use borrow.Author.Tests.{ne-eqb}
-use Rattle.outcomes.proofs.row.Statement.{statement}
-use Rattle.outcomes.proofs.row.Tie as tie
+use Rattle.outcome_tables.proofs.row.Statement.{statement}
+use Rattle.outcome_tables.proofs.row.Tie as tie
 
 returns : tie.Need-returns
 returns c = rw (c .match .keys1)

@@ -10,11 +10,10 @@ use lib.ListN.{getD}
 use lib.Dec.{T, eqb, leb}
 use borrow.Author.Tests.{eqb-true, leb-true, ne-eqb}
 use Rattle.laws.proofs.Entries.{and-left, and-right}
+use Rattle.laws.proofs.Truth.{both-left, both-right}
 use Rattle.headings.specs.ItemTypes.{isPriority}
-use Rattle.outcomes.specs.Outcomes.{Row, row, table, entries, outgoing, inClass}
-use Rattle.outcomes.specs.Whose.{returned}
-use Rattle.outcomes.proofs.Seven.{seven}
-use Rattle.outcomes.proofs.Granted.{and-parts}
+use Rattle.outcome_tables.specs.Outcomes.{Row, row, table, entries, outgoing, inClass, returned}
+use Rattle.outcome_tables.proofs.Seven.{seven}
 
 -- the column in which a type stands, 0 for none
 abbrev column : ℕ → ℕ → List ℕ → ℕ
@@ -80,7 +79,7 @@ module _ (k o : ℕ) (l : 1 ≤ o) (h : o ≤ 7) (some : outgoing k o ≡ 0 → 
 -- of three ranges of which each ends before the next begins, a number is in one only
 module _ (n l₁ g₁ l₂ g₂ l₃ g₃ : ℕ) where
   off : (l g m u : ℕ) → g < m → (leb l n && leb n g) ≡ true → (leb m n && leb n u) ≡ true → ⊥
-  off l g m u h p q = omega (arith, h, leb-true n g (and-parts (leb l n) (leb n g) p .1), leb-true m n (and-parts (leb m n) (leb n u) q .0))
+  off l g m u h p q = omega (arith, h, leb-true n g (both-right (leb l n) (leb n g) p), leb-true m n (both-left (leb m n) (leb n u) q))
 
   abbrev range : Bool → Bool → Bool
   range x p = cond x (leb l₃ n && leb n g₃) (cond p (leb l₂ n && leb n g₂) (leb l₁ n && leb n g₁))

@@ -8,8 +8,8 @@ use lib.ListN.{getD}
 use lib.Dec.{T, eqb, ltb}
 use borrow.Author.Tests.{eqb-true, ltb-true}
 use Rattle.laws.proofs.Entries.{and-left, and-right}
-use Rattle.outcomes.specs.Outcomes.{Row, row, table, entries, packed, outgoing}
-use Rattle.outcomes.proofs.Seven.{seven}
+use Rattle.outcome_tables.specs.Outcomes.{Row, row, table, entries, packed, outgoing}
+use Rattle.outcome_tables.proofs.Seven.{seven}
 
 -- what every row and the empty one have, the row of a type has
 abbrev each : (List ℕ → Bool) → List Row → Bool

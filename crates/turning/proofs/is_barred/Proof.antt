@@ -1,7 +1,7 @@
 use borrow.Author.Needs.{needs}
-use Rattle.outcomes.specs.Deriving.{barred, barredTo}
-use Rattle.outcomes.proofs.is_barred.Statement.{statement}
-use Rattle.outcomes.proofs.is_barred.Tie as tie
+use Rattle.turning.specs.Turning.{barred, barredTo}
+use Rattle.turning.proofs.is_barred.Statement.{statement}
+use Rattle.turning.proofs.is_barred.Tie as tie
 
 breaks-ten-requires : tie.Need-breaks-ten-requires
 breaks-ten-requires c κs = search needs

@@ -1,7 +1,7 @@
-use Rattle.outcomes.proofs.Cells.{cells}
+use Rattle.outcome_tables.proofs.Cells.{cells}
 use borrow.Author.Needs.{needs}
-use Rattle.outcomes.proofs.outgoing.Statement.{statement}
-use Rattle.outcomes.proofs.outgoing.Tie as tie
+use Rattle.outcome_tables.proofs.outgoing.Statement.{statement}
+use Rattle.outcome_tables.proofs.outgoing.Tie as tie
 
 row-requires : tie.Need-row-requires
 row-requires c κs = search needs

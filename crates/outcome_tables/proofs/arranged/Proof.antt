@@ -5,10 +5,10 @@ use lib.Dec.{ltb}
 use borrow.Author.Needs.{needs}
 use borrow.Author.Tests.{lt-ltb, le-ltb}
 use Rattle.headings.specs.declared.Code.{Code}
-use Rattle.outcomes.specs.Outcomes.{three, noCode, codes}
-use Rattle.outcomes.proofs.Seven.{seven}
-use Rattle.outcomes.proofs.arranged.Statement.{statement}
-use Rattle.outcomes.proofs.arranged.Tie as tie
+use Rattle.outcome_tables.specs.Outcomes.{three, noCode, codes}
+use Rattle.outcome_tables.proofs.Seven.{seven}
+use Rattle.outcome_tables.proofs.arranged.Statement.{statement}
+use Rattle.outcome_tables.proofs.arranged.Tie as tie
 
 -- the codes as the code picks them, at each outcome
 of-three : (x y z : Code) (o : ℕ) → 1 ≤ o → o ≤ 7 → cond (ltb o 3) (three x z y) (cond (ltb o 5) (three x y z) (three y x z)) ≡ codes true o x y z

@@ -2,11 +2,11 @@ use mathlib.Core.Path.{_≡_, refl, sym, _∙_}
 use mathlib.Core.Bool.{true, false}
 use borrow.Author.Needs.{needs}
 use borrow.Author.Tests.{not-true, not-false}
-use Rattle.outcomes.specs.Deriving.{barredTo, isOutcome, isStanding}
-use Rattle.outcomes.proofs.Granted.{one-of-seven}
-use Rattle.outcomes.proofs.Steps.{not-input, no-outcome, no-standing, none, some, whole}
-use Rattle.outcomes.proofs.turn.Statement.{statement}
-use Rattle.outcomes.proofs.turn.Tie as tie
+use Rattle.turning.specs.Turning.{barredTo, isOutcome, isStanding}
+use Rattle.turning.proofs.Steps.{one-of-seven}
+use Rattle.turning.proofs.Steps.{not-input, no-outcome, no-standing, none, some, whole}
+use Rattle.turning.proofs.turn.Statement.{statement}
+use Rattle.turning.proofs.turn.Tie as tie
 
 abbrev from : tie.Else1 → tie.Start
 from c = c .before .before

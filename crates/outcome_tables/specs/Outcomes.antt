@@ -5,9 +5,10 @@ use mathlib.Core.Bool.{Bool, cond, _&&_}
 use mathlib.Core.List.{List, [], _∷_}
 use lib.ListN.{getD}
 use lib.Dec.{leb, eqb}
+use Rattle.laws.specs.Tests.{among}
 use Rattle.headings.specs.declared.Code.{Code}
 use Rattle.headings.specs.ItemTypes.{isPriority}
-use Rattle.outcomes.specs.declared.Codes.{Codes}
+use Rattle.outcome_tables.specs.declared.Codes.{Codes}
 
 -- a row: the input type, and the outgoing types for outcomes 1 to 7; 00 where document 01 has a dash. 96, 97 and 98 have no row:
 -- 'Deriving answers 14 for them' (document 02, A3)
@@ -85,3 +86,7 @@ unfoldable pub inClass : ℕ → ℕ → Bool
 inClass kind n =
     cond (eqb kind 44) (within 9000001 9999999 n)
     (cond (isPriority kind) (within 5000001 9000000 n) (within 1 5000000 n))
+
+-- 'both were returned as 61 or both as 71'
+abbrev pub returned : ℕ → Bool
+returned e = among e (61 ∷ 71 ∷ [])

@@ -1,9 +1,9 @@
 use mathlib.Core.Path.{sym, _∙_}
 use borrow.Author.Needs.{needs}
 use borrow.Author.Tests.{eq-eqb, ne-eqb}
-use Rattle.outcomes.specs.Outcomes.{inClass}
-use Rattle.outcomes.proofs.in_class.Statement.{statement}
-use Rattle.outcomes.proofs.in_class.Tie as tie
+use Rattle.outcome_tables.specs.Outcomes.{inClass}
+use Rattle.outcome_tables.proofs.in_class.Statement.{statement}
+use Rattle.outcome_tables.proofs.in_class.Tie as tie
 
 returns : tie.Need-returns
 unfolding inClass

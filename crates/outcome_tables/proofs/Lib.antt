@@ -1,0 +1,3 @@
+pub mod Seven
+pub mod Cells
+pub mod Origins
