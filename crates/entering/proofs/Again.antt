@@ -31,12 +31,12 @@ use Rattle.register.specs.Spans.{Fits, Sound}
 use Rattle.register.proofs.Sets.{both, either, left, right, pair, order-strung, strung-order, all-sound, all-ordered}
 use Rattle.register.proofs.RoundTrip.{length-register}
 use Rattle.register.proofs.Formed.{Formed, formed, stand-sound, stands-again}
-use Rattle.entering.specs.declared.entering.Entered.the-variants.{Written}
-use Rattle.entering.specs.Keys.{Dated}
+use Rattle.adding.specs.declared.Entered.the-variants.{Written}
+use Rattle.gathering.specs.Keys.{Dated}
 use Rattle.entering.specs.Jobs.{usesOf, enterRefusals, Enters, newRegister}
-use Rattle.entering.proofs.Uses.{uses-fit, kept-strung, kept-sound}
+use Rattle.adding.proofs.Uses.{uses-fit, kept-strung, kept-sound}
 use Rattle.laws.proofs.Refusals.{none-applies}
-use Rattle.entering.proofs.Tests.{is-formed}
+use Rattle.adding.proofs.Lengths.{is-formed}
 
 -- ---- days that a register of a latest day may have
 abbrev DayStands : ℕ → ℕ → Type 0

@@ -27,37 +27,13 @@ use Rattle.register.proofs.Sets.{both}
 use Rattle.register.proofs.RoundTrip.{length-register}
 use Rattle.laws.specs.Ascii.{ascii}
 use Rattle.entering.specs.declared.blanking.Blanked.the-variants.{Done, BadCode as BadBlank, TooShort as TooShortBlank}
-use Rattle.entering.specs.declared.entering.Entered.{Entered}
-use Rattle.entering.specs.declared.entering.Entered.the-variants.{Refused as RefusedBy, NotRegister, OtherCode, DayBefore, HasFaults}
-use Rattle.entering.specs.Jobs.{usesOf, usesRefusals, enterRefusals, Enters, newRegister, Blanks}
-use Rattle.entering.specs.Steps.{EntersUses}
-use Rattle.entering.proofs.Answers.{refused, answers-as}
+use Rattle.adding.specs.declared.Entered.{Entered}
+use Rattle.adding.specs.declared.Entered.the-variants.{Refused as RefusedBy, NotRegister, OtherCode, DayBefore, HasFaults}
+use Rattle.adding.specs.Answers.{usesRefusals}
+use Rattle.entering.specs.Jobs.{usesOf, enterRefusals, Enters, newRegister, Blanks}
+use Rattle.adding.specs.Steps.{EntersUses}
+use Rattle.adding.proofs.Answered.{refused, answers-as}
 use Rattle.laws.proofs.Refusals.{none-applies, first-here, first-past}
-
--- ---- what a register's layout says of its length
-module _ (s : List ℕ) (e : isRegister s ≡ true) where
-  laid : hasLayout s ≡ true
-  laid = both (hasLayout s) (wellFormed (registerOf s)) e .0
-
-  pub is-formed : wellFormed (registerOf s) ≡ true
-  is-formed = both (hasLayout s) (wellFormed (registerOf s)) e .1
-
-  rest₁ : (isVersion (versionIn s) && (leb (countIn s) (mostOf (versionIn s)) && eqb (length s) (sizeOf (countIn s)))) ≡ true
-  rest₁ = both (begins s (ascii "CRG")) (isVersion (versionIn s) && (leb (countIn s) (mostOf (versionIn s)) && eqb (length s) (sizeOf (countIn s)))) laid .1
-
-  rest₂ : (leb (countIn s) (mostOf (versionIn s)) && eqb (length s) (sizeOf (countIn s))) ≡ true
-  rest₂ = both (isVersion (versionIn s)) (leb (countIn s) (mostOf (versionIn s)) && eqb (length s) (sizeOf (countIn s))) rest₁ .1
-
-  pub register-size : length s ≡ 13 + 12 * countIn s
-  register-size = eqb-true (length s) (sizeOf (countIn s)) (both (leb (countIn s) (mostOf (versionIn s))) (eqb (length s) (sizeOf (countIn s))) rest₂ .1)
-
-  pub register-few : countIn s ≤ mostOf version
-  register-few = most (eqb (versionIn s) 1) (eqb (versionIn s) 2) (leb-true (countIn s) (mostOf (versionIn s)) (both (leb (countIn s) (mostOf (versionIn s))) (eqb (length s) (sizeOf (countIn s))) rest₂ .0))
-    where
-      most : (x y : Bool) → countIn s ≤ cond x 64 (cond y 1024 0) → countIn s ≤ 1024
-      most true y h = omega arith
-      most false true h = h
-      most false false h = omega arith
 
 -- ---- entering
 module _ (register file : List ℕ) (code day : ℕ) (before : List ℕ) where

@@ -6,11 +6,12 @@ use mathlib.Core.List.{List}
 use lib.Dec.{eqb}
 use Rattle.listing.specs.declared.checking.Unchecked.the-variants.{BadCode, BadDay, TooLong, UnequalRooms, NoMark, Leftovers, StartsWithMark}
 use Rattle.listing.proofs.Unique.{refusalOf}
-use Rattle.entering.specs.declared.entering.Entered.{Entered}
-use Rattle.entering.specs.declared.entering.Entered.the-variants.{Written, Refused, NotRegister, OtherCode, DayBefore, HasFaults, UsedAlready, TooMany, TooShort}
+use Rattle.adding.specs.declared.Entered.{Entered}
+use Rattle.adding.specs.declared.Entered.the-variants.{Written, Refused, NotRegister, OtherCode, DayBefore, HasFaults, UsedAlready, TooMany, TooShort}
 use Rattle.entering.specs.declared.blanking.Blanked.{Blanked}
 use Rattle.entering.specs.declared.blanking.Blanked.the-variants.{Done, BadCode as BadBlank, TooShort as TooShortBlank}
-use Rattle.entering.specs.Jobs.{enteredNumber, writtenOr, Enters, blankedNumber, Blanks}
+use Rattle.adding.specs.Answers.{enteredNumber, writtenOr}
+use Rattle.entering.specs.Jobs.{Enters, blankedNumber, Blanks}
 
 -- an answer by its number and its length
 abbrev enteredOf : ℕ → ℕ → Entered

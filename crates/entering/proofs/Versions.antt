@@ -13,8 +13,9 @@ use Rattle.listing.specs.Checking.{checkRefusals}
 use Rattle.register.specs.Register.{Register, bytesIn, mostOf, registerOf, wellFormed, isRegister}
 use Rattle.register.specs.Entering.{entered}
 use Rattle.register.proofs.Formed.{SameMeaning, kept-meaning}
-use Rattle.entering.specs.declared.entering.Entered.{Entered}
-use Rattle.entering.specs.Jobs.{usesOf, usesRefusals, Answers, Enters}
+use Rattle.adding.specs.declared.Entered.{Entered}
+use Rattle.adding.specs.Answers.{usesRefusals, Answers}
+use Rattle.entering.specs.Jobs.{usesOf, Enters}
 use Rattle.entering.proofs.Unique.{enter-unique}
 
 module _ (file : List ℕ) (code day : ℕ) (before : List ℕ) where

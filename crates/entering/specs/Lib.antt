@@ -1,3 +1,1 @@
-pub mod Keys
 pub mod Jobs
-pub mod Steps

@@ -4,7 +4,8 @@ use mathlib.Core.List.{List}
 use Prim.Native.Nat.{ℕ}
 use Rattle.register.specs.Register.{registerOf}
 use Rattle.register.specs.Entering.{entered}
-use Rattle.entering.specs.Jobs.{usesOf, sizeAfter}
+use Rattle.adding.specs.Answers.{sizeAfter}
+use Rattle.entering.specs.Jobs.{usesOf}
 use Rattle.register_face.specs.Face.{BlankedAt, EnteredAt}
 
 pub blanked-unique : {code : ℕ} {before : List ℕ} {r r′ : ℕ} {after after′ : List ℕ} → BlankedAt code before r after → BlankedAt code before r′ after′ → (r ≡ r′) × (after ≡ after′)

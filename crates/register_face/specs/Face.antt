@@ -6,7 +6,8 @@ use lib.ListN.{length}
 use Rattle.laws.specs.Refusals.{first}
 use Rattle.register.specs.Register.{registerOf}
 use Rattle.register.specs.Entering.{entered}
-use Rattle.entering.specs.Jobs.{usesOf, enterRefusals, sizeAfter, targetAfter, newRegister, blankRefusals}
+use Rattle.adding.specs.Answers.{sizeAfter, targetAfter}
+use Rattle.entering.specs.Jobs.{usesOf, enterRefusals, newRegister, blankRefusals}
 
 -- certis_register_new: the refusal or 0, and the target
 pub record BlankedAt (code : ℕ) (before : List ℕ) (r : ℕ) (after : List ℕ) : Type 0 where

@@ -1,4 +1,6 @@
-// The numbers that a file uses and the ranges that a register keeps, as keys: a day and a number in one.
+// The numbers that a file uses and the ranges that a register keeps, as keys: a day and a number in one. Promised: the keys of the items of
+// an accepted file, these in order, and the ends of the ranges that stay. Stands on `item_reader` for the items, `register` for the bytes, and
+// `sorting`; its proofs cite `merging`.
 use register::bytes;
 use register::reading;
 ghost use mathlib.Core.Path.{_≡_};
@@ -11,7 +13,7 @@ ghost use Rattle.register.specs.Register.{rangesIn};
 ghost use Rattle.register.specs.Entering.{used, kept};
 ghost use Rattle.register.specs.Spans.{key, spansOf};
 ghost use Rattle.sorting.specs.Sorting.{Rises, Within, Ordered};
-ghost use Rattle.entering.specs.Keys.{Gathered, Kept};
+ghost use Rattle.gathering.specs.Keys.{Gathered, Kept};
 
 fn key_of(day: u32, number: u32) -> u64
     ensures { λ r. ⌜ r ≡ key day number ⌝ }

@@ -2,10 +2,10 @@ use Prim.Native.Nat.{_-_}
 use mathlib.Core.Bool.{false≢true}
 use lib.ListN.{length, drop}
 use Rattle.sorting.specs.Sorting.{Rises}
-use Rattle.entering.proofs.Items.{rises-more, rises-end}
+use Rattle.gathering.proofs.Items.{rises-more, rises-end}
 use borrow.Author.Needs.{needs}
-use Rattle.entering.proofs.gathering.ascends.Statement.{statement}
-use Rattle.entering.proofs.gathering.ascends.Tie as tie
+use Rattle.gathering.proofs.ascends.Statement.{statement}
+use Rattle.gathering.proofs.ascends.Tie as tie
 
 abbrev Inv-loop : tie.InvT-loop
 Inv-loop keys last₀ i₀ last i = Rises last (drop i keys) → Rises 0 keys

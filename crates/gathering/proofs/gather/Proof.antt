@@ -2,10 +2,10 @@ use Prim.Native.Nat.{_-_}
 use native.Mathlib.Omega.{arith}
 use mathlib.Core.Path.{_≡_, refl, _∙_}
 use lib.ListN.{length, length-set}
-use Rattle.entering.proofs.Items.{Gathering, key-none, key-used, gather-start, gather-room, gather-key, gather-none, gather-end}
+use Rattle.gathering.proofs.Items.{Gathering, key-none, key-used, gather-start, gather-room, gather-key, gather-none, gather-end}
 use borrow.Author.Needs.{needs}
-use Rattle.entering.proofs.gathering.gather.Statement.{statement}
-use Rattle.entering.proofs.gathering.gather.Tie as tie
+use Rattle.gathering.proofs.gather.Statement.{statement}
+use Rattle.gathering.proofs.gather.Tie as tie
 
 abbrev Inv-loop : tie.InvT-loop
 Inv-loop s keys₀ n₀ at₀ keys n at = Gathering s keys n at × (length keys ≡ length keys₀)

@@ -8,11 +8,11 @@ use Rattle.item_reader.specs.Slips.{slipsFrom}
 use Rattle.sorting.specs.Sorting.{Within}
 use Rattle.register.specs.Register.{registerOf}
 use Rattle.register.specs.Entering.{used}
-use Rattle.entering.proofs.Uses.{keys-within, uses-fit, ordered-front, enters-uses}
-use Rattle.entering.proofs.Tests.{is-formed}
+use Rattle.adding.proofs.Uses.{keys-within, uses-fit, ordered-front, enters-uses}
+use Rattle.adding.proofs.Lengths.{is-formed}
 use borrow.Author.Needs.{needs}
-use Rattle.entering.proofs.entering.enter_items.Statement.{statement}
-use Rattle.entering.proofs.entering.enter_items.Tie as tie
+use Rattle.adding.proofs.enter_items.Statement.{statement}
+use Rattle.adding.proofs.enter_items.Tie as tie
 
 slice-aggregate-gather : tie.Need-slice-aggregate-gather
 slice-aggregate-gather c = search needs

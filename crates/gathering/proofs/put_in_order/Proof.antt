@@ -1,7 +1,7 @@
 use mathlib.Core.Path.{refl}
 use borrow.Author.Needs.{needs}
-use Rattle.entering.proofs.gathering.put_in_order.Statement.{statement}
-use Rattle.entering.proofs.gathering.put_in_order.Tie as tie
+use Rattle.gathering.proofs.put_in_order.Statement.{statement}
+use Rattle.gathering.proofs.put_in_order.Tie as tie
 
 ascends-requires : tie.Need-ascends-requires
 ascends-requires c κs = search needs

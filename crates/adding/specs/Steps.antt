@@ -7,9 +7,9 @@ use Rattle.laws.specs.Refusals.{Refusal, _if_}
 use Rattle.register.specs.Register.{Register, sizeOf}
 use Rattle.register.specs.Entering.{Use, entered}
 use Rattle.register.specs.Spans.{Span, froms, tos, rangesOf}
-use Rattle.entering.specs.declared.entering.Entered.{Entered}
+use Rattle.adding.specs.declared.Entered.{Entered}
 use Rattle.merging.specs.Merging.{weave, hits, closed}
-use Rattle.entering.specs.Jobs.{usesRefusals, Answers}
+use Rattle.adding.specs.Answers.{usesRefusals, Answers}
 
 -- of keys in order and the spans that stay: the first of the spans closed up is that of 0
 module _ (ss : List Span) (keys : List ℕ) where

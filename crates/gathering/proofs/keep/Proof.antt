@@ -2,10 +2,10 @@ use native.Mathlib.Omega.{arith}
 use mathlib.Core.Path.{_≡_, refl, _∙_}
 use lib.ListN.{length, length-set}
 use borrow.Author.Tests.{not-true, not-false}
-use Rattle.entering.proofs.Items.{Keeping, keep-start, keep-take, keep-drop, keep-end}
+use Rattle.gathering.proofs.Items.{Keeping, keep-start, keep-take, keep-drop, keep-end}
 use borrow.Author.Needs.{needs}
-use Rattle.entering.proofs.gathering.keep.Statement.{statement}
-use Rattle.entering.proofs.gathering.keep.Tie as tie
+use Rattle.gathering.proofs.keep.Statement.{statement}
+use Rattle.gathering.proofs.keep.Tie as tie
 
 abbrev Inv-loop : tie.InvT-loop
 Inv-loop register day n starts₀ ends₀ k₀ at₀ left₀ starts ends k at left = Keeping register day n starts ends k at left × (length starts ≡ length starts₀) × (length ends ≡ length ends₀)

@@ -3,12 +3,12 @@ use lib.Seq.{length-take-le}
 use Rattle.register.specs.Register.{registerOf}
 use Rattle.register.specs.Entering.{kept}
 use Rattle.register.specs.Spans.{spansOf}
-use Rattle.entering.proofs.Answers.{MergedOf, merged-of, kept-as, keys-clash, keys-some, keys-many, keys-short, keys-done}
+use Rattle.adding.proofs.Answered.{MergedOf, merged-of, kept-as, keys-clash, keys-some, keys-many, keys-short, keys-done}
 use native.Mathlib.Omega.{arith}
-use Rattle.entering.proofs.Tests.{register-size, register-few}
+use Rattle.adding.proofs.Lengths.{register-size, register-few}
 use borrow.Author.Needs.{needs}
-use Rattle.entering.proofs.entering.enter_keys.Statement.{statement}
-use Rattle.entering.proofs.entering.enter_keys.Tie as tie
+use Rattle.adding.proofs.enter_keys.Statement.{statement}
+use Rattle.adding.proofs.enter_keys.Tie as tie
 
 -- what was merged, of the register's own ranges
 merged : (c : tie.After-merge) → MergedOf

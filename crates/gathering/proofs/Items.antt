@@ -24,7 +24,7 @@ use Rattle.register.specs.Register.{Range, rangesIn}
 use Rattle.register.specs.Entering.{Use, usedAt, used, kept}
 use Rattle.register.specs.Spans.{Span, key, keysOf, spanOf, spansOf, froms, tos}
 use Rattle.register.proofs.Standing.{range, next-is}
-use Rattle.entering.specs.Keys.{keyAt, Gathered, Kept}
+use Rattle.gathering.specs.Keys.{keyAt, Gathered, Kept}
 use Rattle.merging.proofs.Turns.{drop-past, drop-more, stored}
 
 -- ---- keys in order

@@ -16,12 +16,12 @@ use Rattle.register.specs.Entering.{kept}
 use Rattle.register.specs.Spans.{Span, spansOf, froms, tos, rangesOf}
 use Rattle.register.proofs.RoundTrip.{length-register}
 use Rattle.merging.specs.declared.Merged.{Merged}
-use Rattle.entering.specs.declared.entering.Entered.{Entered}
-use Rattle.entering.specs.declared.entering.Entered.the-variants.{Written, UsedAlready, TooMany, TooShort}
-use Rattle.entering.specs.Keys.{Kept}
+use Rattle.adding.specs.declared.Entered.{Entered}
+use Rattle.adding.specs.declared.Entered.the-variants.{Written, UsedAlready, TooMany, TooShort}
+use Rattle.gathering.specs.Keys.{Kept}
 use Rattle.merging.specs.Merging.{paired, weave, hits, closed, Merges}
-use Rattle.entering.specs.Jobs.{enteredNumber, writtenOr, targetAfter, sizeAfter, Answers}
-use Rattle.entering.specs.Steps.{closedUp, keysRefusals, keysRegister, EntersKeys}
+use Rattle.adding.specs.Answers.{enteredNumber, writtenOr, targetAfter, sizeAfter, Answers}
+use Rattle.adding.specs.Steps.{closedUp, keysRefusals, keysRegister, EntersKeys}
 
 -- ---- an answer
 chosen : {A : Type 0} (k : ℕ) (x x′ y : A) → (k ≡ 0 → x ≡ x′) → cond (eqb k 0) x y ≡ cond (eqb k 0) x′ y

@@ -30,14 +30,14 @@ use Rattle.register.proofs.Spans.{weaken}
 use Rattle.register.proofs.Sets.{both, order-strung, all-sound, all-spans}
 use Rattle.register.proofs.Keys.{ranges-back}
 use Rattle.register.proofs.Formed.{range-parts, stand-sound, Formed, formed}
-use Rattle.entering.specs.declared.entering.Entered.{Entered}
-use Rattle.entering.specs.Keys.{Dated}
+use Rattle.adding.specs.declared.Entered.{Entered}
+use Rattle.gathering.specs.Keys.{Dated}
 use Rattle.merging.specs.Merging.{one, weave, hits}
-use Rattle.entering.specs.Jobs.{usesRefusals}
-use Rattle.entering.specs.Steps.{closedUp, keysRefusals, keysRegister, EntersKeys, EntersUses}
+use Rattle.adding.specs.Answers.{usesRefusals}
+use Rattle.adding.specs.Steps.{closedUp, keysRefusals, keysRegister, EntersKeys, EntersUses}
 use Rattle.merging.proofs.Members.{Among, first as firstOf, later as laterOf, amongIs, count-no, count-same, closed-is}
 use Rattle.merging.proofs.Clashes.{clash-is}
-use Rattle.entering.proofs.Answers.{answers-as}
+use Rattle.adding.proofs.Answered.{answers-as}
 
 -- ---- a heading's number has seven digits
 seven : (h : Heading) → fitsHeading h ≡ true → h .number .0 < 10000000
