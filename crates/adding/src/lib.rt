@@ -3,7 +3,6 @@
 // `merging` for their ranges, `register` for the bytes, and `listing` for its refusals, which an answer of entering can be.
 use listing::checking::Unchecked;
 use register::bytes;
-use register::writing;
 ghost use mathlib.Core.Path.{_≡_};
 ghost use mathlib.Core.Bool.{true};
 ghost use Prim.Native.Nat.{_≤_};
@@ -51,7 +50,13 @@ fn enter_keys(register: &[u8], keys: &[u64], code: u32, day: u32, target: &mut [
     if target.len() < 13 + 12 * (count - 1) {
         return Entered::TooShort;
     }
-    Entered::Written(writing::put_register(target, code, day, &froms[1..count], &tos[1..count]))
+    Entered::Written(register_writer::put_register(
+        target,
+        code,
+        day,
+        &froms[1..count],
+        &tos[1..count],
+    ))
 }
 
 // The items of an accepted file. 54 * 185186 bytes are more than a file may have.

@@ -1,5 +1,4 @@
 // A new register for a participant.
-use register::writing;
 ghost use mathlib.Core.Path.{_≡_};
 ghost use Rattle.entering.specs.Jobs.{blankedNumber, Blanks};
 
@@ -18,7 +17,7 @@ pub fn blank(code: u32, target: &mut [u8]) -> Blanked
     if target.len() < 13 {
         return Blanked::TooShort;
     }
-    let n = writing::put_head(target, code as u64, 0, 0);
+    let n = register_writer::put_head(target, code as u64, 0, 0);
     Blanked::Done
 }
 

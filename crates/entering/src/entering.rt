@@ -4,7 +4,6 @@ use adding::enter_items;
 use listing::checking;
 use listing::checking::Checked;
 use register::bytes;
-use register::reading;
 ghost use mathlib.Core.Path.{_≡_};
 ghost use Rattle.adding.specs.Answers.{enteredNumber, writtenOr};
 ghost use Rattle.entering.specs.Jobs.{Enters};
@@ -16,7 +15,7 @@ pub fn enter(register: &[u8], file: &[u8], code: u32, day: u32, target: &mut [u8
     match c {
         Checked::Refused(u) => Entered::Refused(u),
         Checked::Total(total) => {
-            if !reading::is_register(register) {
+            if !register_reader::is_register(register) {
                 return Entered::NotRegister;
             }
             if bytes::read(register, 5, 2) != code {

@@ -23,7 +23,7 @@ use Rattle.register.specs.Bytes.{bigAt}
 use Rattle.register.specs.Register.{Range, rangesIn}
 use Rattle.register.specs.Entering.{Use, usedAt, used, kept}
 use Rattle.register.specs.Spans.{Span, key, keysOf, spanOf, spansOf, froms, tos}
-use Rattle.register.proofs.Standing.{range, next-is}
+use Rattle.register_reader.proofs.Standing.{range, next-is}
 use Rattle.gathering.specs.Keys.{keyAt, Gathered, Kept}
 use Rattle.merging.proofs.Turns.{drop-past, drop-more, stored}
 

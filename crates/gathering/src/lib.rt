@@ -2,7 +2,6 @@
 // an accepted file, these in order, and the ends of the ranges that stay. Stands on `item_reader` for the items, `register` for the bytes, and
 // `sorting`; its proofs cite `merging`.
 use register::bytes;
-use register::reading;
 ghost use mathlib.Core.Path.{_≡_};
 ghost use mathlib.Core.Bool.{true};
 ghost use Prim.Native.Nat.{_+_, _*_, _≤_};
@@ -81,7 +80,7 @@ pub fn keep(register: &[u8], day: u32, n: usize, starts: &mut [u64], ends: &mut 
         let to = bytes::read(register, at + 8, 4);
         at += 12;
         left -= 1;
-        if !reading::later(day, then, 10) {
+        if !register_reader::later(day, then, 10) {
             starts[k] = key_of(then, from);
             ends[k] = key_of(then, to);
             k += 1;

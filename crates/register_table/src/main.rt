@@ -2,7 +2,6 @@
 // against `stdout`. What is right was reasoned by hand from document 02, A2 and A9.
 use entering::blanking;
 use entering::entering as job;
-use register::writing;
 ghost use Prim.Native.Nat.{_+_, _*_, _≤_};
 ghost use lib.ListN.{length};
 
@@ -162,7 +161,7 @@ fn enter_ends(name: &[u8], register: &[u8], file: &[u8], target: &mut [u8]) {
 fn lay(name: &[u8], version: u8, keys: &[u64], file: &[u8], register: &mut [u8])
     requires { ⌜ 13 + 12 * length (now keys) ≤ length (now register) ⌝ }
 {
-    let n = writing::put_register(register, 300, 20240304, keys, keys);
+    let n = register_writer::put_register(register, 300, 20240304, keys, keys);
     register[4] = version;
     let mut target = [0u8; 12301];
     enter_ends(name, &register[..n], file, &mut target);
