@@ -33,7 +33,7 @@ use Rattle.rules.specs.FieldRules.{untilToday, untilThirty, rule8}
 use Rattle.rules.specs.HeadingRules.{rule11, rule12, rule15}
 use Rattle.rules.specs.BlockRules.{skips, unlike, spanWrong, misstated, statedIn}
 use Rattle.rules.specs.Spots.{ownTests, blockTests}
-use Rattle.blocks.specs.Model.{basisOf, breaks8, breaks11, ownMarks, breaks18, skipsTo, breaks20, breaks21, tellsCapped, misstatedCapped, groupBreaks, groupMarks, openMarks, closingMarks, countCap, sumCap}
+use Rattle.blocks.specs.Model.{basisOf, breaks8, breaks11, ownMarks, breaks18, skipsTo, breaks20, breaks21, tellsCapped, misstatedCapped, groupBreaks, groupMarks, openMarks, endingMarks, closingMarks, courseOf, countCap, sumCap}
 use Rattle.account.specs.Model.{plusAt, countsAfter, sumsAfter, kcBlock, headingBlock, touchedBlock, emptyBlock, readBlock, readMarks, closeAt, closeModel}
 use Rattle.account.specs.Summary.{priorityFirst, dayFirst, numberFirst, numberLast, ten, summary, marksBy}
 use Rattle.account.proofs.Ten.{cap-cap, get-ten, set-ten, same-ten}
@@ -234,7 +234,7 @@ module _ (terms : Terms) (above : List Digest) (kc : FirstKc) (span : FirstIn) (
   own-are h = rw (same-eleven terms h)
 
   marks-open : (h : Heading) → eqb (h .kind) 51 ≡ false
-      → ownMarks (basisOf terms) h kc + openMarks (summary above) h ≡ marksBy terms above (item (Reads h)) (Reads h)
+      → ownMarks (basisOf terms) h kc + openMarks (courseOf (summary above)) h ≡ marksBy terms above (item (Reads h)) (Reads h)
   unfolding openMarks ownTests blockTests summary
   marks-open h e =
       simp (
@@ -249,7 +249,7 @@ module _ (terms : Terms) (above : List Digest) (kc : FirstKc) (span : FirstIn) (
   marks-closing : (d : ℕ) (f : Code) (n : ItemNo) (s : Code) (o : ItemNo) (t : Code)
       → ownMarks (basisOf terms) (closing d f n s o t) kc + closingMarks (summary above) (closing d f n s o t) span sums
       ≡ marksBy terms above (item (Reads (closing d f n s o t))) (Reads (closing d f n s o t))
-  unfolding closingMarks groupMarks groupBreaks ownTests blockTests summary isPayment isInput
+  unfolding closingMarks endingMarks groupMarks groupBreaks ownTests blockTests summary isPayment isInput
   marks-closing d f n s o t =
       simp (
         own-are (closing d f n s o t),

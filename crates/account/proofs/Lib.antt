@@ -1,2 +1,3 @@
 mod Ten
 pub mod Accounting
+pub mod Parts

@@ -1,7 +1,7 @@
 -- Model of the code, not part of the statement: what each function of `account` computes of an account and an item.
 use Prim.Native.Nat.{ℕ, _+_, min}
 use mathlib.Core.Bool.{Bool, true, false, cond, not, _&&_, _||_}
-use mathlib.Core.List.{List}
+use mathlib.Core.List.{List, []}
 use lib.Dec.{ltb}
 use lib.ListN.{getD, set, replicate}
 use Rattle.headings.specs.declared.Heading.{Heading}
@@ -10,29 +10,18 @@ use Rattle.headings.specs.declared.Read.the-variants.{Reads, Unreadable}
 use Rattle.headings.specs.ItemTypes.{isClosing, isPayment, isPriority, groupOf}
 use Rattle.rules.specs.declared.FirstKc.{FirstKc}
 use Rattle.rules.specs.declared.FirstKc.the-variants.{NoKc, BrokenKc, Pays}
+use Rattle.rules.specs.declared.FirstIn.{FirstIn}
+use Rattle.rules.specs.declared.Sums.{Sums}
 use Rattle.rules.specs.declared.Digest.{Digest}
 use Rattle.blocks.specs.declared.Basis.{Basis}
 use Rattle.blocks.specs.declared.Block.{Block}
-use Rattle.blocks.specs.Model.{countCap, sumCap, ownMarks, openMarks, closingMarks}
+use Rattle.blocks.specs.declared.Course.{Course}
+use Rattle.blocks.specs.Model.{courseOf, blockOf, countCap, sumCap, ownMarks, openMarks, endingMarks, groupMarks, closingMarks}
 use Rattle.account.specs.declared.Accounted.{Accounted}
+use Rattle.account.specs.declared.Outline.{Outline}
 
 unfoldable pub plusAt : ℕ → List ℕ → ℕ → ℕ → List ℕ
 plusAt cap xs d a = cond (ltb d 10) (set xs d (min cap (getD xs d 0 + a))) xs
-
--- an amount more
-unfoldable pub amountBlock : Block → ℕ → ℕ → Block
-amountBlock b kind a =
-    record {
-      classed = b .classed;
-      priority = b .priority;
-      any = b .any;
-      some = b .some;
-      day = b .day;
-      first = b .first;
-      last = b .last;
-      counts = plusAt countCap (b .counts) (groupOf kind) 1;
-      sums = plusAt sumCap (b .sums) (groupOf kind) a;
-    }
 
 unfoldable pub countsAfter : List ℕ → ℕ → FirstKc → List ℕ
 countsAfter xs kind NoKc = xs
@@ -44,6 +33,7 @@ sumsAfter xs kind NoKc = xs
 sumsAfter xs kind BrokenKc = xs
 sumsAfter xs kind (Pays a day) = cond (isPayment kind) (plusAt sumCap xs (groupOf kind) (a .0)) xs
 
+-- ---- the account with an item more
 -- the first KC of an item of this type
 unfoldable pub kcBlock : Block → ℕ → FirstKc → Block
 kcBlock b kind kc =
@@ -109,12 +99,43 @@ readBlock b h kc = cond (isClosing (h .kind)) (emptyBlock (b .classed) (b .prior
 
 unfoldable pub readMarks : Basis → Block → Digest → Heading → ℕ
 readMarks j b it h =
-    ownMarks j h (it .kc) + cond (isClosing (h .kind)) (closingMarks b h (it .span) (it .sums)) (openMarks b h)
+    ownMarks j h (it .kc) + cond (isClosing (h .kind)) (closingMarks b h (it .span) (it .sums)) (openMarks (courseOf b) h)
 
-unfoldable pub closeAt : Basis → Block → Digest → Read → Accounted
+-- the account and the marks after an item
+pub record After : Type 0 where
+  pub block : Block
+  pub marks : ℕ
+
+unfoldable pub closeAt : Basis → Block → Digest → Read → After
 closeAt j b it (Reads h) = record { block = readBlock b h (it .kc); marks = readMarks j b it h }
 closeAt j b it Unreadable = record { block = touchedBlock b; marks = 0 }
 
--- the account and the marks after an item
-abbrev pub closeModel : Basis → Block → Digest → Accounted
+abbrev pub closeModel : Basis → Block → Digest → After
 closeModel j b it = closeAt j b it (it .head)
+
+-- ---- the same by parts: the course, the groups, and the marks with and without them
+unfoldable pub readCourse : Course → Heading → Course
+readCourse c h =
+    cond (isClosing (h .kind)) (courseOf (emptyBlock (c .classed) (c .priority))) (courseOf (headingBlock (blockOf c [] []) h))
+
+unfoldable pub courseMarks : Basis → Course → Heading → FirstKc → FirstIn → ℕ
+courseMarks j c h kc span = ownMarks j h kc + cond (isClosing (h .kind)) (endingMarks c h span) (openMarks c h)
+
+unfoldable pub closeCourse : Basis → Course → FirstKc → FirstIn → Read → Accounted
+closeCourse j c kc span (Reads h) = record { course = readCourse c h; marks = courseMarks j c h kc span }
+closeCourse j c kc span Unreadable = record { course = courseOf (touchedBlock (blockOf c [] [])); marks = 0 }
+
+abbrev pub courseModel : Basis → Course → Outline → Accounted
+courseModel j c it = closeCourse j c (it .kc) (it .span) (it .head)
+
+unfoldable pub countsOn : List ℕ → FirstKc → Read → List ℕ
+countsOn xs kc (Reads h) = cond (isClosing (h .kind)) (replicate 10 0) (countsAfter xs (h .kind) kc)
+countsOn xs kc Unreadable = xs
+
+unfoldable pub sumsOn : List ℕ → FirstKc → Read → List ℕ
+sumsOn xs kc (Reads h) = cond (isClosing (h .kind)) (replicate 10 0) (sumsAfter xs (h .kind) kc)
+sumsOn xs kc Unreadable = xs
+
+unfoldable pub groupsOn : List ℕ → List ℕ → Sums → Read → ℕ
+groupsOn counts sums stated (Reads h) = cond (isClosing (h .kind)) (groupMarks counts sums (stated .groups)) 0
+groupsOn counts sums stated Unreadable = 0

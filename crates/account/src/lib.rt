@@ -1,11 +1,13 @@
-// The running account of the open block, by value, brought up to date at each heading. Promised, for every account, item and basis:
-// the account and the marks that `closeModel` says (specs/Model.antt), which are those of the items themselves: the account is the summary
-// of the items above, and the marks are the set of the tests that `rules` has broken at the heading (theorem `account`).
+// The running account of the open block, brought up to date at each heading: its course by value, its groups where they are lent. Promised,
+// for every account, item and basis: the account and the marks that `closeModel` says (specs/Model.antt; by parts: `by-parts`), which
+// are those of the items themselves: the account is the summary of the items above, and the marks are the set of the tests that `rules`
+// has broken at the heading (theorem `account`).
 // It judges no rule: those are `blocks`' functions. Stands on `blocks`, on `rules`, on `ledger` for sets of marks, and on `headings` for the
 // types of items.
 use blocks::Basis;
 use blocks::Block;
-use blocks::block_rules::closing_marks;
+use blocks::Course;
+use blocks::block_rules::ending_marks;
 use blocks::block_rules::open_marks;
 use blocks::groups::capped;
 use blocks::own_rules::own_marks;
@@ -14,19 +16,28 @@ use headings::ItemNo;
 use headings::Read;
 use headings::item_types::is_payment;
 use headings::item_types::is_priority;
-use rules::Digest;
+use rules::FirstIn;
 use rules::FirstKc;
 ghost use mathlib.Core.Path.{_≡_};
 ghost use mathlib.Core.Bool.{cond};
 ghost use mathlib.Core.List.{[]};
 ghost use Prim.Native.Nat.{_<_, _^_};
+ghost use Rattle.headings.specs.ItemTypes.{groupOf};
 ghost use Rattle.rules.specs.Blocks.{closesAt};
-ghost use Rattle.account.specs.Model.{amountBlock, kcBlock, headingBlock, touchedBlock, emptyBlock, readBlock, readMarks, closeModel};
+ghost use Rattle.blocks.specs.Model.{courseOf, blockOf, countCap, sumCap};
+ghost use Rattle.account.specs.Model.{plusAt, countsAfter, sumsAfter, headingBlock, touchedBlock, emptyBlock, readCourse, courseMarks, courseModel, countsOn, sumsOn};
 ghost use Rattle.account.specs.Summary.{summary};
 
-// An item is closed: the account with it, and the marks of its heading.
+// An item as the course of its block needs it: its heading, and its first KC and IN.
+pub struct Outline {
+    pub head: Read,
+    pub kc: FirstKc,
+    pub span: FirstIn,
+}
+
+// An item is closed: the course with it, and the marks of its heading but for 30 to 39.
 pub struct Accounted {
-    pub block: Block,
+    pub course: Course,
     pub marks: u64,
 }
 
@@ -40,32 +51,47 @@ pub fn closes_block(head: Read) -> bool
     }
 }
 
-// The account with one amount more in the group of its type.
-fn with_amount(b: Block, kind: u32, amount: u64) -> Block
-    ensures { λ r. ⌜ r ≡ amountBlock b kind amount ⌝ }
+// One amount more in the group of a type.
+fn add_amount(counts: &mut [u64; 10], sums: &mut [u64; 10], kind: u32, amount: u64)
+    ensures { λ _. ⌜ now (counts .exit) ≡ plusAt countCap (now (counts .entry)) (groupOf kind) 1 ⌝ }
+    ensures { λ _. ⌜ now (sums .exit) ≡ plusAt sumCap (now (sums .entry)) (groupOf kind) amount ⌝ }
 {
     let d = (kind / 10) as usize;
     if d < 10 {
-        let mut next = b;
-        next.counts[d] = capped(10000000, b.counts[d], 1);
-        next.sums[d] = capped(100000000000000000, b.sums[d], amount);
-        return next;
+        counts[d] = capped(10000000, counts[d], 1);
+        sums[d] = capped(100000000000000000, sums[d], amount);
     }
-    b
 }
 
 // A KC counts in an item of an input type other than 51, and only if it reads.
-fn with_kc(b: Block, kind: u32, kc: FirstKc) -> Block
-    ensures { λ r. ⌜ r ≡ kcBlock b kind kc ⌝ }
+fn add_kc(counts: &mut [u64; 10], sums: &mut [u64; 10], kind: u32, kc: FirstKc)
+    ensures { λ _. ⌜ now (counts .exit) ≡ countsAfter (now (counts .entry)) kind kc ⌝ }
+    ensures { λ _. ⌜ now (sums .exit) ≡ sumsAfter (now (sums .entry)) kind kc ⌝ }
 {
     match kc {
-        FirstKc::NoKc => b,
-        FirstKc::BrokenKc => b,
+        FirstKc::NoKc => {}
+        FirstKc::BrokenKc => {}
         FirstKc::Pays(amount, _) => {
             if is_payment(kind) {
-                with_amount(b, kind, amount.0)
+                add_amount(counts, sums, kind, amount.0);
+            }
+        }
+    }
+}
+
+// The groups with an item more: a 51 clears them for the next block.
+pub fn count_in(counts: &mut [u64; 10], sums: &mut [u64; 10], head: Read, kc: FirstKc)
+    ensures { λ _. ⌜ now (counts .exit) ≡ countsOn (now (counts .entry)) kc head ⌝ }
+    ensures { λ _. ⌜ now (sums .exit) ≡ sumsOn (now (sums .entry)) kc head ⌝ }
+{
+    match head {
+        Read::Unreadable => {}
+        Read::Reads(h) => {
+            if h.kind == 51 {
+                *counts = [0; 10];
+                *sums = [0; 10];
             } else {
-                b
+                add_kc(counts, sums, h.kind, kc);
             }
         }
     }
@@ -84,46 +110,98 @@ fn number_kept(some: bool, first: ItemNo, number: ItemNo) -> ItemNo
     if some { first } else { number }
 }
 
-// The account with a readable heading more that is no 51.
-fn with_heading(b: Block, h: Heading) -> Block
-    ensures { λ r. ⌜ r ≡ headingBlock b h ⌝ }
+// The course with a readable heading more that is no 51.
+fn with_heading(c: Course, h: Heading) -> Course
+    ensures { λ r. ⌜ r ≡ courseOf (headingBlock (blockOf c [] []) h) ⌝ }
 {
     let paying = is_payment(h.kind);
     let own = is_priority(h.kind);
-    let day = day_kept(b.some, b.day, h.day);
-    let first = number_kept(b.some, b.first, h.number);
+    let day = day_kept(c.some, c.day, h.day);
+    let first = number_kept(c.some, c.first, h.number);
     let last = h.number;
-    let counts = b.counts;
-    let sums = b.sums;
-    Block {
-        classed: b.classed | paying,
-        priority: (b.classed & b.priority) | (!b.classed & (paying & own)),
+    Course {
+        classed: c.classed | paying,
+        priority: (c.classed & c.priority) | (!c.classed & (paying & own)),
         any: true,
         some: true,
-        day: day,
-        first: first,
-        last: last,
-        counts: counts,
-        sums: sums,
+        day,
+        first,
+        last,
     }
 }
 
-// The account with an unreadable heading more: the block has a heading, and all else goes on.
-fn with_unreadable(b: Block) -> Block
-    ensures { λ r. ⌜ r ≡ touchedBlock b ⌝ }
+// The course with an unreadable heading more: the block has a heading, and all else goes on.
+fn with_unreadable(c: Course) -> Course
+    ensures { λ r. ⌜ r ≡ courseOf (touchedBlock (blockOf c [] [])) ⌝ }
 {
-    let mut next = b;
+    let mut next = c;
     next.any = true;
     next
 }
 
-// An account with no item of the open block, in a file of this class.
-fn no_block(classed: bool, priority: bool) -> Block
-    ensures { λ r. ⌜ r ≡ emptyBlock classed priority ⌝ }
+// No item of the open block yet, in a file of this class.
+fn no_course(classed: bool, priority: bool) -> Course
+    ensures { λ r. ⌜ r ≡ courseOf (emptyBlock classed priority) ⌝ }
+{
+    Course {
+        classed,
+        priority,
+        any: false,
+        some: false,
+        day: 0,
+        first: ItemNo(0),
+        last: ItemNo(0),
+    }
+}
+
+fn read_course(c: Course, h: Heading) -> Course
+    ensures { λ r. ⌜ r ≡ readCourse c h ⌝ }
+{
+    if h.kind == 51 {
+        no_course(c.classed, c.priority)
+    } else {
+        with_heading(c, h)
+    }
+}
+
+fn read_marks(basis: Basis, c: Course, h: Heading, kc: FirstKc, span: FirstIn) -> u64
+    ensures { λ r. ⌜ (r ≡ courseMarks basis c h kc span) × (r < 2 ^ 23) ⌝ }
+{
+    let own = own_marks(basis, h, kc);
+    if h.kind == 51 {
+        own + ending_marks(c, h, span)
+    } else {
+        own + open_marks(c, h)
+    }
+}
+
+// An item is closed, by value.
+pub fn close_item(c: Course, it: Outline, basis: Basis) -> Accounted
+    ensures { λ r. ⌜ (r ≡ courseModel basis c it) × (r .marks < 2 ^ 23) ⌝ }
+{
+    let head = it.head;
+    let kc = it.kc;
+    let span = it.span;
+    match head {
+        Read::Unreadable => {
+            let course = with_unreadable(c);
+            Accounted { course, marks: 0 }
+        }
+        Read::Reads(h) => {
+            let course = read_course(c, h);
+            let marks = read_marks(basis, c, h, kc, span);
+            Accounted { course, marks }
+        }
+    }
+}
+
+// The account before the first item.
+pub fn start() -> Block
+    ensures { λ r. ⌜ r ≡ summary [] ⌝ }
 {
     Block {
-        classed: classed,
-        priority: priority,
+        classed: false,
+        priority: false,
         any: false,
         some: false,
         day: 0,
@@ -134,58 +212,37 @@ fn no_block(classed: bool, priority: bool) -> Block
     }
 }
 
-fn read_block(b: Block, h: Heading, kc: FirstKc) -> Block
-    ensures { λ r. ⌜ r ≡ readBlock b h kc ⌝ }
+// The parts of an account, and an account of its parts.
+pub fn course_of(b: Block) -> Course
+    ensures { λ r. ⌜ r ≡ courseOf b ⌝ }
 {
-    if h.kind == 51 {
-        no_block(b.classed, b.priority)
-    } else {
-        with_kc(with_heading(b, h), h.kind, kc)
+    let first = b.first;
+    let last = b.last;
+    Course {
+        classed: b.classed,
+        priority: b.priority,
+        any: b.any,
+        some: b.some,
+        day: b.day,
+        first,
+        last,
     }
 }
 
-fn read_marks(basis: Basis, b: Block, it: Digest, h: Heading) -> u64
-    ensures { λ r. ⌜ (r ≡ readMarks basis b it h) × (r < 2 ^ 40) ⌝ }
+pub fn block_of(c: Course, counts: [u64; 10], sums: [u64; 10]) -> Block
+    ensures { λ r. ⌜ r ≡ blockOf c counts sums ⌝ }
 {
-    let kc = it.kc;
-    let span = it.span;
-    let stated = it.sums;
-    let own = own_marks(basis, h, kc);
-    if h.kind == 51 {
-        own + closing_marks(b, h, span, stated)
-    } else {
-        own + open_marks(b, h)
+    let first = c.first;
+    let last = c.last;
+    Block {
+        classed: c.classed,
+        priority: c.priority,
+        any: c.any,
+        some: c.some,
+        day: c.day,
+        first,
+        last,
+        counts,
+        sums,
     }
-}
-
-// An item is closed, by value.
-pub fn close_item(b: Block, it: Digest, basis: Basis) -> Accounted
-    ensures { λ r. ⌜ (r ≡ closeModel basis b it) × (r .marks < 2 ^ 40) ⌝ }
-{
-    let head = it.head;
-    let kc = it.kc;
-    match head {
-        Read::Unreadable => {
-            let next = with_unreadable(b);
-            Accounted {
-                block: next,
-                marks: 0,
-            }
-        }
-        Read::Reads(h) => {
-            let next = read_block(b, h, kc);
-            let marks = read_marks(basis, b, it, h);
-            Accounted {
-                block: next,
-                marks: marks,
-            }
-        }
-    }
-}
-
-// The account before the first item.
-pub fn start() -> Block
-    ensures { λ r. ⌜ r ≡ summary [] ⌝ }
-{
-    no_block(false, false)
 }

@@ -25,6 +25,34 @@ use Rattle.rules.specs.HeadingRules.{noKc}
 use Rattle.rules.specs.BlockRules.{unlike, statedIn}
 use Rattle.blocks.specs.declared.Basis.{Basis}
 use Rattle.blocks.specs.declared.Block.{Block}
+use Rattle.blocks.specs.declared.Course.{Course}
+
+-- ---- an account and its parts
+abbrev pub courseOf : Block → Course
+courseOf b =
+    record {
+      classed = b .classed;
+      priority = b .priority;
+      any = b .any;
+      some = b .some;
+      day = b .day;
+      first = b .first;
+      last = b .last;
+    }
+
+abbrev pub blockOf : Course → List ℕ → List ℕ → Block
+blockOf c counts sums =
+    record {
+      classed = c .classed;
+      priority = c .priority;
+      any = c .any;
+      some = c .some;
+      day = c .day;
+      first = c .first;
+      last = c .last;
+      counts = counts;
+      sums = sums;
+    }
 
 -- ---- the rules of one item
 unfoldable pub basisOf : Terms → Basis
@@ -104,14 +132,19 @@ groupMarks counts sums groups =
     + mark 36 (groupBreaks counts sums groups 6) + mark 37 (groupBreaks counts sums groups 7)
     + mark 38 (groupBreaks counts sums groups 8) + mark 39 (groupBreaks counts sums groups 9)
 
-unfoldable pub openMarks : Block → Heading → ℕ
-openMarks b h =
-    mark 18 (breaks18 (b .some) (b .day) (h .day)) + mark 19 (breaks19 (b .some) (b .last) (h .number))
-    + mark 20 (breaks20 (b .classed) (b .priority) (h .kind))
+-- 18 to 20 at a heading that is no 51
+unfoldable pub openMarks : Course → Heading → ℕ
+openMarks c h =
+    mark 18 (breaks18 (c .some) (c .day) (h .day)) + mark 19 (breaks19 (c .some) (c .last) (h .number))
+    + mark 20 (breaks20 (c .classed) (c .priority) (h .kind))
 
+-- 17 to 19 and 21 at a 51
+unfoldable pub endingMarks : Course → Heading → FirstIn → ℕ
+endingMarks c h span =
+    mark 17 (not (c .any)) + mark 18 (breaks18 (c .some) (c .day) (h .day))
+    + mark 19 (breaks19Closing (c .some) (c .last) (h .number))
+    + mark 21 (breaks21 (c .some) (c .first) (c .last) span)
+
+-- with 30 to 39
 unfoldable pub closingMarks : Block → Heading → FirstIn → Sums → ℕ
-closingMarks b h span stated =
-    mark 17 (not (b .any)) + mark 18 (breaks18 (b .some) (b .day) (h .day))
-    + mark 19 (breaks19Closing (b .some) (b .last) (h .number))
-    + mark 21 (breaks21 (b .some) (b .first) (b .last) span)
-    + groupMarks (b .counts) (b .sums) (stated .groups)
+closingMarks b h span stated = endingMarks (courseOf b) h span + groupMarks (b .counts) (b .sums) (stated .groups)

@@ -1,6 +1,5 @@
 // The rules of blocks, each asked of the account and not of the items above.
-use crate::Block;
-use crate::groups::group_marks;
+use crate::Course;
 use crate::marks::MARK_17;
 use crate::marks::MARK_18;
 use crate::marks::MARK_19;
@@ -12,11 +11,10 @@ use headings::ItemNo;
 use headings::item_types::is_payment;
 use headings::item_types::is_priority;
 use rules::FirstIn;
-use rules::Sums;
 ghost use mathlib.Core.Path.{_≡_};
-ghost use Prim.Native.Nat.{_+_, _-_, _<_, _≤_, _^_};
+ghost use Prim.Native.Nat.{_+_, _<_, _^_};
 ghost use lib.Dec.{eqb};
-ghost use Rattle.blocks.specs.Model.{breaks18, skipsTo, breaks19, breaks19Closing, breaks20, breaks21, openMarks, closingMarks};
+ghost use Rattle.blocks.specs.Model.{breaks18, skipsTo, breaks19, breaks19Closing, breaks20, breaks21, openMarks, endingMarks};
 
 fn breaks_eighteen(some: bool, first: u32, day: u32) -> bool
     ensures { λ r. ⌜ r ≡ breaks18 some first day ⌝ }
@@ -74,24 +72,20 @@ fn breaks_twenty_one(some: bool, first: ItemNo, last: ItemNo, span: FirstIn) -> 
 }
 
 // The marks of 18 to 20 at a heading that is no 51.
-pub fn open_marks(b: Block, h: Heading) -> u64
-    ensures { λ r. ⌜ (r ≡ openMarks b h) × (r < 2 ^ 21) ⌝ }
+pub fn open_marks(c: Course, h: Heading) -> u64
+    ensures { λ r. ⌜ (r ≡ openMarks c h) × (r < 2 ^ 21) ⌝ }
 {
-    flag(breaks_eighteen(b.some, b.day, h.day), MARK_18)
-        + flag(breaks_nineteen(b.some, b.last, h.number), MARK_19)
-        + flag(breaks_twenty(b.classed, b.priority, h.kind), MARK_20)
+    flag(breaks_eighteen(c.some, c.day, h.day), MARK_18)
+        + flag(breaks_nineteen(c.some, c.last, h.number), MARK_19)
+        + flag(breaks_twenty(c.classed, c.priority, h.kind), MARK_20)
 }
 
-// The marks of 17 to 21 and 30 to 39 at a 51.
-pub fn closing_marks(b: Block, h: Heading, span: FirstIn, stated: Sums) -> u64
-    ensures { λ r. ⌜ (r ≡ closingMarks b h span stated) × (r ≤ 2 ^ 40 - 2 ^ 16) ⌝ }
+// The marks of 17 to 19 and 21 at a 51.
+pub fn ending_marks(c: Course, h: Heading, span: FirstIn) -> u64
+    ensures { λ r. ⌜ (r ≡ endingMarks c h span) × (r < 2 ^ 22) ⌝ }
 {
-    let counts = b.counts;
-    let sums = b.sums;
-    let groups = stated.groups;
-    flag(!b.any, MARK_17)
-        + flag(breaks_eighteen(b.some, b.day, h.day), MARK_18)
-        + flag(breaks_nineteen_closing(b.some, b.last, h.number), MARK_19)
-        + flag(breaks_twenty_one(b.some, b.first, b.last, span), MARK_21)
-        + group_marks(counts, sums, groups)
+    flag(!c.any, MARK_17)
+        + flag(breaks_eighteen(c.some, c.day, h.day), MARK_18)
+        + flag(breaks_nineteen_closing(c.some, c.last, h.number), MARK_19)
+        + flag(breaks_twenty_one(c.some, c.first, c.last, span), MARK_21)
 }

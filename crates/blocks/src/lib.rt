@@ -20,6 +20,19 @@ pub struct Basis {
     pub real: bool,
 }
 
+// The running account but for its groups, and what is brought up to date at each heading. Of the file: whether it has a payment yet, and
+// whether the first is priority. Of the open block: whether it has a heading, and a readable one, its first day and number, its last
+// number.
+pub struct Course {
+    pub classed: bool,
+    pub priority: bool,
+    pub any: bool,
+    pub some: bool,
+    pub day: u32,
+    pub first: ItemNo,
+    pub last: ItemNo,
+}
+
 // The running account. Of the file: whether it has a payment yet, and whether the first is priority. Of the open block: whether
 // it has a heading, and a readable one, its first day and number, its last number, and of each group the count and the sum.
 pub struct Block {

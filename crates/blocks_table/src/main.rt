@@ -1,5 +1,6 @@
 // Runs items with faults of every kind through the account, and prints the rules that each item breaks, at its heading or at its
 // first KC. What is right stands in `stdout`, reasoned by hand from documents 01 and 02. Submitter 300, accounting day 4 March 2024.
+use account::Outline;
 use blocks::Basis;
 use blocks::Block;
 use headings::Amount;
@@ -132,18 +133,37 @@ fn print_rules(marks: u64) {
     }
 }
 
+// The marks of 30 to 39, where the item is a 51.
+fn group_marks(b: Block, it: Digest) -> u64 {
+    let head = it.head;
+    if account::closes_block(head) {
+        let stated = it.sums;
+        let counts = b.counts;
+        let sums = b.sums;
+        let groups = stated.groups;
+        return blocks::groups::group_marks(counts, sums, groups);
+    }
+    0
+}
+
 // One item more: its number and what it breaks are printed, and the account goes on.
 fn tell(basis: Basis, b: Block, no: u64, it: Digest) -> Block {
     let head = it.head;
     let kc = it.kc;
+    let span = it.span;
     let at_kc = kc_marks(basis, head, kc);
-    let c = lending::advance(b, it, basis);
+    let groups = group_marks(b, it);
+    let mut counts = b.counts;
+    let mut sums = b.sums;
+    account::count_in(&mut counts, &mut sums, head, kc);
+    let c = lending::advance(account::course_of(b), Outline { head, kc, span }, basis);
     io::print_decimal(1, no);
     io::write_all(1, b":");
     print_rules(at_kc);
     print_rules(c.marks);
+    print_rules(groups);
     io::write_all(1, b"\n");
-    c.block
+    account::block_of(c.course, counts, sums)
 }
 
 // A block with no fault: the 13 is added as it stands, and an unreadable heading stops nothing.

@@ -1,4 +1,4 @@
--- Places in lists: of a byte among the symbols, of an identifier among the groups; and the classes that lists of identifiers give.
+-- Places in lists: of a byte among the symbols, of an identifier among the groups.
 use mathlib.Core.Path.{_≡_, refl, ap, _∙_, sym}
 use mathlib.Core.Bool.{Bool, true, false, _&&_, _||_, cond, true≢false}
 use mathlib.Core.List.{List, [], _∷_}
@@ -11,11 +11,10 @@ use lib.Dec.{leb, ltb, eqb, eqb→eq, leb·suc-suc}
 use borrow.Author.Tests.{ne-eqb, le-leb, lt-ltb, leb-true, ltb-true, eqb-true, eqb-false}
 use Rattle.laws.specs.Tests.{among}
 use Rattle.laws.proofs.Finite.{at}
-use Rattle.laws.proofs.OneOf.{one-of}
 use Rattle.figures.proofs.Tests.{and-parts}
 use Rattle.fields.specs.declared.classes.Class.{Class}
 use Rattle.fields.specs.declared.classes.Class.the-variants.{Money, Number, Range, Group, Account, Text, Free}
-use Rattle.fields.specs.Kinds.{symbols, place, identOf, named, isField}
+use Rattle.fields.specs.Kinds.{symbols, place, identOf, isField}
 use Rattle.fields.specs.Classes.{moneyFields, numberFields, rangeFields, groupFields, accountFields, textFields, classBy, classOf, sumGroup}
 
 -- a number stands in a list just where its place is in it
@@ -88,9 +87,6 @@ groups : groupFields ≡ row 1008 10
 unfolding place
 groups = refl
 
-same-class : {a a′ b b′ c c′ d d′ f f′ g g′ : Bool} → a ≡ a′ → b ≡ b′ → c ≡ c′ → d ≡ d′ → f ≡ f′ → g ≡ g′ → classBy a b c d f g ≡ classBy a′ b′ c′ d′ f′ g′
-same-class p q r s t u = rw (p, q, r, s, t, u)
-
 not-group : (a b c f g : Bool) → classBy a b c false f g ≡ Group → ⊥
 not-group a b c f g e = true≢false (sym (ap isGroup e) ∙ none a b c f g)
   where
@@ -121,11 +117,6 @@ module _ (i : ℕ) where
   pub group-out : (leb 1008 i && ltb i 1018) ≡ false → 10 ≡ sumGroup i
   unfolding sumGroup
   group-out e = sym (rw groups (row-out i 1008 10 (λ p q. true≢false (rw (le-leb 1008 i p, lt-ltb i 1018 q) at e))))
-
-  pub class-is : classBy (eqb i (named "KC")) ((eqb i (named "EC") || eqb i (named "AK")) || eqb i (named "ZK")) (eqb i (named "IN")) (ltb (sumGroup i) 10)
-      (eqb i (named "UD") || eqb i (named "UK")) (((eqb i (named "DI") || eqb i (named "KI")) || eqb i (named "ZP")) || eqb i (named "AV")) ≡ classOf i
-  unfolding classOf sumGroup
-  class-is = same-class (one-of i moneyFields) (one-of i numberFields) (one-of i rangeFields) (place-in i groupFields) (one-of i accountFields) (one-of i textFields)
 
   -- a field of the class of groups has a group's digit
   pub group-lt : classOf i ≡ Group → sumGroup i < 10

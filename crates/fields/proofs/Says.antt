@@ -13,7 +13,7 @@ use Rattle.text.specs.Digits.{isDigit, value}
 use Rattle.figures.specs.declared.numbers.Run.{Run}
 use Rattle.figures.specs.declared.numbers.Two.the-variants.{Found, NotTwo}
 use Rattle.fields.specs.declared.classes.Class.{Class}
-use Rattle.fields.specs.declared.classes.Class.the-variants.{Number, Account, Text}
+use Rattle.fields.specs.declared.classes.Class.the-variants.{Number, Account, Text, Free}
 use Rattle.fields.specs.declared.readings.Reading.{Reading}
 use Rattle.fields.specs.declared.readings.Reading.the-variants.{Broken, Plain, Party}
 use Rattle.figures.specs.Layouts.{Part, num, space, run, headIs, fits, part, maybeName}
@@ -86,14 +86,22 @@ pub text : (t : List ℕ) → ifFits (leb 1 (length t) && leb (length t) 35) Pla
 unfolding readingOf
 text t = rw (bytes-are 1 35 t (omega arith))
 
--- the text after three bytes, as the code lends it
-pub after-three : (k : Class) (l : List ℕ) → readingOf k (take (length l - 3) (drop 3 l)) ≡ readingOf k (textOf l)
-unfolding textOf
-after-three k l = ap (readingOf k) (take-all (length l - 3) (drop 3 l) (rw (length-drop 3 l) (omega arith)))
+-- any text, of a class that is not read
+pub free : (t : List ℕ) (k : Class) → Free ≡ k → Plain ≡ readingOf k t
+unfolding readingOf fits
+free t k e = ap (λ (j : Class). readingOf j t) e
 
-pub too-short : (k : Class) (l : List ℕ) → length l < 3 → readingOf k [] ≡ readingOf k (textOf l)
+-- the text after the colon, as the code lends it
+lent : (l : List ℕ) (n : ℕ) → drop n l ≡ textOf l → take (length l - n) (drop n l) ≡ textOf l
+lent l n e = take-all (length l - n) (drop n l) (rw (length-drop n l) (omega arith)) ∙ e
+
+pub too-short : (l : List ℕ) → length l < 3 → drop (length l) l ≡ textOf l
 unfolding textOf
-too-short k l h = ap (readingOf k) (sym (drop-of-length-le l {i = 3} (omega arith)))
+too-short l h = drop-of-length-le l {i = length l} (omega arith) ∙ sym (drop-of-length-le l {i = 3} (omega arith))
+
+-- what the code reads of it as of one class is what the line says as of another, where the two are one
+pub read-as : (j k : Class) (n : ℕ) (l : List ℕ) (r : Reading) → drop n l ≡ textOf l → r ≡ readingOf j (take (length l - n) (drop n l)) → j ≡ k → r ≡ readingOf k (textOf l)
+read-as j k n l r e p q = p ∙ rw (lent l n e, q)
 
 -- a run of digits, taken alone, is a part of the open account check
 alone : (lo h : ℕ) (s : List ℕ) → fits (num lo h ∷ []) (take (run isDigit h s) s) ≡ leb lo (run isDigit h s)

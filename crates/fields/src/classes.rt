@@ -1,6 +1,8 @@
 // Classes of fields: the identifiers that share a layout.
 ghost use mathlib.Core.Path.{_≡_};
-ghost use Rattle.fields.specs.Classes.{classBy, classOf, sumGroup};
+ghost use Prim.Native.Nat.{ℕ, _<_};
+ghost use lib.ListN.{getD};
+ghost use Rattle.fields.specs.Classes.{codeOf, sumGroup};
 
 // KC; EC, AK, ZK; IN; S0 to S9; UD, UK; DI, KI, ZP, AV; any other identifier.
 pub enum Class {
@@ -51,41 +53,31 @@ pub fn sum_group(ident: usize) -> usize
     GROUPS
 }
 
-// The first of the tests that holds gives the class.
-fn class_by(money: bool, number: bool, range: bool, group: bool, account: bool, text: bool) -> Class
-    ensures { λ r. ⌜ r ≡ classBy money number range group account text ⌝ }
+// The class of each identifier as a number, 0 for any that is not named here. A caller makes it once and lends it.
+pub fn codes() -> [u8; 1296]
+    ensures { λ r. ⌜ ((i : ℕ) → i < 1296 → getD r i 0 ≡ codeOf i) ⌝ }
 {
-    if money {
-        return Class::Money;
-    }
-    if number {
-        return Class::Number;
-    }
-    if range {
-        return Class::Range;
-    }
-    if group {
-        return Class::Group;
-    }
-    if account {
-        return Class::Account;
-    }
-    if text {
-        return Class::Text;
-    }
-    Class::Free
-}
-
-// Tests without a branch: a `match` on the identifier was four times as slow.
-pub fn class_of(ident: usize) -> Class
-    ensures { λ r. ⌜ r ≡ classOf ident ⌝ }
-{
-    class_by(
-        ident == KC,
-        (ident == EC) | (ident == AK) | (ident == ZK),
-        ident == IN,
-        sum_group(ident) < GROUPS,
-        (ident == UD) | (ident == UK),
-        (ident == DI) | (ident == KI) | (ident == ZP) | (ident == AV),
-    )
+    let mut t = [0u8; 1296];
+    t[KC] = 1;
+    t[EC] = 2;
+    t[AK] = 2;
+    t[ZK] = 2;
+    t[UD] = 3;
+    t[UK] = 3;
+    t[DI] = 4;
+    t[KI] = 4;
+    t[ZP] = 4;
+    t[AV] = 4;
+    t[IN] = 5;
+    t[S0] = 6;
+    t[S0 + 1] = 6;
+    t[S0 + 2] = 6;
+    t[S0 + 3] = 6;
+    t[S0 + 4] = 6;
+    t[S0 + 5] = 6;
+    t[S0 + 6] = 6;
+    t[S0 + 7] = 6;
+    t[S0 + 8] = 6;
+    t[S0 + 9] = 6;
+    t
 }

@@ -7,8 +7,11 @@ use figures::parts::Halves;
 use headings::Amount;
 use headings::ItemNo;
 ghost use mathlib.Core.Path.{_≡_};
-ghost use lib.ListN.{drop};
+ghost use mathlib.Core.Bool.{true, false};
+ghost use Prim.Native.Nat.{_≤_};
+ghost use lib.ListN.{length, drop};
 ghost use Rattle.figures.specs.Layouts.{fits, noMore, maybeRest, maybeName};
+ghost use Rattle.fields.specs.Classes.{codeBy, claims};
 ghost use Rattle.fields.specs.Readings.{textOf, readingOf, ifFits};
 
 // `Broken` where the text has not its layout. An amount and its day; the first and the last number; a group's count and sum;
@@ -147,27 +150,45 @@ fn read_text(t: &[u8]) -> Reading
     if_fits((1 <= t.len()) & (t.len() <= 35), Reading::Plain)
 }
 
-// What the text of a field of a class says.
-fn read_as(class: Class, t: &[u8]) -> Reading
-    ensures { λ r. ⌜ r ≡ readingOf class (now (t .entry)) ⌝ }
-{
-    match class {
-        Class::Money => read_money(t),
-        Class::Number => read_number(t),
-        Class::Range => read_range(t),
-        Class::Group => read_group(t),
-        Class::Account => read_account(t),
-        Class::Text => read_text(t),
-        Class::Free => Reading::Plain,
-    }
-}
-
-// What a field line of a class says; its text stands after the colon.
-pub fn read_field(class: Class, line: &[u8]) -> Reading
-    ensures { λ r. ⌜ r ≡ readingOf class (textOf (now (line .entry))) ⌝ }
+// Where the text of a field line begins: after the colon.
+fn after_colon(line: &[u8]) -> usize
+    ensures { λ r. ⌜ (r ≤ length (now (line .entry))) × (drop r (now (line .entry)) ≡ textOf (now (line .entry))) ⌝ }
 {
     if line.len() < 3 {
-        return read_as(class, b"");
+        return line.len();
     }
-    read_as(class, &line[3..])
+    3
+}
+
+// What a field line says whose class, by its number, claims something.
+pub fn read_claim(class: u8, line: &[u8]) -> Reading
+    ensures { λ r. ⌜ ((k : Class) → codeBy k ≡ class → claims class ≡ true → r ≡ readingOf k (textOf (now (line .entry)))) ⌝ }
+{
+    let from = after_colon(line);
+    let t = &line[from..];
+    if class == 1 {
+        return read_money(t);
+    }
+    if class == 5 {
+        return read_range(t);
+    }
+    read_group(t)
+}
+
+// What a field line says of any other class. The library calls it at one place, so that it is inlined there and no `Reading` is made.
+pub fn read_plain(class: u8, line: &[u8]) -> Reading
+    ensures { λ r. ⌜ ((k : Class) → codeBy k ≡ class → claims class ≡ false → r ≡ readingOf k (textOf (now (line .entry)))) ⌝ }
+{
+    let from = after_colon(line);
+    let t = &line[from..];
+    if class == 3 {
+        return read_account(t);
+    }
+    if class == 4 {
+        return read_text(t);
+    }
+    if class == 2 {
+        return read_number(t);
+    }
+    Reading::Plain
 }

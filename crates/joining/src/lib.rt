@@ -219,7 +219,7 @@ pub fn join(h: Held, s: &[u8]) -> Joined
             ended: true,
         };
     }
-    let f = lines::line_from(s, 0);
+    let f = lines::line_near(s, 0);
     let end = f.end;
     let held = add(h, &s[..end]);
     Joined {

@@ -1,10 +1,11 @@
 -- The closing of an item and the marks of a field above 5, by the tests in the order in which the code asks them.
 use mathlib.Core.Path.{_≡_, refl, sym, ap, _∙_}
-use mathlib.Core.Bool.{Bool, true, false, cond, not, _&&_}
+use mathlib.Core.Bool.{Bool, true, false, cond, not, _&&_, true≢false}
 use Prim.Native.Nat.{ℕ, _+_}
 use native.Mathlib.Nat.{zero-add}
 use native.Mathlib.Omega.{arith}
 use lib.Dec.{eqb}
+use borrow.Author.Tests.{eqb-true}
 use Rattle.laws.specs.Tests.{mark}
 use Rattle.headings.specs.declared.Heading.{Heading}
 use Rattle.headings.specs.declared.Read.{Read}
@@ -12,44 +13,48 @@ use Rattle.headings.specs.declared.Read.the-variants.{Reads, Unreadable}
 use Rattle.headings.specs.declared.Amount.{Amount}
 use Rattle.headings.specs.declared.ItemNo.{ItemNo}
 use Rattle.figures.specs.declared.parts.Halves.{Halves}
+use Rattle.fields.specs.declared.readings.Reading.{Reading}
 use Rattle.fields.specs.declared.readings.Reading.the-variants.{Broken, Plain, Paid, Span, Stated, Party}
-use Rattle.rules.specs.declared.Digest.{Digest}
+use Rattle.fields.specs.Kinds.{place, named}
+use Rattle.fields.specs.Classes.{classOf, codeOf, claims}
+use Rattle.rules.specs.declared.FirstKc.{FirstKc}
+use Rattle.rules.specs.declared.FirstIn.{FirstIn}
+use Rattle.rules.specs.HeadingRules.{noKc}
 use Rattle.rules.specs.FieldRules.{rule9}
 use Rattle.rules.specs.Blocks.{closesAt}
 use Rattle.rules.specs.Said.{isUnreadable}
 use Rattle.blocks.specs.declared.Basis.{Basis}
-use Rattle.blocks.specs.declared.Block.{Block}
+use Rattle.blocks.specs.declared.Course.{Course}
 use Rattle.blocks.specs.Model.{breaks8}
 use Rattle.account.specs.declared.Accounted.{Accounted}
-use Rattle.account.specs.Model.{closeModel}
-use Rattle.items.specs.declared.Claims.{Claims}
+use Rattle.account.specs.Model.{closeCourse}
 use Rattle.judging.specs.declared.Wait.{Wait}
-use Rattle.judging.specs.Opening.{readAs, halvesMarks, saidMarks, kcMarks}
-use Rattle.judging.specs.Closing.{digestOf, closeAs, noWait, shut, shutAs}
+use Rattle.judging.specs.declared.opening.Open.{Open}
+use Rattle.judging.specs.Opening.{readAs, halvesMarks, plainMarks, saidMarks, kcMarks, openOwn}
+use Rattle.judging.specs.Closing.{noWait, shutBy, closeBy}
 
-module _ (j : Basis) (b : Block) (w : Wait) (n own : ℕ) (r : Read) (c : Claims) where
-  pub close-none : eqb n 0 ≡ true → shut b w 0 0 ≡ closeAs j b w n own r c
-  unfolding closeAs
+module _ (j : Basis) (c : Course) (w : Wait) (n own : ℕ) (r : Read) (kc : FirstKc) (span : FirstIn) (groups : ℕ) where
+  pub close-none : eqb n 0 ≡ true → record { course = c; wait = w; told = 0; marks = 0 } ≡ closeBy j c w n own r kc span groups
+  unfolding closeBy
   close-none h = rw h
 
-  -- the item's account and its heading's marks
-  module _ (h : eqb n 0 ≡ false) (it : Digest) (ei : it ≡ digestOf r c) (cl : Accounted) (ec : cl ≡ closeModel j b it) (m : ℕ) (em : m ≡ own + mark 6 (isUnreadable r) + cl .marks) where
-    closed-is : cl ≡ closeModel j b (digestOf r c)
-    closed-is = ec ∙ ap (closeModel j b) ei
-
-    by-tests : (t a : Bool) → closesAt r ≡ t → b .any ≡ a → shutAs true t a b (cl .block) w n m ≡ closeAs j b w n own r c
-    unfolding closeAs
+  -- the course with the item, and its heading's marks
+  module _ (h : eqb n 0 ≡ false) (cl : Accounted) (ec : cl ≡ closeCourse j c kc span r) (m : ℕ) (em : m ≡ own + mark 6 (isUnreadable r) + cl .marks + groups) where
+    by-tests : (t a : Bool) → closesAt r ≡ t → c .any ≡ a → shutBy true t a c (cl .course) w n m ≡ closeBy j c w n own r kc span groups
+    unfolding closeBy
     by-tests t a p q =
-        sym (λ i. shutAs (not (h i)) (p i) (q i) b (sym closed-is i .block) w n
-        ((ap (λ (x : Accounted). own + mark 6 (isUnreadable r) + x .marks) (sym closed-is) ∙ sym em) i))
+        sym (λ i. shutBy (not (h i)) (p i) (q i) c (sym ec i .course) w n
+        ((ap (λ (x : Accounted). own + mark 6 (isUnreadable r) + x .marks + groups) (sym ec) ∙ sym em) i))
 
-    pub close-ends : closesAt r ≡ true → (x : Wait) → x ≡ noWait → (t : ℕ) → t ≡ cond (b .any) (w .marks) 0 → shut (cl .block) x t m ≡ closeAs j b w n own r c
-    close-ends p x ex t et = (λ i. shut (cl .block) (ex i) (et i) m) ∙ by-tests true (b .any) p refl
+    pub close-ends : closesAt r ≡ true → (x : Wait) → x ≡ noWait → (t : ℕ) → t ≡ cond (c .any) (w .marks) 0
+        → record { course = cl .course; wait = x; told = t; marks = m } ≡ closeBy j c w n own r kc span groups
+    close-ends p x ex t et = (λ i. record { course = cl .course; wait = ex i; told = et i; marks = m }) ∙ by-tests true (c .any) p refl
 
-    pub close-next : closesAt r ≡ false → b .any ≡ true → shut (cl .block) w 0 m ≡ closeAs j b w n own r c
+    pub close-next : closesAt r ≡ false → c .any ≡ true → record { course = cl .course; wait = w; told = 0; marks = m } ≡ closeBy j c w n own r kc span groups
     close-next p q = by-tests false true p q
 
-    pub close-first : closesAt r ≡ false → b .any ≡ false → shut (cl .block) (record { line = n; marks = m }) 0 0 ≡ closeAs j b w n own r c
+    pub close-first : closesAt r ≡ false → c .any ≡ false
+        → record { course = cl .course; wait = record { line = n; marks = m }; told = 0; marks = 0 } ≡ closeBy j c w n own r kc span groups
     close-first p q = by-tests false false p q
 
 -- ---- 6 to 9, 23 and 24 by what a field's own line says
@@ -96,3 +101,24 @@ module _ (j : Basis) where
   marks-paid h a d true false = refl
   marks-paid h a d false true = refl
   marks-paid h a d false false = refl
+
+-- ---- a field that claims nothing is no KC, so 8 and 9 are not asked of it
+kc-claims : claims (codeOf (named "KC")) ≡ true
+unfolding codeOf classOf place
+kc-claims = refl
+
+pub not-kc : (i : ℕ) → claims (codeOf i) ≡ false → eqb i (named "KC") ≡ false
+not-kc i m = go (eqb i (named "KC")) refl
+  where
+    go : (t : Bool) → eqb i (named "KC") ≡ t → t ≡ false
+    go true e = absurd (true≢false (sym kc-claims ∙ ap (λ (j : ℕ). claims (codeOf j)) (sym (eqb-true i (named "KC") e)) ∙ m))
+    go false e = refl
+
+plain-said : (j : Basis) (kc : FirstKc) (h : Read) (i : ℕ) (said : Reading) → claims (codeOf i) ≡ false → plainMarks said ≡ saidMarks j (eqb i (named "KC") && noKc kc) h said
+unfolding saidMarks kcMarks
+plain-said j kc h i said m = rw (not-kc i m) (omega arith)
+
+-- so the field opens as any field would
+pub plain-opens : (j : Basis) (kc : FirstKc) (h : Read) (n own i : ℕ) (again : Bool) (said : Reading) {class f m : ℕ} → class ≡ codeOf i → claims class ≡ false
+    → f ≡ mark 5 again → m ≡ plainMarks said → _≡_ {A = Open} (record { no = n; marks = own + f + m; class = class; tail = 0 }) (openOwn j kc h n own again i said)
+plain-opens j kc h n own i again said e c p q = rw (e, p, q, plain-said j kc h i said (rw e at c))

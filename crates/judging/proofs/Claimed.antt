@@ -10,7 +10,7 @@ use Rattle.laws.specs.Tests.{among}
 use Rattle.fields.specs.declared.readings.Reading.{Reading}
 use Rattle.fields.specs.declared.readings.Reading.the-variants.{Broken, Plain, Paid, Span, Stated, Party}
 use Rattle.fields.specs.Kinds.{named, place}
-use Rattle.fields.specs.Classes.{groupFields, accountFields, textFields, classBy, classOf, sumGroup}
+use Rattle.fields.specs.Classes.{groupFields, accountFields, textFields, classBy, classOf, codeBy, codeOf, sumGroup}
 use Rattle.fields.specs.Readings.{textOf, readingOf, ifFits}
 use Rattle.fields.specs.Tails.{isBroken, tailOf, takesBy}
 use Rattle.fields.proofs.Places.{place-in}
@@ -24,7 +24,7 @@ use Rattle.items.proofs.Ideal.{start, early, atHead, atField, closed, push, Pie
 use Rattle.items.proofs.Turned.{firstUp, says-closed}
 use Rattle.items.proofs.Firsts.{claimsOf, grownClaims, claimed, claim-at}
 use Rattle.judging.specs.declared.opening.Pend.{Pend}
-use Rattle.judging.specs.Opening.{codeBy, codeOf, breaksTail, fitsBy, ownClaims, closeClaims, pendOf}
+use Rattle.judging.specs.Opening.{breaksTail, fitsBy, ownClaims, closeClaims, pendOf}
 use Rattle.judging.proofs.Shutting.{claimsLater}
 use Rattle.judging.proofs.OpenField.{says-more, says-same, says-own, openOf, fits-is}
 

@@ -15,7 +15,7 @@ use Rattle.headings.specs.declared.Read.the-variants.{Unreadable}
 use Rattle.headings.specs.Reading.{headingOf}
 use Rattle.fields.specs.declared.readings.Reading.{Reading}
 use Rattle.fields.specs.Kinds.{named}
-use Rattle.fields.specs.Classes.{classOf}
+use Rattle.fields.specs.Classes.{classOf, codeOf}
 use Rattle.fields.specs.Readings.{textOf, readingOf}
 use Rattle.rules.specs.Terms.{Terms}
 use Rattle.rules.specs.Faults.{Fault}
@@ -38,11 +38,10 @@ use Rattle.items.proofs.Turned.{continued-closed}
 use Rattle.items.proofs.Firsts.{no-kc-is, claimsOf, no-claims-is}
 use Rattle.items.proofs.Puts.{above, aboveThen, fieldsOut, itemsOut, field-puts, head-puts, final-puts}
 use Rattle.judging.specs.declared.Wait.{Wait}
-use Rattle.judging.specs.declared.Shut.{Shut}
 use Rattle.judging.specs.declared.opening.Open.{Open}
 use Rattle.judging.specs.declared.opening.Pend.{Pend}
-use Rattle.judging.specs.Closing.{lastMarks, closeAs, closeFaults}
-use Rattle.judging.specs.Opening.{codeOf, saidMarks, noOpen, lowOpen, ownClaims, closeClaims, pendOf, openOwn, openLoose, lowMarksAt}
+use Rattle.judging.specs.Closing.{Ended, lastMarks, closeAs, closeFaults}
+use Rattle.judging.specs.Opening.{saidMarks, noOpen, lowOpen, ownClaims, closeClaims, pendOf, openOwn, openLoose, lowMarksAt}
 use Rattle.judging.proofs.Sets.{lineMarks, lowMarks, low-set}
 use Rattle.judging.proofs.Shutting.{accountOf, wait, last-out, item-says, Positive, claimsLater, ownOf, shutOf, readNow, no-zero, sinceOf}
 use Rattle.judging.proofs.OpenField.{openAt, openOf, low-open, early-open, field-open, close-open}
@@ -140,7 +139,7 @@ module _ (terms : Terms) where
     claims-then : claimed ≡ claimsLater c
     claims-then = (λ i. closeClaims (M .claims-are i) (M .open-is i) p) ∙ claims-close terms c p (M .pending)
 
-    abbrev pub closing : Shut
+    abbrev pub closing : Ended
     closing = closeAs (basisOf terms) b w since own r claimed
 
     closing-is : closing ≡ shutOf terms c
@@ -173,14 +172,14 @@ module _ (terms : Terms) where
 
     pub final-out : (all : List Fault)
         → putAll put (final terms c) all
-        ≡ insertAll (marked (closing .wait .line) (lastMarks (closing .block) (closing .wait))) (insertAll (marked (o .no) (o .marks) ++ closeFaults (basisOf terms) b w since own r claimed) all)
+        ≡ insertAll (marked (closing .wait .line) (lastMarks (closing .block .any) (closing .wait))) (insertAll (marked (o .no) (o .marks) ++ closeFaults (basisOf terms) b w since own r claimed) all)
     final-out all =
-        let eb : closing .block ≡ accountOf (aboveThen c) = ap (λ (x : Shut). x .block) closing-is ∙ item-says terms c (M .positive) all .1 in
-        let ew : closing .wait ≡ wait terms (aboveThen c) = ap (λ (x : Shut). x .wait) closing-is ∙ item-says terms c (M .positive) all .2 in
+        let eb : closing .block ≡ accountOf (aboveThen c) = ap (λ (x : Ended). x .block) closing-is ∙ item-says terms c (M .positive) all .1 in
+        let ew : closing .wait ≡ wait terms (aboveThen c) = ap (λ (x : Ended). x .wait) closing-is ∙ item-says terms c (M .positive) all .2 in
         let now : List Fault = insertAll (marked (o .no) (o .marks) ++ closeFaults (basisOf terms) b w since own r claimed) all in
         ap (λ (es : List Spot). putAll put es all) (final-puts terms c) ∙ putAll-append put (fieldsOut terms c ++ itemsOut terms c) (waits terms (aboveThen c) true) all
         ∙ ap (putAll put (waits terms (aboveThen c) true)) (all-enter all) ∙ last-out terms (aboveThen c) now
-        ∙ sym (λ j. insertAll (marked (ew j .line) (lastMarks (eb j) (ew j))) now)
+        ∙ sym (λ j. insertAll (marked (ew j .line) (lastMarks (eb j .any) (ew j))) now)
 
     -- ---- and what it holds then
     pub means-low : (l : LowRow)
@@ -356,8 +355,8 @@ module _ (terms : Terms) where
       reads-as = sym (read-own k) ∙ read-then c;
       claims-are = no-claims-is ∙ none c;
       pending = pends c;
-      account-is = ap (λ (x : Shut). x .block) closing-is ∙ item-says terms c (M .positive) [] .1 ∙ ap accountOf (same c);
-      wait-is = ap (λ (x : Shut). x .wait) closing-is ∙ item-says terms c (M .positive) [] .2 ∙ ap (wait terms) (same c);
+      account-is = ap (λ (x : Ended). x .block) closing-is ∙ item-says terms c (M .positive) [] .1 ∙ ap accountOf (same c);
+      wait-is = ap (λ (x : Ended). x .wait) closing-is ∙ item-says terms c (M .positive) [] .2 ∙ ap (wait terms) (same c);
       numbered = numbers c;
       positive = stay c;
       long = M .long;

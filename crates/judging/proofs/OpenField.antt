@@ -17,7 +17,7 @@ use Rattle.fields.specs.declared.readings.Reading.{Reading}
 use Rattle.fields.specs.declared.readings.Reading.the-variants.{Broken, Plain, Paid, Span, Stated, Party}
 use Rattle.fields.specs.declared.tails.Tail.{Tail}
 use Rattle.fields.specs.Kinds.{named}
-use Rattle.fields.specs.Classes.{classOf}
+use Rattle.fields.specs.Classes.{classOf, codeBy, codeOf}
 use Rattle.fields.specs.Readings.{textOf, readingOf, ifFits}
 use Rattle.fields.specs.Tails.{isBroken, allFit, tailOf, tailMore, takesBy}
 use Rattle.fields.proofs.Kept.{broken, tail-more}
@@ -37,7 +37,7 @@ use Rattle.items.proofs.Ideal.{start, early, atHead, atField, closed, push, Pie
 use Rattle.items.proofs.Turned.{says-closed}
 use Rattle.items.proofs.Puts.{fieldsOut}
 use Rattle.judging.specs.declared.opening.Open.{Open}
-use Rattle.judging.specs.Opening.{kcMarks, codeBy, codeOf, breaksTail, noOpen, brokenBy, moreOpen, lowOpen, fitsBy, partyMarks, saidMarks, lateBy}
+use Rattle.judging.specs.Opening.{kcMarks, breaksTail, noOpen, brokenBy, moreOpen, lowOpen, fitsBy, partyMarks, saidMarks, lateBy}
 use Rattle.judging.proofs.Sets.{lineMarks, fieldMarks, field-set, looseMarks, loose-set}
 use Rattle.judging.proofs.Shutting.{put-none, Positive}
 

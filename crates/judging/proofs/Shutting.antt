@@ -31,8 +31,7 @@ use Rattle.items.proofs.Puts.{above, aboveThen, itemsOut}
 use Rattle.items.proofs.Turned.{first-closed}
 use Rattle.items.proofs.Firsts.{claimsOf}
 use Rattle.judging.specs.declared.Wait.{Wait}
-use Rattle.judging.specs.declared.Shut.{Shut}
-use Rattle.judging.specs.Closing.{noWait, shut, shutAs, digestOf, closeAs, lastMarks}
+use Rattle.judging.specs.Closing.{Ended, noWait, shut, shutAs, digestOf, closeAs, lastMarks}
 use Rattle.judging.proofs.Sets.{lineMarks, headMarks, head-set}
 use Rattle.judging.proofs.Within.{digest-within}
 
@@ -84,7 +83,7 @@ module _ (terms : Terms) where
       go false true ih = head-put z b i l
       go false false ih = ih
 
-  pub last-out : (b : List Item) (l : List Fault) → putAll put (waits terms b true) l ≡ insertAll (marked (wait b .line) (lastMarks (accountOf b) (wait b))) l
+  pub last-out : (b : List Item) (l : List Fault) → putAll put (waits terms b true) l ≡ insertAll (marked (wait b .line) (lastMarks (accountOf b .any) (wait b))) l
   unfolding lastMarks summary insertAll
   last-out b l = waits-is b true l ∙ go (fresh b) (wait b)
     where
@@ -111,7 +110,7 @@ module _ (terms : Terms) where
     marks-is = refl
 
     -- what closing gives, by whether the item ends its block and is the first of it
-    abbrev pub closesAs : (t e : Bool) → Shut
+    abbrev pub closesAs : (t e : Bool) → Ended
     closesAs true e = shut (accountOf (it ∷ b)) (wait (it ∷ b)) (cond (not e) (wait b .marks) 0) (headMarks terms b it)
     closesAs false true = shut (accountOf (it ∷ b)) (wait (it ∷ b)) 0 0
     closesAs false false = shut (accountOf (it ∷ b)) (wait (it ∷ b)) 0 (headMarks terms b it)
@@ -202,7 +201,7 @@ Positive (atHead b h ls) = 0 < h .no
 Positive (atField b h hl ups x ls) = (0 < h .no) × (0 < x .row .no)
 
 module _ (terms : Terms) where
-  abbrev pub shutOf : Pieces → Shut
+  abbrev pub shutOf : Pieces → Ended
   shutOf c = closeAs (basisOf terms) (accountOf (above c)) (wait terms (above c)) (sinceOf c) (ownOf c) (readNow c) (claimsLater c)
 
   pub item-says : (c : Pieces) → Positive c → (l : List Fault)

@@ -8,12 +8,10 @@ use Rattle.headings.specs.declared.Heading.{Heading}
 use Rattle.headings.specs.declared.Read.{Read}
 use Rattle.headings.specs.declared.Read.the-variants.{Reads, Unreadable}
 use Rattle.figures.specs.declared.parts.Halves.{Halves}
-use Rattle.fields.specs.declared.classes.Class.{Class}
-use Rattle.fields.specs.declared.classes.Class.the-variants.{Money, Number, Range, Group, Account, Text, Free}
 use Rattle.fields.specs.declared.readings.Reading.{Reading}
 use Rattle.fields.specs.declared.readings.Reading.the-variants.{Broken, Plain, Paid, Span, Stated, Party}
 use Rattle.fields.specs.Kinds.{named}
-use Rattle.fields.specs.Classes.{classOf}
+use Rattle.fields.specs.Classes.{codeOf}
 use Rattle.fields.specs.Readings.{ifFits}
 use Rattle.fields.specs.Tails.{isBroken}
 use Rattle.rules.specs.declared.FirstKc.{FirstKc}
@@ -25,20 +23,6 @@ use Rattle.items.specs.declared.Claims.{Claims}
 use Rattle.items.specs.Claims.{claimsWith}
 use Rattle.judging.specs.declared.opening.Pend.{Pend}
 use Rattle.judging.specs.declared.opening.Open.{Open}
-
--- ---- classes as numbers: 1 takes any tail and claims at once; 5 and above claim when they close
-abbrev pub codeBy : Class → ℕ
-codeBy Free = 0
-codeBy Money = 1
-codeBy Number = 2
-codeBy Account = 3
-codeBy Text = 4
-codeBy Range = 5
-codeBy Group = 6
-
--- that of an identifier
-unfoldable pub codeOf : ℕ → ℕ
-codeOf i = codeBy (classOf i)
 
 -- a field of a class may not go on with so many continuations, the last of so many bytes
 abbrev pub breaksTail : ℕ → ℕ → ℕ → Bool
@@ -85,9 +69,13 @@ halvesMarks h = mark 7 (prefixFails h) + (mark 23 (numberFails h) + mark 24 (num
 abbrev pub partyMarks : Reading → ℕ
 partyMarks said = mark 7 (ofParty prefixFails said) + (mark 23 (ofParty numberFails said) + mark 24 (ofParty numberZero said))
 
+-- 6, 7, 23 and 24
+abbrev pub plainMarks : Reading → ℕ
+plainMarks said = mark 6 (isBroken said) + partyMarks said
+
 -- 6 to 9, 23 and 24
 unfoldable pub saidMarks : Basis → Bool → Read → Reading → ℕ
-saidMarks j first h said = mark 6 (isBroken said) + partyMarks said + kcMarks j first h said
+saidMarks j first h said = plainMarks said + kcMarks j first h said
 
 -- it reads: by bit 6 of its marks
 abbrev pub fitsBy : ℕ → Bool

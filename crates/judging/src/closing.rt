@@ -1,19 +1,23 @@
 // An item closes: its account, its heading's marks, and the heading that waits for rule 16.
 use crate::Shut;
 use crate::Wait;
+use account::Outline;
 use blocks::Basis;
-use blocks::Block;
+use blocks::Course;
+use blocks::groups::group_marks;
 use blocks::marks::MARK_6;
 use blocks::marks::MARK_16;
 use blocks::marks::flag;
 use headings::Read;
 use items::Claims;
-use rules::Digest;
+use rules::FirstIn;
+use rules::FirstKc;
 ghost use mathlib.Core.Path.{_≡_};
-ghost use Prim.Native.Nat.{_≤_, _<_, _+_, _^_};
+ghost use Prim.Native.Nat.{_+_, _-_, _≤_, _<_, _^_};
 ghost use Rattle.laws.specs.Tests.{mark};
 ghost use Rattle.rules.specs.Said.{isUnreadable};
-ghost use Rattle.judging.specs.Closing.{noWait, lastMarks, digestOf, closeAs};
+ghost use Rattle.blocks.specs.Model.{groupMarks};
+ghost use Rattle.judging.specs.Closing.{noWait, lastMarks, closeBy};
 
 pub fn no_wait() -> Wait
     ensures { λ r. ⌜ r ≡ noWait ⌝ }
@@ -30,58 +34,59 @@ fn is_unreadable(read: Read) -> bool
     }
 }
 
-fn digest_of(head: Read, claims: Claims) -> Digest
-    ensures { λ r. ⌜ r ≡ digestOf head claims ⌝ }
+// 30 to 39 at a 51 that reads.
+pub fn group_marks_of(counts: [u64; 10], sums: [u64; 10], claims: Claims) -> u64
+    ensures { λ r. ⌜ (r ≡ groupMarks counts sums (claims .sums .groups)) × (r ≤ 2 ^ 40 - 2 ^ 30) ⌝ }
 {
-    let kc = claims.kc;
-    let span = claims.span;
-    let sums = claims.sums;
-    Digest {
-        head,
-        kc,
-        span,
-        sums,
-    }
+    let stated = claims.sums;
+    let groups = stated.groups;
+    group_marks(counts, sums, groups)
 }
 
-// All marks of the open heading but 16, from those of its line and those that the account gives.
-fn head_marks(own: u64, read: Read, marks: u64) -> u64
-    requires { ⌜ (marks < 2 ^ 40) × (own ≤ 18) ⌝ }
-    ensures { λ r. ⌜ (r ≡ own + mark 6 (isUnreadable read) + marks) × (r < 2 ^ 41) ⌝ }
+// All marks of the open heading but 16: those of its line, those that its course gives, and 30 to 39.
+fn head_marks(own: u64, read: Read, marks: u64, groups: u64) -> u64
+    requires { ⌜ (marks < 2 ^ 23) × (own ≤ 18) × (groups ≤ 2 ^ 40 - 2 ^ 30) ⌝ }
+    ensures { λ r. ⌜ (r ≡ own + mark 6 (isUnreadable read) + marks + groups) × (r < 2 ^ 41) ⌝ }
 {
-    own + flag(is_unreadable(read), MARK_6) + marks
+    own + flag(is_unreadable(read), MARK_6) + marks + groups
 }
 
-// The open item closes, whose heading stands at the line `no` (0: none) and has the marks `own` of its line.
+// The open item closes, whose heading stands at the line `no` (0: none) and has the marks `own` of its line; `groups` are its marks 30 to 39.
 pub fn close_item(
     basis: Basis,
-    b: Block,
+    c: Course,
     w: Wait,
     no: u32,
     own: u64,
     read: Read,
-    claims: Claims,
+    kc: FirstKc,
+    span: FirstIn,
+    groups: u64,
 ) -> Shut
-    requires { ⌜ (w .marks < 2 ^ 41) × (own ≤ 18) ⌝ }
-    ensures { λ r. ⌜ (r ≡ closeAs basis b w no own read claims) × (r .wait .marks < 2 ^ 41) × (r .told < 2 ^ 41) × (r .marks < 2 ^ 41) ⌝ }
+    requires { ⌜ (w .marks < 2 ^ 41) × (own ≤ 18) × (groups ≤ 2 ^ 40 - 2 ^ 30) ⌝ }
+    ensures { λ r. ⌜ (r ≡ closeBy basis c w no own read kc span groups) × (r .wait .marks < 2 ^ 41) × (r .told < 2 ^ 41) × (r .marks < 2 ^ 41) ⌝ }
 {
     if no == 0 {
         return Shut {
-            block: b,
+            course: c,
             wait: w,
             told: 0,
             marks: 0,
         };
     }
-    let any = b.any;
-    let it = digest_of(read, claims);
-    let c = lending::advance(b, it, basis);
-    let block = c.block;
-    let m = head_marks(own, read, c.marks);
+    let any = c.any;
+    let it = Outline {
+        head: read,
+        kc,
+        span,
+    };
+    let a = lending::advance(c, it, basis);
+    let course = a.course;
+    let m = head_marks(own, read, a.marks, groups);
     if account::closes_block(read) {
         let wait = no_wait();
         return Shut {
-            block,
+            course,
             wait,
             told: flag(any, w.marks),
             marks: m,
@@ -89,24 +94,24 @@ pub fn close_item(
     }
     if any {
         return Shut {
-            block,
+            course,
             wait: w,
             told: 0,
             marks: m,
         };
     }
     Shut {
-        block,
+        course,
         wait: Wait { line: no, marks: m },
         told: 0,
         marks: 0,
     }
 }
 
-// At the file's end the one who waits has 16.
-pub fn last_marks(b: Block, w: Wait) -> u64
+// At the file's end the one who waits has 16; `any` says whether the open block has a heading.
+pub fn last_marks(any: bool, w: Wait) -> u64
     requires { ⌜ w .marks < 2 ^ 41 ⌝ }
-    ensures { λ r. ⌜ (r ≡ lastMarks b w) × (r < 2 ^ 42) ⌝ }
+    ensures { λ r. ⌜ (r ≡ lastMarks any w) × (r < 2 ^ 42) ⌝ }
 {
-    flag(b.any, w.marks + MARK_16)
+    flag(any, w.marks + MARK_16)
 }

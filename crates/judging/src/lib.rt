@@ -3,7 +3,7 @@
 // rules at headings come from `blocks` by way of `lending`. The laws join what is kept to the tree (proofs/Meaning.antt): what is entered
 // is what `rules` declares.
 // Stands on `items`, `fields`, `blocks`, `account` and `lending`.
-use blocks::Block;
+use blocks::Course;
 
 pub mod closing;
 pub mod marking;
@@ -18,7 +18,7 @@ pub struct Wait {
 // The account after an item, and who waits then; the marks of the one who waited, where the block ends; the heading's own marks,
 // where they are complete.
 pub struct Shut {
-    pub block: Block,
+    pub course: Course,
     pub wait: Wait,
     pub told: u64,
     pub marks: u64,

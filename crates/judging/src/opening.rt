@@ -11,7 +11,6 @@ use blocks::marks::MARK_23;
 use blocks::marks::MARK_24;
 use blocks::marks::flag;
 use fields::classes;
-use fields::classes::Class;
 use fields::readings;
 use fields::readings::Reading;
 use figures::parts::Halves;
@@ -22,15 +21,17 @@ use items::Claims;
 use items::claiming;
 use rules::FirstKc;
 ghost use mathlib.Core.Path.{_≡_};
-ghost use mathlib.Core.Bool.{cond, not};
-ghost use Prim.Native.Nat.{_+_, _≤_, _<_, _^_};
+ghost use mathlib.Core.Bool.{false, cond, not};
+ghost use Prim.Native.Nat.{ℕ, _+_, _≤_, _<_, _^_};
 ghost use lib.Dec.{eqb};
 ghost use Rattle.laws.specs.Tests.{mark};
-ghost use Rattle.fields.specs.Readings.{ifFits};
+ghost use Rattle.fields.specs.declared.classes.Class.{Class};
+ghost use Rattle.fields.specs.Classes.{classOf, codeBy, codeOf, claims};
+ghost use Rattle.fields.specs.Readings.{textOf, readingOf, ifFits};
 ghost use Rattle.rules.specs.Said.{isUnreadable};
 ghost use Rattle.rules.specs.FieldRules.{isFailing, isZero};
 ghost use Rattle.items.specs.Claims.{claimsWith};
-ghost use Rattle.judging.specs.Opening.{codeBy, codeOf, breaksTail, brokenBy, noOpen, moreOpen, lowOpen, readAs, halvesMarks, saidMarks, fitsBy, ownClaims, closeClaims, headingIn, noPend, pendOf, openOwn, openLoose, lowMarksAt};
+ghost use Rattle.judging.specs.Opening.{breaksTail, brokenBy, noOpen, moreOpen, lowOpen, readAs, halvesMarks, plainMarks, saidMarks, fitsBy, ownClaims, closeClaims, headingIn, noPend, pendOf, openOwn, openLoose, lowMarksAt};
 
 // Its line (0: none), its marks as they stand, the number of its class, its continuations.
 pub struct Open {
@@ -116,21 +117,6 @@ pub fn low_marks(own: u64, since: u32, no: u32, continues: bool) -> u64
     ensures { λ r. ⌜ r ≡ lowMarksAt own since no continues ⌝ }
 {
     own + flag(((since == 0) & (no == 0)) | !continues, MARK_2) + flag(since == 0, MARK_3)
-}
-
-// The number of a class.
-pub fn code_of(class: Class) -> u8
-    ensures { λ r. ⌜ r ≡ codeBy class ⌝ }
-{
-    match class {
-        Class::Free => 0,
-        Class::Money => 1,
-        Class::Number => 2,
-        Class::Account => 3,
-        Class::Text => 4,
-        Class::Range => 5,
-        Class::Group => 6,
-    }
 }
 
 // 23 or 24.
@@ -237,6 +223,42 @@ pub fn field_open(
     Open {
         no,
         marks: own + flag(again, MARK_5) + said_marks(basis, first, reads, h, said),
+        class,
+        tail: 0,
+    }
+}
+
+// 6, 7, 23 and 24 of a field that claims nothing.
+fn plain_marks(class: u8, line: &[u8]) -> u64
+    ensures { λ r. ⌜ ((k : Class) → codeBy k ≡ class → claims class ≡ false → r ≡ plainMarks (readingOf k (textOf (now (line .entry))))) × (r ≤ 2 ^ 25) ⌝ }
+{
+    match readings::read_plain(class, line) {
+        Reading::Broken => MARK_6,
+        Reading::Plain => 0,
+        Reading::Paid(_, _) => 0,
+        Reading::Span(_, _) => 0,
+        Reading::Stated(_, _) => 0,
+        Reading::Party(halves) => halves_marks(halves),
+    }
+}
+
+// A field opens that claims nothing: the item's heading and its first KC do not matter. It is called at one place, and so are those below
+// it: they are inlined, and no `Reading` is made.
+pub fn plain_open(since: u32, no: u32, own: u64, again: bool, class: u8, line: &[u8]) -> Open
+    requires { ⌜ own ≤ 18 ⌝ }
+    ensures { λ r. ⌜ ((j : Basis) (kc : FirstKc) (h : Read) (ident : ℕ) → class ≡ codeOf ident → claims class ≡ false → r ≡ cond (eqb since 0) (openLoose no own) (openOwn j kc h no own again ident (readingOf (classOf ident) (textOf (now (line .entry)))))) ⌝ }
+{
+    if since == 0 {
+        return Open {
+            no,
+            marks: own + MARK_3,
+            class: 0,
+            tail: 0,
+        };
+    }
+    Open {
+        no,
+        marks: own + flag(again, MARK_5) + plain_marks(class, line),
         class,
         tail: 0,
     }

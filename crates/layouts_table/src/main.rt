@@ -84,9 +84,36 @@ fn show_reading(said: Reading) {
     }
 }
 
+// An identifier's number is below 1296.
+fn code_at(ident: usize) -> u8 {
+    let codes = fields::classes::codes();
+    if ident < 1296 { codes[ident] } else { 0 }
+}
+
+// The class that a number of the table stands for.
+fn class_by(code: u8) -> Class {
+    match code {
+        1 => Class::Money,
+        2 => Class::Number,
+        3 => Class::Account,
+        4 => Class::Text,
+        5 => Class::Range,
+        6 => Class::Group,
+        _ => Class::Free,
+    }
+}
+
+fn read(code: u8, line: &[u8]) -> Reading {
+    if (code == 1) | (5 <= code) {
+        return fields::readings::read_claim(code, line);
+    }
+    fields::readings::read_plain(code, line)
+}
+
 fn show_field(ident: usize, line: &[u8]) -> Owner {
-    let class = fields::classes::class_of(ident);
-    let said = fields::readings::read_field(class, line);
+    let code = code_at(ident);
+    let class = class_by(code);
+    let said = read(code, line);
     word(b"field");
     show_class(class, ident);
     show_reading(said);

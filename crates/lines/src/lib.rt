@@ -1,7 +1,7 @@
 // How a file is cut into lines: the bytes before the first 1A, cut at each CR LF. `body_len` says how far a file is read;
 // `line_from` gives the line at a place, and by the same look whether it holds a byte that is not plain, by a reader that carries
-// the lent file and that place. Promised, for every file and place: they give what `body` and `lines` of specs/Lines.antt say. It
-// stands on crates `laws` and `text`.
+// the lent file and that place; `line_near` gives the same, byte by byte. Promised, for every file and place: they give what `body` and
+// `lines` of specs/Lines.antt say. It stands on crates `laws` and `text`.
 ghost use mathlib.Core.Path.{_≡_};
 ghost use Prim.Native.Nat.{_+_, _-_, _<_, _≤_};
 ghost use lib.ListN.{length, take, drop, getD};
@@ -252,7 +252,14 @@ pub fn next<'a>(r: Reader<'a>) -> Found
     line_at(r.file, r.at)
 }
 
-// The line at a place, through a reader that is made for it: loops call this one.
+// The line at a place, byte by byte: for callers whose lines are short or few.
+pub fn line_near(file: &[u8], at: usize) -> Found
+    ensures { λ l. ⌜ l ≡ lineAt (now (file .entry)) at ⌝ }
+{
+    line_by_bytes(file, at, false)
+}
+
+// The line at a place, through a reader that is made for it. The loop over a file's lines alone calls it, so that it is inlined there.
 pub fn line_from(file: &[u8], at: usize) -> Found
     ensures { λ l. ⌜ l ≡ lineAt (now (file .entry)) at ⌝ }
 {

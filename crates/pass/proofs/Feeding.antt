@@ -33,7 +33,8 @@ use Rattle.ledger.specs.Slices.{Entered, Kept}
 use Rattle.ledger.proofs.Marks.{marked-few}
 use Rattle.blocks.specs.declared.Basis.{Basis}
 use Rattle.blocks.specs.declared.Block.{Block}
-use Rattle.blocks.specs.Model.{basisOf}
+use Rattle.blocks.specs.declared.Course.{Course}
+use Rattle.blocks.specs.Model.{basisOf, courseOf, blockOf}
 use Rattle.items.specs.declared.Claims.{Claims}
 use Rattle.items.specs.Claims.{noClaims}
 use Rattle.judging.specs.declared.Wait.{Wait}
@@ -94,10 +95,31 @@ pub record Feeding (s : List ℕ) (base : ℕ) (j : Basis) (ls₁ rs₁ ps₁ st
   pub reached : (terms : Terms) (past real : List Line) (ls₀ rs₀ ps₀ : List ℕ) → j ≡ basisOf terms → InPlace base past real (lines s)
       → Standing terms past ls₀ rs₀ ps₀ ls₁ rs₁ ps₁ stood₁ p₁ → Reached terms (past ++ real) ls₀ rs₀ ps₀ s base ls rs ps stood p at
 
-pub feed-start : {s : List ℕ} {base : ℕ} {j : Basis} {ls rs ps stood : List ℕ} {p : Pass} → Bounded base p ls rs ps → Feeding s base j ls rs ps stood p ls rs ps stood p 0
-feed-start {s} {base} B = record {
+-- a pass whose account is held by its parts
+abbrev pub withBlock : Pass → Block → Pass
+withBlock p b = record {
+  ledger = p .ledger;
+  field = p .field;
+  pend = p .pend;
+  since = p .since;
+  top = p .top;
+  reads = p .reads;
+  heading = p .heading;
+  claims = p .claims;
+  block = b;
+  wait = p .wait;
+  starts = p .starts;
+  n = p .n;
+}
+
+abbrev pub onCourse : Pass → Course → Pass
+onCourse p c = withBlock p (blockOf c (p .block .counts) (p .block .sums))
+
+pub feed-start : {s : List ℕ} {base : ℕ} {j : Basis} {ls rs ps stood : List ℕ} {p : Pass} {b : Block} → Bounded base p ls rs ps
+    → Feeding s base j ls rs ps stood (withBlock p b) ls rs ps stood (withBlock p b) 0
+feed-start {s} {base} {b} B = record {
   to = omega arith;
-  bounded = bounded-more (omega arith) B;
+  bounded = record { few = omega (arith, B .few); ready = B .ready; level = B .level; small = B .small; calm = B .calm; tail-few = B .tail-few; top-few = B .top-few };
   lines-long = refl;
   rules-long = refl;
   places-long = refl;
@@ -105,6 +127,14 @@ feed-start {s} {base} B = record {
       let z : base ≡ base + 0 = omega arith in
       record { past = past; real = real; are = refl; ahead = subst (λ (b : ℕ). InPlace b past real (lines s)) z I; stands = S };
 }
+
+-- its parts put together again
+pub feed-close : (s : List ℕ) (base : ℕ) (j : Basis) (p q : Pass) {ls₁ rs₁ ps₁ stood₁ ls rs ps stood : List ℕ} {c : Course} → c ≡ courseOf (p .block) → {b b′ : Block} → b′ ≡ b
+    → Bounded (base + length s) (withBlock q b) ls rs ps × Fed s base j ls₁ rs₁ ps₁ stood₁ (onCourse p c) ls rs ps stood (withBlock q b)
+    → Bounded (base + length s) (withBlock q b′) ls rs ps × Fed s base j ls₁ rs₁ ps₁ stood₁ p ls rs ps stood (withBlock q b′)
+feed-close s base j p q {ls₁} {rs₁} {ps₁} {stood₁} {ls} {rs} {ps} {stood} ec {b} eb X =
+    subst (λ (x : Block). Bounded (base + length s) (withBlock q x) ls rs ps × Fed s base j ls₁ rs₁ ps₁ stood₁ p ls rs ps stood (withBlock q x)) (sym eb)
+    (X .0, subst (λ (x : Course). Fed s base j ls₁ rs₁ ps₁ stood₁ (onCourse p x) ls rs ps stood (withBlock q b)) ec (X .1))
 
 module _ {s : List ℕ} {base : ℕ} {j : Basis} {ls₁ rs₁ ps₁ stood₁ : List ℕ} {p₁ : Pass} {ls rs ps stood : List ℕ} {p : Pass} {at : ℕ} (F : Feeding s base j ls₁ rs₁ ps₁ stood₁ p₁ ls rs ps stood p at) where
   -- the end of the text

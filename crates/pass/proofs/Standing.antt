@@ -289,14 +289,14 @@ module _ {terms : Terms} {past : List Line} {ls₀ rs₀ ps₀ ls rs ps stood : 
   -- the file ends
   pub stand-end : {j : Basis} → j ≡ basisOf terms → {g′ : Ledger} {ls′ rs′ ps′ : List ℕ}
       → let q = closeAs j (p .block) (p .wait) (p .since) (p .top) read (closeClaims (p .claims) (p .field) (p .pend)) in
-      Entered ((marked (p .field .no) (p .field .marks) ++ closeFaults j (p .block) (p .wait) (p .since) (p .top) read (closeClaims (p .claims) (p .field) (p .pend))) ++ marked (q .wait .line) (lastMarks (q .block) (q .wait))) (p .ledger) ls rs g′ ls′ rs′
+      Entered ((marked (p .field .no) (p .field .marks) ++ closeFaults j (p .block) (p .wait) (p .since) (p .top) read (closeClaims (p .claims) (p .field) (p .pend))) ++ marked (q .wait .line) (lastMarks (q .block .any) (q .wait))) (p .ledger) ls rs g′ ls′ rs′
       → Kept (λ (off : ℕ → ℕ). (off (p .field .no) ≡ p .starts .field) × Stands off (p .starts) (p .since) (p .wait .line)) (p .ledger .kept) ls ps (g′ .kept) ls′ ps′
       → Listed (offIn past) (faultsAmong terms past) ls₀ rs₀ ps₀ g′ ls′ rs′ ps′
   unfolding rowsFrom
   stand-end {j} ej {g′} {ls′} {rs′} {ps′} E K =
       let c : Claims = closeClaims (p .claims) (p .field) (p .pend) in
       let xs : Basis → List Fault = λ k. marked (p .field .no) (p .field .marks) ++ closeFaults k (p .block) (p .wait) (p .since) (p .top) read c in
-      let ys : Basis → List Fault = λ k. marked (closeAs k (p .block) (p .wait) (p .since) (p .top) read c .wait .line) (lastMarks (closeAs k (p .block) (p .wait) (p .since) (p .top) read c .block) (closeAs k (p .block) (p .wait) (p .since) (p .top) read c .wait)) in
+      let ys : Basis → List Fault = λ k. marked (closeAs k (p .block) (p .wait) (p .since) (p .top) read c .wait .line) (lastMarks (closeAs k (p .block) (p .wait) (p .since) (p .top) read c .block .any) (closeAs k (p .block) (p .wait) (p .since) (p .top) read c .wait)) in
       let whole : run terms put start [] (rowsFrom 1 past) ≡ faultsAmong terms past =
       emitted terms put put-comm [] (rowsFrom 1 past) ∙ in-line-order 1 (spots terms (tree (rowsFrom 1 past))) (spots-orderly terms (tree (rowsFrom 1 past))) (lines-rise terms 1 past) in
       let done : putAll put (final terms (W .pieces)) (W .all) ≡ faultsAmong terms past =

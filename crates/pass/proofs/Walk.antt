@@ -7,7 +7,7 @@ use native.Mathlib.Omega.{arith}
 use lib.Dec.{eqb, leb}
 use lib.ListN.{length, drop, getD, replicate, length-append, length-drop}
 use lib.Seq.{length-take-le}
-use borrow.Author.Tests.{le-leb, lt-leb, eqb-true, eqb-false}
+use borrow.Author.Tests.{le-leb, lt-leb, eq-eqb, ne-eqb, eqb-true}
 use Rattle.laws.specs.Tests.{mark}
 use Rattle.laws.specs.Lists.{anyOf}
 use Rattle.text.specs.Characters.{isInadmissible}
@@ -19,10 +19,13 @@ use Rattle.fields.specs.declared.kinds.Kind.{Kind}
 use Rattle.fields.specs.declared.kinds.Kind.the-variants.{Field}
 use Rattle.fields.specs.declared.readings.Reading.{Reading}
 use Rattle.fields.specs.Kinds.{place, kindOf}
+use Rattle.fields.specs.Classes.{codeOf, classOf, claims}
+use Rattle.fields.specs.Classes.{codeOf}
 use Rattle.fields.specs.Readings.{ifFits}
 use Rattle.fields.proofs.LineKinds.{field-is}
 use Rattle.lines.specs.declared.Found.{Found}
 use Rattle.lines.specs.Reading.{span, IsNext}
+use Rattle.rules.specs.declared.Sums.{Sums}
 use Rattle.rules.specs.Terms.{Terms}
 use Rattle.rules.specs.Faults.{Fault}
 use Rattle.rules.specs.Rows.{Row}
@@ -35,15 +38,19 @@ use Rattle.ledger.specs.Slices.{Entered}
 use Rattle.ledger.proofs.Marks.{marked-few}
 use Rattle.blocks.specs.declared.Basis.{Basis}
 use Rattle.blocks.specs.declared.Block.{Block}
-use Rattle.account.specs.Model.{closeModel}
+use Rattle.blocks.specs.declared.Course.{Course}
+use Rattle.blocks.specs.Model.{courseOf, blockOf, groupMarks}
+use Rattle.account.specs.Model.{groupsOn}
 use Rattle.items.specs.declared.Claims.{Claims}
 use Rattle.items.specs.Claims.{claimsWith}
 use Rattle.items.proofs.Ideal.{Pieces}
 use Rattle.judging.specs.declared.Wait.{Wait}
 use Rattle.judging.specs.declared.opening.Open.{Open}
 use Rattle.judging.specs.declared.opening.Pend.{Pend}
-use Rattle.judging.specs.Opening.{lineMarksOf, codeOf, fitsBy, readAs, headingIn, ownClaims, closeClaims, pendOf}
-use Rattle.judging.specs.Closing.{shutAs, digestOf, closeAs, closeFaults}
+use Rattle.judging.specs.Opening.{lineMarksOf, fitsBy, readAs, headingIn, ownClaims, closeClaims, pendOf}
+use Rattle.judging.specs.Closing.{Ended, closeAs, closeFaults, closeBy, byFaults, countsBy, sumsBy}
+use Rattle.judging.proofs.Cases.{not-kc}
+use Rattle.judging.proofs.ByParts.{whole, close-parts}
 use Rattle.judging.proofs.Sets.{lineMarks}
 use Rattle.judging.proofs.Meaning.{Means}
 
@@ -74,31 +81,82 @@ claims-closed o p c e = rw (le-leb 5 (o .class) e)
 pub claims-kept : (o : Open) (p : Pend) (c : Claims) → o .class < 5 → c ≡ closeClaims c o p
 claims-kept o p c e = rw (lt-leb 5 (o .class) e)
 
--- the field that opens claims or is kept, or neither, or stands above every heading: by the test that the code asks
-took : {A : Type 0} (z k q : Bool) → (not z && (k || q)) ≡ true → (c x : A) → x ≡ cond z c x
-took true k q e c x = absurd (true≢false (sym e))
-took false k q e c x = refl
+-- the field that opens stands above every heading, or claims or is kept, or neither
+module _ (since i : ℕ) (said : Reading) (c : Claims) (p : Pend) where
+  pub own-above : since ≡ 0 → (c ≡ cond (eqb since 0) c (ownClaims c i said)) × (p ≡ cond (eqb since 0) p (pendOf p i said))
+  own-above e = (rw (eq-eqb since 0 e), rw (eq-eqb since 0 e))
 
-left : {A : Type 0} (z k q : Bool) → (not z && (k || q)) ≡ false → (c x y : A) → (c ≡ cond z c (cond k x c)) × (c ≡ cond z c (cond q y c))
-left true k q e c x y = (refl, refl)
-left false true q e c x y = absurd (true≢false e)
-left false false true e c x y = absurd (true≢false e)
-left false false false e c x y = (refl, refl)
-
-module _ (since i num : ℕ) (said : Reading) (en : num ≡ codeOf i) where
-  pub own-took : (not (eqb since 0) && (eqb i 732 || leb 5 num)) ≡ true → (c x : Claims) (p y : Pend) → x ≡ ownClaims c i said → y ≡ pendOf p i said
+  pub own-inside : (since ≡ 0 → ⊥) → {x : Claims} → x ≡ ownClaims c i said → {y : Pend} → y ≡ pendOf p i said
       → (x ≡ cond (eqb since 0) c (ownClaims c i said)) × (y ≡ cond (eqb since 0) p (pendOf p i said))
-  own-took e c x p y ex ey =
-      (ex ∙ took (eqb since 0) (eqb i 732) (leb 5 num) e c (ownClaims c i said), ey ∙ took (eqb since 0) (eqb i 732) (leb 5 num) e p (pendOf p i said))
+  own-inside e ex ey = (rw (ne-eqb since 0 e) ex, rw (ne-eqb since 0 e) ey)
 
-  pub own-left : (not (eqb since 0) && (eqb i 732 || leb 5 num)) ≡ false → (c : Claims) (p : Pend)
-      → (c ≡ cond (eqb since 0) c (ownClaims c i said)) × (p ≡ cond (eqb since 0) p (pendOf p i said))
+  pub own-plain : {k : ℕ} → k ≡ codeOf i → claims k ≡ false → (c ≡ cond (eqb since 0) c (ownClaims c i said)) × (p ≡ cond (eqb since 0) p (pendOf p i said))
   unfolding place
-  own-left e c p =
-      let y : Pend = record { ident = i; said = said } in (
-        left (eqb since 0) (eqb i 732) (leb 5 num) e c (claimsWith c i said) c .0,
-        left (eqb since 0) (eqb i 732) (leb 5 num) e p p y .1 ∙ ap (λ (k : ℕ). cond (eqb since 0) p (cond (leb 5 k) y p)) en,
-      )
+  own-plain {k} ek e =
+      let kc : eqb i 732 ≡ false = not-kc i (ap claims (sym ek) ∙ e) in
+      let low : leb 5 (codeOf i) ≡ false = ap (λ (n : ℕ). leb 5 n) (sym ek) ∙ or-right (eqb k 1) (leb 5 k) e in
+      (rw kc (same (eqb since 0) c), rw low (same (eqb since 0) p))
+    where
+      or-right : (a b : Bool) → (a || b) ≡ false → b ≡ false
+      or-right true b q = absurd (true≢false q)
+      or-right false b q = q
+
+      same : {A : Type 0} (b : Bool) (x : A) → x ≡ cond b x x
+      same true x = refl
+      same false x = refl
+
+-- ---- an item closes by parts
+-- 30 to 39, asked of a 51 alone
+module _ (counts sums : List ℕ) (stated : Sums) (reads : Bool) (h : Heading) {gm : ℕ} where
+  pub groups-took : (reads && eqb (h .kind) 51) ≡ true → gm ≡ groupMarks counts sums (stated .groups) → gm ≡ groupsOn counts sums stated (readAs reads h)
+  unfolding groupsOn
+  groups-took e eg = go reads (eqb (h .kind) 51) refl e
+    where
+      go : (a b : Bool) → eqb (h .kind) 51 ≡ b → (a && b) ≡ true → gm ≡ groupsOn counts sums stated (readAs a h)
+      go true true p q = eg ∙ sym (rw p)
+      go true false p q = absurd (true≢false (sym q))
+      go false b p q = absurd (true≢false (sym q))
+
+  pub groups-left : (reads && eqb (h .kind) 51) ≡ false → gm ≡ 0 → gm ≡ groupsOn counts sums stated (readAs reads h)
+  unfolding groupsOn
+  groups-left e eg = go reads (eqb (h .kind) 51) refl e
+    where
+      go : (a b : Bool) → eqb (h .kind) 51 ≡ b → (a && b) ≡ false → gm ≡ groupsOn counts sums stated (readAs a h)
+      go true true p q = absurd (true≢false q)
+      go true false p q = eg ∙ sym (rw p)
+      go false b p q = eg
+
+module _ (j : Basis) (c : Course) (counts sums : List ℕ) (w : Wait) (n m : ℕ) (r : Read) {cl cl₀ : Claims} (ec : cl ≡ cl₀) {gm : ℕ} (eg : gm ≡ groupsOn counts sums (cl .sums) r) where
+  parts : closeAs j (blockOf c counts sums) w n m r cl₀
+      ≡ whole (closeBy j c w n m r (cl .kc) (cl .span) gm) (countsBy counts n r (cl .kc)) (sumsBy sums n r (cl .kc))
+  parts =
+      (λ i. closeAs j (blockOf c counts sums) w n m r (sym ec i)) ∙ close-parts j c counts sums w n m r cl
+      ∙ (λ i. whole (closeBy j c w n m r (cl .kc) (cl .span) (sym eg i)) (countsBy counts n r (cl .kc)) (sumsBy sums n r (cl .kc)))
+
+  pub shut-block : {c′ : Course} → c′ ≡ closeBy j c w n m r (cl .kc) (cl .span) gm .course → {counts′ : List ℕ} → counts′ ≡ countsBy counts n r (cl .kc)
+      → {sums′ : List ℕ} → sums′ ≡ sumsBy sums n r (cl .kc) → blockOf c′ counts′ sums′ ≡ closeAs j (blockOf c counts sums) w n m r cl₀ .block
+  shut-block e es et = (λ i. blockOf (e i) (es i) (et i)) ∙ ap (λ (x : Ended). x .block) (sym parts)
+
+  pub shut-wait : {w′ : Wait} → w′ ≡ closeBy j c w n m r (cl .kc) (cl .span) gm .wait → w′ ≡ closeAs j (blockOf c counts sums) w n m r cl₀ .wait
+  shut-wait e = e ∙ ap (λ (x : Ended). x .wait) (sym parts)
+
+  pub shut-faults : byFaults j c w n m r (cl .kc) (cl .span) gm ≡ closeFaults j (blockOf c counts sums) w n m r cl₀
+  shut-faults = λ i. marked (w .line) (sym parts i .told) ++ marked n (sym parts i .marks)
+
+-- .. with an account whose course was taken out of it
+module _ (j : Basis) (b : Block) (w : Wait) (n m : ℕ) (r : Read) {c : Course} (eb : c ≡ courseOf b) {cl cl₀ : Claims} (ec : cl ≡ cl₀) {gm : ℕ} (eg : gm ≡ groupsOn (b .counts) (b .sums) (cl .sums) r) where
+  account-is : blockOf c (b .counts) (b .sums) ≡ b
+  account-is = λ i. blockOf (eb i) (b .counts) (b .sums)
+
+  pub end-wait : {w′ : Wait} → w′ ≡ closeBy j c w n m r (cl .kc) (cl .span) gm .wait → w′ ≡ closeAs j b w n m r cl₀ .wait
+  end-wait e = shut-wait j c (b .counts) (b .sums) w n m r ec eg e ∙ (λ i. closeAs j (account-is i) w n m r cl₀ .wait)
+
+  pub end-any : {c′ : Course} → c′ ≡ closeBy j c w n m r (cl .kc) (cl .span) gm .course → c′ .any ≡ closeAs j b w n m r cl₀ .block .any
+  end-any e =
+      ap (λ (x : Block). x .any) (shut-block j c (b .counts) (b .sums) w n m r ec eg e refl refl) ∙ (λ i. closeAs j (account-is i) w n m r cl₀ .block .any)
+
+  pub end-faults : byFaults j c w n m r (cl .kc) (cl .span) gm ≡ closeFaults j b w n m r cl₀
+  end-faults = shut-faults j c (b .counts) (b .sums) w n m r ec eg ∙ (λ i. closeFaults j (account-is i) w n m r cl₀)
 
 -- what `&s[at..end]` has
 pub span-long : {s : List ℕ} {at : ℕ} {f : Found} → IsNext s at f → f .end - at ≡ length (span at (f .end) s)

@@ -26,6 +26,7 @@ use judging::opening::Pend;
 use ledger::Ledger;
 use shutting::Starts;
 use shutting::again;
+use shutting::count_item;
 use shutting::shut_all;
 use shutting::unseen;
 ghost use mathlib.Core.Path.{_≡_};
@@ -106,7 +107,8 @@ pub fn start() -> Pass
 }
 
 // Judges the lines of a text after all that came before it; the text begins at the offset `base` of the file. What is kept stands in
-// locals over the loop: handed on whole at each line it is slower.
+// locals over the loop: handed on whole at each line it is slower. So is an item that closes with all its claims and the account's groups by
+// value: the groups are lent, and what it states of them is asked at a 51 alone.
 pub fn feed(
     s: &[u8],
     base: u32,
@@ -123,6 +125,7 @@ pub fn feed(
     ensures { λ r. ⌜ Fed (now (s .entry)) base basis (now (lines .entry)) (now (rules .entry)) (now (offsets .entry)) (now (stood .entry)) p (now (lines .exit)) (now (rules .exit)) (now (offsets .exit)) (now (stood .exit)) r ⌝ }
 {
     let table = text::characters::table();
+    let codes = classes::codes();
     let mut g = p.ledger;
     let mut open = p.field;
     let mut pend = p.pend;
@@ -131,7 +134,10 @@ pub fn feed(
     let mut reads = p.reads;
     let mut h = p.heading;
     let mut claims = p.claims;
-    let mut block = p.block;
+    let whole = p.block;
+    let mut course = account::course_of(whole);
+    let mut counts = whole.counts;
+    let mut sums = whole.sums;
     let mut wait = p.wait;
     let mut starts = p.starts;
     let mut at = 0;
@@ -148,6 +154,15 @@ pub fn feed(
         at = f.next;
         match x {
             Kind::Heading => {
+                if 5 <= open.class {
+                    claims = opening::claim_closed(claims, open, pend);
+                }
+                let mut groups: u64 = 0;
+                if reads & (h.kind == 51) {
+                    groups = closing::group_marks_of(counts, sums, claims);
+                }
+                let kc = claims.kc;
+                let span = claims.span;
                 let t = shut_all(
                     lines,
                     rules,
@@ -156,17 +171,19 @@ pub fn feed(
                     starts,
                     basis,
                     open,
-                    pend,
                     since,
                     top,
                     reads,
                     h,
-                    claims,
-                    block,
+                    kc,
+                    span,
+                    groups,
+                    course,
                     wait,
                 );
+                count_item(&mut counts, &mut sums, since, reads, h, kc);
                 g = t.ledger;
-                block = t.block;
+                course = t.course;
                 wait = t.wait;
                 starts = Starts {
                     field: 0,
@@ -201,26 +218,29 @@ pub fn feed(
                     claims = opening::claim_closed(claims, open, pend);
                 }
                 let stands = again(stood, ident, n, since);
-                let class = classes::class_of(ident);
-                let number = opening::code_of(class);
-                let said = readings::read_field(class, &s[from..end]);
-                let kc = claims.kc;
-                open = opening::field_open(
-                    basis,
-                    kc,
-                    since,
-                    reads,
-                    h,
-                    n,
-                    own,
-                    stands,
-                    ident,
-                    number,
-                    said,
-                );
-                if !(since == 0) & ((ident == classes::KC) | (5 <= number)) {
-                    claims = opening::claim_own(claims, ident, said);
-                    pend = opening::keep_own(pend, number, ident, said);
+                let class = codes[ident];
+                if (class == 1) | (5 <= class) {
+                    let said = readings::read_claim(class, &s[from..end]);
+                    let kc = claims.kc;
+                    open = opening::field_open(
+                        basis,
+                        kc,
+                        since,
+                        reads,
+                        h,
+                        n,
+                        own,
+                        stands,
+                        ident,
+                        class,
+                        said,
+                    );
+                    if since != 0 {
+                        claims = opening::claim_own(claims, ident, said);
+                        pend = opening::keep_own(pend, class, ident, said);
+                    }
+                } else {
+                    open = opening::plain_open(since, n, own, stands, class, &s[from..end]);
                 }
             }
             Kind::Other => {
@@ -236,6 +256,7 @@ pub fn feed(
             }
         }
     }
+    let block = account::block_of(course, counts, sums);
     Pass {
         ledger: g,
         field: open,
@@ -268,9 +289,19 @@ pub fn finish(
     let open = p.field;
     let pend = p.pend;
     let h = p.heading;
-    let claims = p.claims;
-    let block = p.block;
+    let before = p.claims;
+    let whole = p.block;
+    let course = account::course_of(whole);
+    let counts = whole.counts;
+    let sums = whole.sums;
     let wait = p.wait;
+    let claims = opening::claims_after(before, open, pend);
+    let mut groups: u64 = 0;
+    if p.reads & (h.kind == 51) {
+        groups = closing::group_marks_of(counts, sums, claims);
+    }
+    let kc = claims.kc;
+    let span = claims.span;
     let t = shut_all(
         lines,
         rules,
@@ -279,16 +310,18 @@ pub fn finish(
         starts,
         basis,
         open,
-        pend,
         p.since,
         p.top,
         p.reads,
         h,
-        claims,
-        block,
+        kc,
+        span,
+        groups,
+        course,
         wait,
     );
-    let last = closing::last_marks(t.block, t.wait);
+    let after = t.course;
+    let last = closing::last_marks(after.any, t.wait);
     ledger::enter(lines, rules, offsets, t.ledger, t.wait.line, t.start, last)
 }
 

@@ -7,17 +7,18 @@ use lib.Dec.{eqb}
 use borrow.Author.Tests.{eqb-true, eqb-false}
 use Rattle.laws.specs.Tests.{mark}
 use Rattle.headings.specs.declared.Read.{Read}
+use Rattle.rules.specs.declared.FirstKc.{FirstKc}
+use Rattle.rules.specs.declared.FirstIn.{FirstIn}
 use Rattle.rules.specs.Faults.{Fault}
 use Rattle.rules.specs.Said.{isUnreadable}
 use Rattle.rules.specs.Blocks.{closesAt}
 use Rattle.ledger.specs.declared.Ledger.{Ledger}
 use Rattle.ledger.specs.Slices.{Entered}
 use Rattle.blocks.specs.declared.Basis.{Basis}
-use Rattle.blocks.specs.declared.Block.{Block}
-use Rattle.account.specs.Model.{closeModel}
-use Rattle.items.specs.declared.Claims.{Claims}
+use Rattle.blocks.specs.declared.Course.{Course}
+use Rattle.account.specs.Model.{closeCourse}
 use Rattle.judging.specs.declared.Wait.{Wait}
-use Rattle.judging.specs.Closing.{shutAs, digestOf, closeAs}
+use Rattle.judging.specs.Closing.{shutBy, closeBy}
 use Rattle.shutting.specs.declared.Starts.{Starts}
 use Rattle.shutting.specs.Starts.{Stands, WaitsAt, startOf}
 
@@ -31,17 +32,18 @@ module _ (s : Starts) (n : ℕ) (w : Wait) (off : ℕ → ℕ) (S : Stands off s
       go false ea true eb = ap off (eqb-true l n eb) ∙ S .at-head
       go false ea false eb = h (eqb-false l 0 ea) (eqb-false l n eb)
 
-  starts-at : (headed ends any : Bool) (b b′ : Block) (m : ℕ) → off (shutAs headed ends any b b′ w n m .wait .line) ≡ startOf s (shutAs headed ends any b b′ w n m .wait .line) n
+  starts-at : (headed ends any : Bool) (b b′ : Course) (m : ℕ) → off (shutBy headed ends any b b′ w n m .wait .line) ≡ startOf s (shutBy headed ends any b b′ w n m .wait .line) n
   starts-at false ends any b b′ m = one-of-three (w .line) (λ x y. S .at-wait)
   starts-at true true any b b′ m = one-of-three 0 (λ x y. absurd (x refl))
   starts-at true false true b b′ m = one-of-three (w .line) (λ x y. S .at-wait)
   starts-at true false false b b′ m = one-of-three n (λ x y. absurd (y refl))
 
-pub waits-at : (j : Basis) (b : Block) (w : Wait) (n m : ℕ) (r : Read) (c : Claims) (s : Starts) {x : Wait} → x ≡ closeAs j b w n m r c .wait → {k : ℕ} → k ≡ startOf s (x .line) n
+pub waits-at : (j : Basis) (c : Course) (w : Wait) (n m : ℕ) (r : Read) (kc : FirstKc) (span : FirstIn) (groups : ℕ) (s : Starts) {x : Wait} → x ≡ closeBy j c w n m r kc span groups .wait → {k : ℕ} → k ≡ startOf s (x .line) n
     → WaitsAt s n (w .line) (x .line) k
-unfolding closeAs
-waits-at j b w n m r c s {x} e {k} ek off S =
-    ap (λ (y : Wait). off (y .line)) e ∙ starts-at s n w off S (not (eqb n 0)) (closesAt r) (b .any) b (closeModel j b (digestOf r c) .block) (m + mark 6 (isUnreadable r) + closeModel j b (digestOf r c) .marks)
+unfolding closeBy
+waits-at j c w n m r kc span groups s {x} e {k} ek off S =
+    let closed = closeCourse j c kc span r in
+    ap (λ (y : Wait). off (y .line)) e ∙ starts-at s n w off S (not (eqb n 0)) (closesAt r) (c .any) c (closed .course) (m + mark 6 (isUnreadable r) + closed .marks + groups)
     ∙ sym (ap (λ (y : Wait). startOf s (y .line) n) e) ∙ sym ek
 
 -- what was entered, said in another way

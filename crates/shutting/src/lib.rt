@@ -1,27 +1,27 @@
 // What the pass does with lent memory. What is open closes: the field, and the item with its heading and the one that waits for rule 16 are
 // entered in the lent slices, each beside where its line starts; and an array keeps at which line each identifier last stood. Promised:
-// what is entered is what `closeFaults` of `judging` says, and the third slice stays a function of the lines. It stands on `judging` and
+// what is entered is what `byFaults` of `judging` says, and the third slice stays a function of the lines. It stands on `judging` and
 // `ledger`.
 use blocks::Basis;
-use blocks::Block;
+use blocks::Course;
 use headings::Heading;
 use headings::Read;
-use items::Claims;
 use judging::Wait;
 use judging::closing;
 use judging::opening;
 use judging::opening::Open;
-use judging::opening::Pend;
 use ledger::Ledger;
+use rules::FirstIn;
+use rules::FirstKc;
 ghost use mathlib.Core.Path.{_≡_};
 ghost use mathlib.Core.List.{_++_};
-ghost use Prim.Native.Nat.{_≤_, _<_, _^_};
+ghost use Prim.Native.Nat.{_-_, _≤_, _<_, _^_};
 ghost use lib.Dec.{ltb};
 ghost use lib.ListN.{length, getD, set, replicate};
 ghost use Rattle.ledger.specs.Slices.{Ready, Entered, Kept};
 ghost use Rattle.ledger.specs.Marks.{marked};
-ghost use Rattle.judging.specs.Closing.{closeAs, closeFaults};
-ghost use Rattle.judging.specs.Opening.{readAs, closeClaims};
+ghost use Rattle.judging.specs.Closing.{closeBy, byFaults, countsBy, sumsBy};
+ghost use Rattle.judging.specs.Opening.{readAs};
 ghost use Rattle.shutting.specs.Starts.{Stands, WaitsAt, startOf};
 
 // No identifier stood.
@@ -51,7 +51,7 @@ pub struct Starts {
 
 pub struct Closed {
     pub ledger: Ledger,
-    pub block: Block,
+    pub course: Course,
     pub wait: Wait,
     pub start: u32,
 }
@@ -66,7 +66,26 @@ fn start_of(starts: Starts, line: u32, no: u32) -> u32
     if line == no { starts.head } else { starts.wait }
 }
 
-// The open item closes, whose heading stands at the line `no` (0: none).
+// The groups of the account with the item that closes counted in, whose heading stands at the line `no` (0: none).
+pub fn count_item(
+    counts: &mut [u64; 10],
+    sums: &mut [u64; 10],
+    no: u32,
+    reads: bool,
+    h: Heading,
+    kc: FirstKc,
+)
+    ensures { λ _. ⌜ now (counts .exit) ≡ countsBy (now (counts .entry)) no (readAs reads h) kc ⌝ }
+    ensures { λ _. ⌜ now (sums .exit) ≡ sumsBy (now (sums .entry)) no (readAs reads h) kc ⌝ }
+{
+    if no == 0 {
+        return;
+    }
+    let read = opening::read_as(reads, h);
+    account::count_in(counts, sums, read, kc);
+}
+
+// The open item closes, whose heading stands at the line `no` (0: none); `groups` are its heading's marks 30 to 39.
 fn shut_item(
     lines: &mut [u32],
     rules: &mut [u32],
@@ -77,27 +96,29 @@ fn shut_item(
     no: u32,
     own: u64,
     read: Read,
-    claims: Claims,
-    b: Block,
+    kc: FirstKc,
+    span: FirstIn,
+    groups: u64,
+    c: Course,
     w: Wait,
 ) -> Closed
     requires { ⌜ Ready (g .kept) (now lines) (now rules) ⌝ }
     requires { ⌜ length (now lines) ≡ length (now offsets) ⌝ }
-    requires { ⌜ (g .total < 2 ^ 62) × (w .marks < 2 ^ 41) × (own ≤ 18) ⌝ }
-    ensures { λ r. ⌜ Entered (closeFaults basis b w no own read claims) g (now (lines .entry)) (now (rules .entry)) (r .ledger) (now (lines .exit)) (now (rules .exit)) ⌝ }
-    ensures { λ r. ⌜ (r .block ≡ closeAs basis b w no own read claims .block) × (r .wait ≡ closeAs basis b w no own read claims .wait) × (r .wait .marks < 2 ^ 41) ⌝ }
+    requires { ⌜ (g .total < 2 ^ 62) × (w .marks < 2 ^ 41) × (own ≤ 18) × (groups ≤ 2 ^ 40 - 2 ^ 30) ⌝ }
+    ensures { λ r. ⌜ Entered (byFaults basis c w no own read kc span groups) g (now (lines .entry)) (now (rules .entry)) (r .ledger) (now (lines .exit)) (now (rules .exit)) ⌝ }
+    ensures { λ r. ⌜ (r .course ≡ closeBy basis c w no own read kc span groups .course) × (r .wait ≡ closeBy basis c w no own read kc span groups .wait) × (r .wait .marks < 2 ^ 41) ⌝ }
     ensures { λ r. ⌜ Kept (λ off. Stands off starts no (w .line)) (g .kept) (now (lines .entry)) (now (offsets .entry)) (r .ledger .kept) (now (lines .exit)) (now (offsets .exit)) ⌝ }
     ensures { λ r. ⌜ WaitsAt starts no (w .line) (r .wait .line) (r .start) ⌝ }
 {
-    let c = closing::close_item(basis, b, w, no, own, read, claims);
-    let block = c.block;
-    let wait = c.wait;
+    let s = closing::close_item(basis, c, w, no, own, read, kc, span, groups);
+    let course = s.course;
+    let wait = s.wait;
     let start = start_of(starts, wait.line, no);
-    let first = ledger::enter(lines, rules, offsets, g, w.line, starts.wait, c.told);
-    let ledger = ledger::enter(lines, rules, offsets, first, no, starts.head, c.marks);
+    let first = ledger::enter(lines, rules, offsets, g, w.line, starts.wait, s.told);
+    let ledger = ledger::enter(lines, rules, offsets, first, no, starts.head, s.marks);
     Closed {
         ledger,
-        block,
+        course,
         wait,
         start,
     }
@@ -112,25 +133,25 @@ pub fn shut_all(
     starts: Starts,
     basis: Basis,
     o: Open,
-    p: Pend,
     no: u32,
     own: u64,
     reads: bool,
     h: Heading,
-    claims: Claims,
-    b: Block,
+    kc: FirstKc,
+    span: FirstIn,
+    groups: u64,
+    c: Course,
     w: Wait,
 ) -> Closed
     requires { ⌜ Ready (g .kept) (now lines) (now rules) ⌝ }
     requires { ⌜ length (now lines) ≡ length (now offsets) ⌝ }
-    requires { ⌜ (g .total < 2 ^ 61) × (w .marks < 2 ^ 41) × (own ≤ 18) ⌝ }
-    ensures { λ r. ⌜ Entered (marked (o .no) (o .marks) ++ closeFaults basis b w no own (readAs reads h) (closeClaims claims o p)) g (now (lines .entry)) (now (rules .entry)) (r .ledger) (now (lines .exit)) (now (rules .exit)) ⌝ }
-    ensures { λ r. ⌜ (r .block ≡ closeAs basis b w no own (readAs reads h) (closeClaims claims o p) .block) × (r .wait ≡ closeAs basis b w no own (readAs reads h) (closeClaims claims o p) .wait) × (r .wait .marks < 2 ^ 41) ⌝ }
+    requires { ⌜ (g .total < 2 ^ 61) × (w .marks < 2 ^ 41) × (own ≤ 18) × (groups ≤ 2 ^ 40 - 2 ^ 30) ⌝ }
+    ensures { λ r. ⌜ Entered (marked (o .no) (o .marks) ++ byFaults basis c w no own (readAs reads h) kc span groups) g (now (lines .entry)) (now (rules .entry)) (r .ledger) (now (lines .exit)) (now (rules .exit)) ⌝ }
+    ensures { λ r. ⌜ (r .course ≡ closeBy basis c w no own (readAs reads h) kc span groups .course) × (r .wait ≡ closeBy basis c w no own (readAs reads h) kc span groups .wait) × (r .wait .marks < 2 ^ 41) ⌝ }
     ensures { λ r. ⌜ Kept (λ off. (off (o .no) ≡ starts .field) × Stands off starts no (w .line)) (g .kept) (now (lines .entry)) (now (offsets .entry)) (r .ledger .kept) (now (lines .exit)) (now (offsets .exit)) ⌝ }
     ensures { λ r. ⌜ WaitsAt starts no (w .line) (r .wait .line) (r .start) ⌝ }
 {
     let g1 = ledger::enter(lines, rules, offsets, g, o.no, starts.field, o.marks);
-    let all = opening::claims_after(claims, o, p);
     let read = opening::read_as(reads, h);
     shut_item(
         lines,
@@ -142,8 +163,10 @@ pub fn shut_all(
         no,
         own,
         read,
-        all,
-        b,
+        kc,
+        span,
+        groups,
+        c,
         w,
     )
 }

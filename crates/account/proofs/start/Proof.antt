@@ -1,15 +1,14 @@
-use borrow.Author.Needs.{needs}
-use Rattle.account.specs.Model.{emptyBlock}
+use mathlib.Core.Path.{refl}
 use Rattle.account.specs.Summary.{summary}
 use Rattle.account.proofs.start.Statement.{statement}
 use Rattle.account.proofs.start.Tie as tie
+use Rattle.account.proofs.start.Reads as reads
+use Rattle.account.proofs.start.Lts as lts
 
-no-block-requires : tie.Need-no-block-requires
-no-block-requires c κs = search needs
-
+-- src/lib.rt:178:1
 returns : tie.Need-returns
-unfolding summary emptyBlock
-returns c = c .no-block .ensures
+unfolding summary
+returns c = refl
 
 pub start-spec : {M : Type 1} → statement M
-start-spec = tie.close (tie.spec no-block-requires returns)
+start-spec = tie.close (tie.spec returns)

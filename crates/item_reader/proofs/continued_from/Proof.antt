@@ -27,8 +27,8 @@ told c =
     ap kindOf (sym (rest-all (l .before .before .args .s .now) 0 0 (l .loop .p))) ∙ sym (c .kind-of .ensures)
 
 -- the line that was found
-next : (c : tie.After-line-from Inv-loop μ-loop) → IsNext (c .before .before .before .before .before .before .before .before .args .s .now) (c .before .before .before .before .before .before .loop .p) (c .line-from .result)
-next c = is-next _ _ _ (c .line-from .ensures) (c .before .before .before .before .before .loop-test .taken)
+next : (c : tie.After-line-near Inv-loop μ-loop) → IsNext (c .before .before .before .before .before .before .before .before .args .s .now) (c .before .before .before .before .before .before .loop .p) (c .line-near .result)
+next c = is-next _ _ _ (c .line-near .ensures) (c .before .before .before .before .before .loop-test .taken)
 
 loop-holds : tie.Need-loop-holds Inv-loop μ-loop
 loop-holds c = (c .before .pre, λ n. refl)
@@ -72,8 +72,8 @@ returns-3 c =
 enum-told-3 : tie.Need-enum-told-3 Inv-loop μ-loop
 enum-told-3 c = search needs
 
-line-from-requires : tie.Need-line-from-requires Inv-loop μ-loop
-line-from-requires c κs = search needs
+line-near-requires : tie.Need-line-near-requires Inv-loop μ-loop
+line-near-requires c κs = search needs
 
 loop-less : tie.Need-loop-less Inv-loop μ-loop
 loop-less c = omega (arith, next c .moves, next c .within)
@@ -85,7 +85,7 @@ loop-again c =
       λ n.
           k .before .before .before .loop .inv .1 n
           ∙ top-at-other _ _ (k .before .before .loop-test .taken) (told k ∙ c .before .enum-told3 .given .1) n
-          ∙ ap (λ (f : Found). topIn n (lines (drop (f .next) (k .before .before .before .before .before .args .s .now)))) (sym (c .line-from .ensures)),
+          ∙ ap (λ (f : Found). topIn n (lines (drop (f .next) (k .before .before .before .before .before .args .s .now)))) (sym (c .line-near .ensures)),
     )
 
 returns-4 : tie.Need-returns-4 Inv-loop μ-loop
@@ -109,7 +109,7 @@ continued-from-spec =
     enum-known-kind
     returns-3
     enum-told-3
-    line-from-requires
+    line-near-requires
     loop-less
     loop-again
     returns-4)

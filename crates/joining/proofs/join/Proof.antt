@@ -18,11 +18,11 @@ returns c =
     let a = l .before .before .before .args in
     joined-lf (a .h) (a .s .now) _ (l .starts .ensures) (c .before .with-cr .result) (c .before .before .if1 .taken) (c .before .with-cr .ensures)
 
-line-from-requires : tie.Need-line-from-requires
-line-from-requires c κs = search needs
+line-near-requires : tie.Need-line-near-requires
+line-near-requires c κs = search needs
 
 slice-aggregate-add : tie.Need-slice-aggregate-add
-slice-aggregate-add c = found-part (c .before .before .before .before .before .before .before .args .s .now) (c .before .line-from .result) (c .before .line-from .ensures)
+slice-aggregate-add c = found-part (c .before .before .before .before .before .before .before .args .s .now) (c .before .line-near .result) (c .before .line-near .ensures)
 
 add-requires : tie.Need-add-requires
 add-requires c κs = search needs
@@ -32,7 +32,7 @@ returns-2 c =
     let f = c .before .before in
     let l = f .before .before .before in
     let a = l .before .before .before .args in
-    joined-by (a .h) (a .s .now) _ (l .starts .ensures) (f .line-from .result) (c .add .result) (f .before .if1 .left) (f .line-from .ensures) (c .add .ensures)
+    joined-by (a .h) (a .s .now) _ (l .starts .ensures) (f .line-near .result) (c .add .result) (f .before .if1 .left) (f .line-near .ensures) (c .add .ensures)
 
 pub join-spec : {M : Type 1} → statement M
 join-spec =
@@ -42,7 +42,7 @@ join-spec =
     starts-requires
     with-cr-requires
     returns
-    line-from-requires
+    line-near-requires
     slice-aggregate-add
     add-requires
     returns-2)

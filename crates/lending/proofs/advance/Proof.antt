@@ -39,18 +39,18 @@ use denote.Triple.Table.{entered, cited}
 use denote.Triple.Walked.{says, Stays, stay-none, walkOf, AllGo, goes-none, Walks, ends-at, walked, walk-meets}
 use denote.Triple.Clauses.{ensured, lasts}
 use denote.Exit.{yes}
-use Rattle.rules.specs.declared.Digest.{Digest}
-use Rattle.blocks.specs.declared.Block.{Block}
+use Rattle.account.specs.declared.Outline.{Outline}
+use Rattle.blocks.specs.declared.Course.{Course}
 use Rattle.blocks.specs.declared.Basis.{Basis}
 use Rattle.account.specs.declared.Accounted.{Accounted}
-use Rattle.account.specs.Model.{closeModel}
+use Rattle.account.specs.Model.{courseModel}
 use Rattle.lending.proofs.Values.{machB, machI, machJ, machC}
 use Rattle.lending.proofs.step.Symbol.{name as #step}
 use Rattle.lending.proofs.advance.Key.{name as #advance}
-use Rattle.blocks.proofs.Block as TB
-use Rattle.blocks.proofs.Block.Laws as TB′
-use Rattle.rules.proofs.Digest as TI
-use Rattle.rules.proofs.Digest.Laws as TI′
+use Rattle.blocks.proofs.Course as TB
+use Rattle.blocks.proofs.Course.Laws as TB′
+use Rattle.account.proofs.Outline as TI
+use Rattle.account.proofs.Outline.Laws as TI′
 use Rattle.blocks.proofs.Basis as TJ
 use Rattle.blocks.proofs.Basis.Laws as TJ′
 use Rattle.account.proofs.Accounted as TC
@@ -66,15 +66,15 @@ abbrev stayed : Stays (adv.ended .signature .params) (adv.ended .kept)
 stayed = (stay-none (λ _. TB.the-row) yes, (stay-none (λ _. TI.the-row) yes, (stay-none (λ _. TJ.the-row) yes, tt)))
 
 -- what `step` ensures, at the record z that it leaves and the marks r
-abbrev Ensures : Block → Digest → Basis → Block → ℕ → Type 0
-Ensures h i j z r = (z ≡ closeModel j h i .block) × (r ≡ closeModel j h i .marks) × (r < 2 ^ 40)
+abbrev Ensures : Course → Outline → Basis → Course → ℕ → Type 0
+Ensures h i j z r = (z ≡ courseModel j h i .course) × (r ≡ courseModel j h i .marks) × (r < 2 ^ 23)
 
 module _ {M : Type 1} (𝓤 : URA M) (H : Heap 𝓤) (A : Atoms 𝓤) (at-mem : Memory → SProp 𝓤) (run : Routine → Fun 𝓤) where
   abbrev Step : Contract 𝓤
   Step = tripleOf 𝓤 H A stp.signature (stp.spec 𝓤 H A at-mem run)
 
-module _ {M : Type 1} (𝓤 : URA M) (H : Heap 𝓤) (A : Atoms 𝓤) (W : Given 𝓤 H A) (at-mem : Memory → SProp 𝓤) (run : Routine → Fun 𝓤) (h : Block) (i : Digest) (j : Basis) (h-is : Is TB.the-row h (machB h ∷ [])) (i-is : Is TI.the-row i (machI i ∷ [])) (j-is : Is TJ.the-row j (machJ j ∷ [])) where
-  abbrev x : Block × (Digest × (Basis × Unit {0}))
+module _ {M : Type 1} (𝓤 : URA M) (H : Heap 𝓤) (A : Atoms 𝓤) (W : Given 𝓤 H A) (at-mem : Memory → SProp 𝓤) (run : Routine → Fun 𝓤) (h : Course) (i : Outline) (j : Basis) (h-is : Is TB.the-row h (machB h ∷ [])) (i-is : Is TI.the-row i (machI i ∷ [])) (j-is : Is TJ.the-row j (machJ j ∷ [])) where
+  abbrev x : Course × (Outline × (Basis × Unit {0}))
   x = (h, (i, (j, tt)))
 
   abbrev at : List Val × (List Val × (List Val × Unit {0}))
@@ -83,16 +83,16 @@ module _ {M : Type 1} (𝓤 : URA M) (H : Heap 𝓤) (A : Atoms 𝓤) (W : Given
   abbrev Post : Val → SProp 𝓤
   Post = walkOf 𝓤 H A adv.ended stayed (adv.clauses 𝓤 H A at-mem run) .post ((tt, tt, tt, x, at), tt)
 
-  abbrev made : Block → ℕ → Accounted
-  made z r = record { block = z; marks = r }
+  abbrev made : Course → ℕ → Accounted
+  made z r = record { course = z; marks = r }
 
-  made-is : (z : Block) (r : ℕ) → Is TB.the-row z (machB z ∷ []) → r < 2 ^ 64 → Is TC.the-row (made z r) (machC (made z r) ∷ [])
+  made-is : (z : Course) (r : ℕ) → Is TB.the-row z (machB z ∷ []) → r < 2 ^ 64 → Is TC.the-row (made z r) (machC (made z r) ∷ [])
   made-is z r z-is fits = LL.owes TC.the-type TC′.the-laws (made z r) (z-is, ((refl, fits), tt))
 
-  exits : (z : Block) (r : ℕ) → Is TC.the-row (made z r) (machC (made z r) ∷ []) → Ensures h i j z r → ent 𝓤 (emp 𝓤) (Post (machC (made z r)))
+  exits : (z : Course) (r : ℕ) → Is TC.the-row (made z r) (machC (made z r) ∷ []) → Ensures h i j z r → ent 𝓤 (emp 𝓤) (Post (machC (made z r)))
   exits z r c-is e =
       qed W [] ∵
-      suffices ! _ (ends-at 𝓤 H A adv.ended stayed (adv.clauses 𝓤 H A at-mem run) W ((tt, tt, tt, x, at), tt) (machC (made z r)) (made z r) (tt, (tt, (tt, tt))) (tt, (tt, (tt, tt)))) $ says ! ((λ k. record { block = e .0 k; marks = e .1 k }), e .2) $
+      suffices ! _ (ends-at 𝓤 H A adv.ended stayed (adv.clauses 𝓤 H A at-mem run) W ((tt, tt, tt, x, at), tt) (machC (made z r)) (made z r) (tt, (tt, (tt, tt))) (tt, (tt, (tt, tt)))) $ says ! ((λ k. record { course = e .0 k; marks = e .1 k }), e .2) $
       owned ! TC.the-row (Is TC.the-row) (LL.makes TC.the-type TC′.the-plain 𝓤 H A) (made z r) _ c-is $ nothing ! $
       owned ! TJ.the-row (Is TJ.the-row) (LL.makes TJ.the-type TJ′.the-plain 𝓤 H A) j _ j-is $ fjoin ! $
       owned ! TI.the-row (Is TI.the-row) (LL.makes TI.the-type TI′.the-plain 𝓤 H A) i _ i-is $ fjoin ! $
@@ -107,7 +107,7 @@ module _ {M : Type 1} (𝓤 : URA M) (H : Heap 𝓤) (A : Atoms 𝓤) (W : Given
       fpack ! (List Val) (λ us. fsep (cellAt fullShare (TB.the-row .mir) us l 0) (TB.the-row .own h us)) (machB h ∷ []) $ done !
 
   -- the reference that is passed: to the local at l, for the lifetime ν, under the name δ
-  abbrev lent : ℕ → GName → RefT Block
+  abbrev lent : ℕ → GName → RefT Course
   lent l δ = record { ptr = (l, 0); name = δ; now = h }
 
   abbrev to-step : ℕ → ℕ → GName → Step 𝓤 H A at-mem run .Ghost
@@ -138,7 +138,7 @@ module _ {M : Type 1} (𝓤 : URA M) (H : Heap 𝓤) (A : Atoms 𝓤) (W : Given
         -- [what `step` needs; the lender's part; _7 (2); …; _6 (4); …; _5 (6); …; _4's end (8); _3 (9); …; _2 (11); …; _1 (13); …; room for _0 (15); …]
         calls-at ! fm (Step 𝓤 H A at-mem run) known (to-step l₄ ν δ) (and-then ! (load ! (from ! (stop !)) (look ! 4 refl)) (and-then ! (load ! (from ! (stop !)) (look ! 11 refl)) (and-then ! (load ! (from ! (stop !)) (look ! 9 refl)) (no-more !)))) (λ v.
         use1 W (later (some (λ (r : ℕ). ((‵ (flft (ν ∷ []) fullShare) ⊛ ‵ ftrue) ⊛ ‵ (u64 .own r (v ∷ []))) ⊛ raw (ensured 𝓤 H A stp.ended (stp.clauses 𝓤 H A at-mem run) (ν ∷ [], tt) (lent l₄ δ, (i, (j, tt))) tt r)))) (id⊢ 𝓤 _) $ await ! tt $ pick ! (λ r.
-        split ! $ move ! (1 ∷ []) $ use1 W (some (λ (zs : Block × (Unit {0} × (Unit {0} × Unit {0}))). ‵ (lasts stp.ended (ν ∷ [], tt) (lent l₄ δ, (i, (j, tt))) zs) ⊛ raw (fact 𝓤 (Ensures h i j (zs .0) r)))) (id⊢ 𝓤 _) $ pick ! (λ zs.
+        split ! $ move ! (1 ∷ []) $ use1 W (some (λ (zs : Course × (Unit {0} × (Unit {0} × Unit {0}))). ‵ (lasts stp.ended (ν ∷ [], tt) (lent l₄ δ, (i, (j, tt))) zs) ⊛ raw (fact 𝓤 (Ensures h i j (zs .0) r)))) (id⊢ 𝓤 _) $ pick ! (λ zs.
         split ! $ move ! (1 ∷ []) $ heard ! (Ensures h i j (zs .0) r) (λ e. fsplit ! $ move ! (2 ∷ []) $ split ! $ move ! (1 ∷ []) $
         peeks ! u64 (Is u64) (shows 𝓤 H A u64) r (v ∷ []) (λ is.
         -- [what r owns; the token; the last value; …; the lender's part; _7 (5); …; _6 (7); …; _5 (9); …; _4's end (11); _3 (12); …; _2 (14); …; _1 (16); …; room for _0 (18); …]

@@ -39,18 +39,18 @@ use denote.Triple.Table.{entered, cited}
 use denote.Triple.Walked.{says, Stays, stay-ref, stay-none, walkOf, AllGo, goes-none, goes-ref, Walks, ends-at, walked, walk-meets}
 use denote.Triple.Clauses.{ensured, lasts}
 use denote.Exit.{yes}
-use Rattle.rules.specs.declared.Digest.{Digest}
-use Rattle.blocks.specs.declared.Block.{Block}
+use Rattle.account.specs.declared.Outline.{Outline}
+use Rattle.blocks.specs.declared.Course.{Course}
 use Rattle.blocks.specs.declared.Basis.{Basis}
 use Rattle.account.specs.declared.Accounted.{Accounted}
-use Rattle.account.specs.Model.{closeModel}
+use Rattle.account.specs.Model.{courseModel}
 use Rattle.account.proofs.close_item.Symbol.{name as #close-item}
 use Rattle.lending.proofs.Values.{machB, machI, machJ}
 use Rattle.lending.proofs.step.Key.{name as #step}
-use Rattle.blocks.proofs.Block as TB
-use Rattle.blocks.proofs.Block.Laws as TB′
-use Rattle.rules.proofs.Digest as TI
-use Rattle.rules.proofs.Digest.Laws as TI′
+use Rattle.blocks.proofs.Course as TB
+use Rattle.blocks.proofs.Course.Laws as TB′
+use Rattle.account.proofs.Outline as TI
+use Rattle.account.proofs.Outline.Laws as TI′
 use Rattle.blocks.proofs.Basis as TJ
 use Rattle.blocks.proofs.Basis.Laws as TJ′
 use Rattle.account.proofs.Accounted as TC
@@ -66,26 +66,26 @@ abbrev stayed : Stays (stp.ended .signature .params) (stp.ended .kept)
 stayed = (stay-ref (0 ∷ []) tt (plain (λ _. TB.the-row)), (stay-none (λ _. TI.the-row) yes, (stay-none (λ _. TJ.the-row) yes, tt)))
 
 -- what a `Accounted` tells of its parts
-block-is : (r : Accounted) {vs : List Val} → Is TC.the-row r vs → Is TB.the-row (r .block) (machB (r .block) ∷ [])
-block-is r is = LL.owed TC.the-type TC′.the-laws r _ is .0
+course-is : (r : Accounted) {vs : List Val} → Is TC.the-row r vs → Is TB.the-row (r .course) (machB (r .course) ∷ [])
+course-is r is = LL.owed TC.the-type TC′.the-laws r _ is .0
 
 marks-fit : (r : Accounted) {vs : List Val} → Is TC.the-row r vs → r .marks < 2 ^ 64
 marks-fit r is = LL.owed TC.the-type TC′.the-laws r _ is .1 .0 .1
 
 -- what `close_item` ensures
-abbrev Closes : Block → Digest → Basis → Accounted → Type 0
-Closes h i j r = (r ≡ closeModel j h i) × (r .marks < 2 ^ 40)
+abbrev Closes : Course → Outline → Basis → Accounted → Type 0
+Closes h i j r = (r ≡ courseModel j h i) × (r .marks < 2 ^ 23)
 
 module _ {M : Type 1} (𝓤 : URA M) (H : Heap 𝓤) (A : Atoms 𝓤) (at-mem : Memory → SProp 𝓤) (run : Routine → Fun 𝓤) where
   -- the contract that the proof cites
   abbrev Close : Contract 𝓤
   Close = tripleOf 𝓤 H A close.signature (close.spec 𝓤 H A at-mem run)
 
-  closed-of : (h : Block) (i : Digest) (j : Basis) (r : Accounted) → ent 𝓤 (ensured 𝓤 H A close.ended (close.clauses 𝓤 H A at-mem run) tt (h, (i, (j, tt))) tt r) (fact 𝓤 (Closes h i j r))
+  closed-of : (h : Course) (i : Outline) (j : Basis) (r : Accounted) → ent 𝓤 (ensured 𝓤 H A close.ended (close.clauses 𝓤 H A at-mem run) tt (h, (i, (j, tt))) tt r) (fact 𝓤 (Closes h i j r))
   closed-of h i j r = exE 𝓤 _ (λ ws. snd∗ 𝓤 (sem 𝓤 H A (lasts close.ended tt (h, (i, (j, tt))) ws)) (fact 𝓤 (Closes h i j r)))
 
-module _ {M : Type 1} (𝓤 : URA M) (H : Heap 𝓤) (A : Atoms 𝓤) (W : Given 𝓤 H A) (at-mem : Memory → SProp 𝓤) (run : Routine → Fun 𝓤) (κ : Lft) (q : Share) (b o : ℕ) (γ : GName) (h : Block) (i : Digest) (j : Basis) (i-is : Is TI.the-row i (machI i ∷ [])) (j-is : Is TJ.the-row j (machJ j ∷ [])) where
-  abbrev x : RefT Block × (Digest × (Basis × Unit {0}))
+module _ {M : Type 1} (𝓤 : URA M) (H : Heap 𝓤) (A : Atoms 𝓤) (W : Given 𝓤 H A) (at-mem : Memory → SProp 𝓤) (run : Routine → Fun 𝓤) (κ : Lft) (q : Share) (b o : ℕ) (γ : GName) (h : Course) (i : Outline) (j : Basis) (i-is : Is TI.the-row i (machI i ∷ [])) (j-is : Is TJ.the-row j (machJ j ∷ [])) where
+  abbrev x : RefT Course × (Outline × (Basis × Unit {0}))
   x = (record { ptr = (b, o); name = γ; now = h }, (i, (j, tt)))
 
   abbrev at : List Val × (List Val × (List Val × Unit {0}))
@@ -95,11 +95,11 @@ module _ {M : Type 1} (𝓤 : URA M) (H : Heap 𝓤) (A : Atoms 𝓤) (W : Given
   Post = walkOf 𝓤 H A stp.ended stayed (stp.clauses 𝓤 H A at-mem run) .post (((κ, tt), (q, tt), tt, x, at), tt)
 
   exits : (r : Accounted) → Closes h i j r → r .marks < 2 ^ 64
-      → ent 𝓤 (sep 𝓤 (A .obs γ (TB.the-row .coded .code (r .block))) (sep 𝓤 (A .bor κ (Body (mem TB.the-row) b o γ)) (A .lft κ q))) (Post (vint w64 (r .marks)))
+      → ent 𝓤 (sep 𝓤 (A .obs γ (TB.the-row .coded .code (r .course))) (sep 𝓤 (A .bor κ (Body (mem TB.the-row) b o γ)) (A .lft κ q))) (Post (vint w64 (r .marks)))
   exits r e fits =
-      qed W (‵ (fobs γ (TB.the-row .coded .code (r .block))) ∷ ‵ (fbor κ (Body (mem TB.the-row) b o γ)) ∷ ‵ (flft κ q) ∷ []) ∵
-      suffices ! _ (ends-at 𝓤 H A stp.ended stayed (stp.clauses 𝓤 H A at-mem run) W (((κ, tt), (q, tt), tt, x, at), tt) (vint w64 (r .marks)) (r .marks) (r .block, (tt, (tt, tt))) (tt, (tt, (tt, tt)))) $
-      says ! (ap (λ (c : Accounted). c .block) (e .0), ap (λ (c : Accounted). c .marks) (e .0), e .1) $ nothing ! $ move ! (3 ∷ 0 ∷ []) $ join ! $
+      qed W (‵ (fobs γ (TB.the-row .coded .code (r .course))) ∷ ‵ (fbor κ (Body (mem TB.the-row) b o γ)) ∷ ‵ (flft κ q) ∷ []) ∵
+      suffices ! _ (ends-at 𝓤 H A stp.ended stayed (stp.clauses 𝓤 H A at-mem run) W (((κ, tt), (q, tt), tt, x, at), tt) (vint w64 (r .marks)) (r .marks) (r .course, (tt, (tt, tt))) (tt, (tt, (tt, tt)))) $
+      says ! (ap (λ (c : Accounted). c .course) (e .0), ap (λ (c : Accounted). c .marks) (e .0), e .1) $ nothing ! $ move ! (3 ∷ 0 ∷ []) $ join ! $
       frame ! $ feqI ! (List Val) (vptr b o ∷ []) (vptr b o ∷ []) refl $ fjoin3 ! $ nothing ! $ owned ! TJ.the-row (Is TJ.the-row) (LL.makes TJ.the-type TJ′.the-plain 𝓤 H A) j _ j-is $ fjoin ! $
       owned ! TI.the-row (Is TI.the-row) (LL.makes TI.the-type TI′.the-plain 𝓤 H A) i _ i-is $ fjoin ! $ move ! (1 ∷ 0 ∷ []) $ fjoin ! $
       owned ! u64 (Is u64) (uint-makes 𝓤 H A W w64) (r .marks) _ (refl, fits) $ move ! (1 ∷ 0 ∷ []) $ done !
@@ -133,9 +133,9 @@ module _ {M : Type 1} (𝓤 : URA M) (H : Heap 𝓤) (A : Atoms 𝓤) (W : Given
         land ! (from ! (stop !)) (init ! 8 refl (LL.lawful TC.the-type TC′.the-laws 𝓤 H A W .typed r _ is .0)) $
         rewrite ! 8 (λ (u : Val). ‵ (fat fullShare TC′.mir l₄ 0 u)) (ap only (LL.tells TC.the-type TC′.the-laws r (v ∷ []) is)) refl $
         -- [what the result owns; the record's cell; what it owned; the open borrow; obs; auth; _5 (6); …; _4 (8); …; _3 (10); …; _2 (12); …; _1 (14); …; room for _0 (16); …]
-        assigns ! (of-opd ! (load ! (from ! (fld ! refl (stop !))) (look-in ! 8 (sub ! 0 refl (whole !))))) (from ! (hop ! (look ! 14 refl) (stop !))) (store-raw ! 1 refl (LL.lawful TB.the-type TB′.the-laws 𝓤 H A W .typed (r .block) _ (block-is r is) .0)) $
+        assigns ! (of-opd ! (load ! (from ! (fld ! refl (stop !))) (look-in ! 8 (sub ! 0 refl (whole !))))) (from ! (hop ! (look ! 14 refl) (stop !))) (store-raw ! 1 refl (LL.lawful TB.the-type TB′.the-laws 𝓤 H A W .typed (r .course) _ (course-is r is) .0)) $
         assigns ! (of-opd ! (load ! (from ! (fld ! refl (stop !))) (look-in ! 8 (sub ! 1 refl (whole !))))) (from ! (stop !)) (init ! 16 refl (tt, record { fits = marks-fit r is })) $
-        drop ! $ move ! (1 ∷ []) $ drop ! $ owned ! TB.the-row (Is TB.the-row) (LL.makes TB.the-type TB′.the-plain 𝓤 H A) (r .block) _ (block-is r is) $ move ! (1 ∷ 0 ∷ []) $ closes ! tt TB.the-row (r .block) (machB (r .block) ∷ []) b o $
+        drop ! $ move ! (1 ∷ []) $ drop ! $ owned ! TB.the-row (Is TB.the-row) (LL.makes TB.the-type TB′.the-plain 𝓤 H A) (r .course) _ (course-is r is) $ move ! (1 ∷ 0 ∷ []) $ closes ! tt TB.the-row (r .course) (machB (r .course) ∷ []) b o $
         returns ! (look ! 13 refl) $ forget ! 3 refl $ forget ! 5 refl $ forget ! 7 refl $ forget ! 9 refl $ forget ! 11 refl $ forget ! 13 refl $
         move ! (13 ∷ 14 ∷ []) $ free1 ! $ move ! (11 ∷ 12 ∷ []) $ free1 ! $ move ! (9 ∷ 10 ∷ []) $ free1 ! $ move ! (7 ∷ 8 ∷ []) $ free1 ! $ move ! (5 ∷ 6 ∷ []) $ free1 ! $ move ! (3 ∷ 4 ∷ []) $ free1 ! $ free0 ! $
         keep ! (0 ∷ 1 ∷ 2 ∷ []) $ by ! (exits r e (marks-fit r is))))))))))))))

@@ -1,67 +1,99 @@
-use mathlib.Core.Path.{_≡_, ap, _∙_}
+use mathlib.Core.Path.{_≡_, refl, sym, ap, _∙_}
 use mathlib.Core.Logic.{⊎-elim}
 use mathlib.Core.Bool.{true}
-use Prim.Native.Nat.{suc, _+_, _-_, _≤_}
+use mathlib.Core.List.{List, _++_}
+use Prim.Native.Nat.{suc, _+_, _-_, _≤_, _<_, _^_}
 use native.Mathlib.Omega.{arith}
-use lib.ListN.{length}
-use Rattle.fields.specs.declared.classes.Class.{Class}
+use lib.ListN.{length, getD}
+use Rattle.fields.specs.Classes.{classOf, codeOf}
 use Rattle.fields.specs.Readings.{textOf, readingOf}
 use Rattle.lines.specs.Reading.{span, IsNext}
 use Rattle.lines.proofs.Reading.{is-next}
-use Rattle.judging.specs.Opening.{codeBy, codeOf, lowOpen, closeClaims}
+use Rattle.rules.specs.Faults.{Fault}
+use Rattle.ledger.specs.Marks.{marked}
+use Rattle.blocks.specs.Model.{blockOf}
+use Rattle.account.specs.Model.{groupsOn}
+use Rattle.judging.specs.Opening.{lowOpen, readAs, closeClaims}
 use Rattle.judging.proofs.Sets.{lineMarks}
-use Rattle.pass.proofs.Walk.{own-at, claims-closed, claims-kept, own-took, own-left, span-long, ident-few}
-use Rattle.pass.proofs.Feeding.{Feeding, bounded-room, bounded-tail, feed-start, feed-end, feed-other, feed-more, feed-field, feed-head}
-use Rattle.pass.proofs.feed.Statement.{statement}
+use Rattle.shutting.proofs.Waiting.{entered-list}
+use Rattle.pass.proofs.Walk.{own-at, claims-closed, claims-kept, groups-took, groups-left, shut-block, shut-wait, shut-faults, own-above, own-inside, own-plain, span-long, ident-few}
+use Rattle.pass.proofs.Feeding.{Feeding, bounded-room, bounded-tail, feed-start, feed-close, feed-end, feed-other, feed-more, feed-field, feed-head}
 use borrow.Author.Needs.{needs}
+use Rattle.pass.proofs.feed.Statement.{statement}
 use Rattle.pass.proofs.feed.Tie as tie
 
 abbrev Inv-loop : tie.InvT-loop
-Inv-loop s base basis lines₀ rules₀ offsets₀ stood₀ table g₀ open₀ pend₀ since₀ top₀ reads₀ h₀ claims₀ block₀ wait₀ starts₀ at₀ n₀ lines rules offsets stood g «open» pend since top reads h claims block wait starts at n =
-    Feeding s base basis lines₀ rules₀ offsets₀ stood₀ (record { ledger = g₀; field = open₀; pend = pend₀; since = since₀; top = top₀; reads = reads₀; heading = h₀; claims = claims₀; block = block₀; wait = wait₀; starts = starts₀; n = n₀ })
-    lines rules offsets stood (record { ledger = g; field = «open»; pend = pend; since = since; top = top; reads = reads; heading = h; claims = claims; block = block; wait = wait; starts = starts; n = n }) at
+Inv-loop s base basis lines₀ rules₀ offsets₀ stood₀ table codes g₀ open₀ pend₀ since₀ top₀ reads₀ h₀ claims₀ course₀ counts₀ sums₀ wait₀ starts₀ at₀ n₀ lines rules offsets stood g «open» pend since top reads h claims course counts sums wait starts at n =
+    Feeding s base basis lines₀ rules₀ offsets₀ stood₀ (record { ledger = g₀; field = open₀; pend = pend₀; since = since₀; top = top₀; reads = reads₀; heading = h₀; claims = claims₀; block = blockOf course₀ counts₀ sums₀; wait = wait₀; starts = starts₀; n = n₀ })
+    lines rules offsets stood (record { ledger = g; field = «open»; pend = pend; since = since; top = top; reads = reads; heading = h; claims = claims; block = blockOf course counts sums; wait = wait; starts = starts; n = n }) at
 
 abbrev μ-loop : tie.MeasureT-loop
-μ-loop s base basis lines₀ rules₀ offsets₀ stood₀ table g₀ open₀ pend₀ since₀ top₀ reads₀ h₀ claims₀ block₀ wait₀ starts₀ at₀ n₀ lines rules offsets stood g «open» pend since top reads h claims block wait starts at n =
+μ-loop s base basis lines₀ rules₀ offsets₀ stood₀ table codes g₀ open₀ pend₀ since₀ top₀ reads₀ h₀ claims₀ course₀ counts₀ sums₀ wait₀ starts₀ at₀ n₀ lines rules offsets stood g «open» pend since top reads h claims course counts sums wait starts at n =
     length s - at
 
 -- the line that was found
-next : (c : tie.After-line-from Inv-loop μ-loop) → IsNext (c .before .before .before .before .before .before .before .before .before .before .before .before .before .before .before .before .args .s .now) (c .before .before .loop .at) (c .line-from .result)
+next : (c : tie.After-line-from Inv-loop μ-loop) → IsNext (c .before .before .before .before .before .before .before .before .before .before .before .before .before .before .before .before .before .before .before .before .args .s .now) (c .before .before .loop .at) (c .line-from .result)
 next c = is-next _ _ _ (c .line-from .ensures) (c .before .loop-test .taken)
 
 -- the text, and what is counted with, are within their bounds
-within : (c : tie.After-line-from Inv-loop μ-loop) → c .before .before .before .before .before .before .before .before .before .before .before .before .before .before .before .before .args .base + c .before .before .loop .at ≤ 10000000
-within c = omega (arith, c .before .before .loop .inv .to, c .before .before .before .before .before .before .before .before .before .before .before .before .before .before .before .before .pre .0)
+within : (c : tie.After-line-from Inv-loop μ-loop) → c .before .before .before .before .before .before .before .before .before .before .before .before .before .before .before .before .before .before .before .before .args .base + c .before .before .loop .at ≤ 10000000
+within c = omega (arith, c .before .before .loop .inv .to, c .before .before .before .before .before .before .before .before .before .before .before .before .before .before .before .before .before .before .before .before .pre .0)
 
 -- marks 1 and 4 of it
 own-is : (c : tie.After-line-marks Inv-loop μ-loop)
-    → c .line-marks .result ≡ lineMarks (record { no = suc (c .before .before .before .before .before .before .loop .n); bytes = span (c .before .before .before .before .before .before .loop .at) (c .before .before .before .before .line-from .result .end) (c .before .before .before .before .before .before .before .before .before .before .before .before .before .before .before .before .before .before .before .before .args .s .now); ended = c .before .before .before .before .line-from .result .ended })
+    → c .line-marks .result ≡ lineMarks (record { no = suc (c .before .before .before .before .before .before .loop .n); bytes = span (c .before .before .before .before .before .before .loop .at) (c .before .before .before .before .line-from .result .end) (c .before .before .before .before .before .before .before .before .before .before .before .before .before .before .before .before .before .before .before .before .before .before .before .before .args .s .now); ended = c .before .before .before .before .line-from .result .ended })
 own-is c = own-at (next (c .before .before .before .before)) _ (c .before .holds-inadmissible .ensures) (c .line-marks .ensures .0)
 
 -- the claims are touched only where the open field makes one
-claims-joined : (c : tie.Joined1 Inv-loop μ-loop) → let at-loop = (c .before .before .before .before .before .before .before .before .before .before .before .before .before .before .before .before .before .before .before .before .before .before .before) in c .if1 .claims ≡ closeClaims (at-loop .loop .claims) (at-loop .loop .«open») (at-loop .loop .pend)
-claims-joined c =
-    let at-loop = (c .before .before .before .before .before .before .before .before .before .before .before .before .before .before .before .before .before .before .before .before .before .before .before) in
+claims-at-heading : (c : tie.Joined1 Inv-loop μ-loop) → let at-loop = c .before .before .before .before .before .before .before .before .before .before .before .before in c .if1 .claims ≡ closeClaims (at-loop .loop .claims) (at-loop .loop .«open») (at-loop .loop .pend)
+claims-at-heading c =
+    let at-loop = c .before .before .before .before .before .before .before .before .before .before .before .before in
     ⊎-elim (λ w. w .2 ∙ w .1 .ensures ∙ claims-closed (at-loop .loop .«open») (at-loop .loop .pend) (at-loop .loop .claims) (w .0 .taken))
     (λ w. w .1 ∙ claims-kept (at-loop .loop .«open») (at-loop .loop .pend) (at-loop .loop .claims) (w .0 .left)) (c .if1 .came)
+
+claims-at-field : (c : tie.Joined3 Inv-loop μ-loop) → let at-loop = c .before .before .before .before .before .before .before .before .before .before .before .before .before .before .before .before .before .before .before .before .before .before .before in c .if3 .claims ≡ closeClaims (at-loop .loop .claims) (at-loop .loop .«open») (at-loop .loop .pend)
+claims-at-field c =
+    let at-loop = c .before .before .before .before .before .before .before .before .before .before .before .before .before .before .before .before .before .before .before .before .before .before .before in
+    ⊎-elim (λ w. w .2 ∙ w .1 .ensures ∙ claims-closed (at-loop .loop .«open») (at-loop .loop .pend) (at-loop .loop .claims) (w .0 .taken))
+    (λ w. w .1 ∙ claims-kept (at-loop .loop .«open») (at-loop .loop .pend) (at-loop .loop .claims) (w .0 .left)) (c .if3 .came)
+
+-- 30 to 39 of the item that closes, and how many they are at most
+groups-are : (c : tie.Joined2 Inv-loop μ-loop)
+    → (c .if2 .groups ≡ groupsOn (c .before .before .before .before .before .before .before .before .before .before .before .before .before .before .loop .counts) (c .before .before .before .before .before .before .before .before .before .before .before .before .before .before .loop .sums) (c .before .before .if1 .claims .sums) (readAs (c .before .before .before .before .before .before .before .before .before .before .before .before .before .before .loop .reads) (c .before .before .before .before .before .before .before .before .before .before .before .before .before .before .loop .h)))
+    × (c .if2 .groups ≤ 2 ^ 40 - 2 ^ 30)
+groups-are c =
+    let at-loop = c .before .before .before .before .before .before .before .before .before .before .before .before .before .before in
+    let stated = c .before .before .if1 .claims .sums in
+    ⊎-elim (λ w. (groups-took (at-loop .loop .counts) (at-loop .loop .sums) stated (at-loop .loop .reads) (at-loop .loop .h) (w .0 .taken) (w .2 ∙ w .1 .ensures .0), omega (arith, w .2, w .1 .ensures .1)))
+    (λ w. (groups-left (at-loop .loop .counts) (at-loop .loop .sums) stated (at-loop .loop .reads) (at-loop .loop .h) (w .0 .left) (w .1), omega (arith, w .1))) (c .if2 .came)
 
 table-requires : tie.Need-table-requires Inv-loop μ-loop
 table-requires c κs = search needs
 
+codes-requires : tie.Need-codes-requires Inv-loop μ-loop
+codes-requires c κs = search needs
+
+course-of-requires : tie.Need-course-of-requires Inv-loop μ-loop
+course-of-requires c κs = search needs
+
 loop-holds : tie.Need-loop-holds Inv-loop μ-loop
-loop-holds c = feed-start (c .before .before .before .before .before .before .before .before .before .before .before .before .before .pre .1)
+loop-holds c =
+    feed-start (c .before .before .before .before .before .before .before .before .before .before .before .before .before .before .before .before .before .pre .1)
 
 line-from-requires : tie.Need-line-from-requires Inv-loop μ-loop
 line-from-requires c κs = search needs
 
 cast-here : tie.Need-cast-here Inv-loop μ-loop
-cast-here c = omega (arith, within c)
+cast-here c =
+    omega (arith, within c)
 
 add-here : tie.Need-add-here Inv-loop μ-loop
-add-here c = omega (arith, within c)
+add-here c =
+    omega (arith, within c)
 
 add-n : tie.Need-add-n Inv-loop μ-loop
-add-n c = omega (arith, c .before .before .loop .inv .bounded .few, within c)
+add-n c =
+    omega (arith, c .before .before .loop .inv .bounded .few, within c)
 
 sub-holds-inadmissible : tie.Need-sub-holds-inadmissible Inv-loop μ-loop
 sub-holds-inadmissible c =
@@ -79,7 +111,8 @@ part-holds-inadmissible-end c =
     omega (arith, found .starts, found .closes, found .within)
 
 holds-inadmissible-requires : tie.Need-holds-inadmissible-requires Inv-loop μ-loop
-holds-inadmissible-requires c κs = c .before .before .before .before .before .before .before .before .before .before .before .before .before .table .ensures
+holds-inadmissible-requires c κs =
+    c .before .before .before .before .before .before .before .before .before .before .before .before .before .before .before .before .before .table .ensures
 
 line-marks-requires : tie.Need-line-marks-requires Inv-loop μ-loop
 line-marks-requires c κs = search needs
@@ -105,11 +138,20 @@ kind-of-requires c κs = search needs
 enum-told : tie.Need-enum-told Inv-loop μ-loop
 enum-told c = search needs
 
+claim-closed-requires : tie.Need-claim-closed-requires Inv-loop μ-loop
+claim-closed-requires c κs = search needs
+
+group-marks-of-requires : tie.Need-group-marks-of-requires Inv-loop μ-loop
+group-marks-of-requires c κs = search needs
+
 shut-all-requires : tie.Need-shut-all-requires Inv-loop μ-loop
 shut-all-requires c κs =
-    let B = c .before .before .before .before .before .before .before .before .before .before .before .before .before .loop .inv .bounded in
-    let room = bounded-room (within (c .before .before .before .before .before .before .before .before .before .before .before)) B in
-    (B .ready, (B .level, (omega (arith, room), B .calm, B .top-few)))
+    let B = c .before .before .before .before .before .before .before .before .before .before .before .before .before .before .before .before .before .loop .inv .bounded in
+    let room = bounded-room (within (c .before .before .before .before .before .before .before .before .before .before .before .before .before .before .before)) B in
+    (B .ready, (B .level, (omega (arith, room), B .calm, B .top-few, groups-are (c .before .before .before) .1)))
+
+count-item-requires : tie.Need-count-item-requires Inv-loop μ-loop
+count-item-requires c κs = search needs
 
 no-claims-requires : tie.Need-no-claims-requires Inv-loop μ-loop
 no-claims-requires c κs = search needs
@@ -119,17 +161,17 @@ none-open-requires c κs = search needs
 
 sub-read : tie.Need-sub-read Inv-loop μ-loop
 sub-read c =
-    let found = next (c .before .before .before .before .before .before .before .before .before .before .before .before .before .before .before .before .before .before .before .before .before .before .before) in
+    let found = next (c .before .before .before .before .before .before .before .before .before .before .before .before .before .before .before .before .before .before .before .before .before .before .before .before .before .before .before .before .before .before) in
     omega (arith, found .starts, found .closes, found .within)
 
 part-read-start : tie.Need-part-read-start Inv-loop μ-loop
 part-read-start c =
-    let found = next (c .before .before .before .before .before .before .before .before .before .before .before .before .before .before .before .before .before .before .before .before .before .before .before) in
+    let found = next (c .before .before .before .before .before .before .before .before .before .before .before .before .before .before .before .before .before .before .before .before .before .before .before .before .before .before .before .before .before .before) in
     omega (arith, found .starts, found .closes, found .within)
 
 part-read-end : tie.Need-part-read-end Inv-loop μ-loop
 part-read-end c =
-    let found = next (c .before .before .before .before .before .before .before .before .before .before .before .before .before .before .before .before .before .before .before .before .before .before .before) in
+    let found = next (c .before .before .before .before .before .before .before .before .before .before .before .before .before .before .before .before .before .before .before .before .before .before .before .before .before .before .before .before .before .before) in
     omega (arith, found .starts, found .closes, found .within)
 
 read-requires : tie.Need-read-requires Inv-loop μ-loop
@@ -143,13 +185,22 @@ does-read-requires c κs = search needs
 
 loop-less : tie.Need-loop-less Inv-loop μ-loop
 loop-less c =
-    let found = next (c .before .before .before .before .before .before .before .before .before .before .before .before .before .before .before .before .before .before .before .before .before .before .before .before .before .before .before) in
+    let found = next (c .before .before .before .before .before .before .before .before .before .before .before .before .before .before .before .before .before .before .before .before .before .before .before .before .before .before .before .before .before .before .before .before .before .before) in
     omega (arith, found .moves, found .within)
 
 loop-again : tie.Need-loop-again Inv-loop μ-loop
 loop-again c =
-    let shut = c .before .before .before .before .before .before .before .before .before .before .before .before .before .before .before .shut-all .ensures in
-    feed-head (c .before .before .before .before .before .before .before .before .before .before .before .before .before .before .before .before .before .before .before .before .before .before .before .before .before .before .before .before .before .loop .inv) (next (c .before .before .before .before .before .before .before .before .before .before .before .before .before .before .before .before .before .before .before .before .before .before .before .before .before .before .before)) (c .before .before .before .before .before .before .before .before .before .before .before .before .before .before .before .before .before .before .before .before .before .kind-of .ensures) (own-is (c .before .before .before .before .before .before .before .before .before .before .before .before .before .before .before .before .before .before .before .before .before .before .before)) (c .before .before .before .before .before .before .before .before .before .before .before .before .before .before .before .before .before .before .before .enum-told .given .1) (c .before .before .read .ensures .1) (c .before .before .before .before .none-open .ensures) (c .before .heading-in .ensures) (c .does-read .ensures) (c .before .before .before .before .before .no-claims .ensures) (shut .1 .0 .0) (shut .1 .0 .1) (shut .1 .0 .2) (shut .0) (shut .1 .1 .0) (shut .1 .1 .1) (c .before .before .before .before .before .before .before .before .before .before .before .before .before .before .before .shut-all .kept .1 .1 .0)
+    let shut = c .before .before .before .before .before .before .before .before .before .before .before .before .before .before .before .before .before .before .shut-all .ensures in
+    let counted = c .before .before .before .before .before .before .before .before .before .count-item .ensures in
+    let here = c .before .before .before .before .before .before .before .before .before .before .before .before .before .before .before .before .before .before .before .before .before .before .before .before .before .before .before .before .before .before .before .before .before .before .before .before .loop in
+    let basis = c .before .before .before .before .before .before .before .before .before .before .before .before .before .before .before .before .before .before .before .before .before .before .before .before .before .before .before .before .before .before .before .before .before .before .before .before .before .before .before .before .before .before .before .before .before .before .before .before .before .before .before .before .before .before .args .basis in
+    let read = readAs (here .reads) (here .h) in
+    let claims = claims-at-heading (c .before .before .before .before .before .before .before .before .before .before .before .before .before .before .before .before .before .before .before .before .before .before .before .before) in
+    let groups = groups-are (c .before .before .before .before .before .before .before .before .before .before .before .before .before .before .before .before .before .before .before .before .before .before) .0 in
+    feed-head (c .before .before .before .before .before .before .before .before .before .before .before .before .before .before .before .before .before .before .before .before .before .before .before .before .before .before .before .before .before .before .before .before .before .before .before .before .loop .inv) (next (c .before .before .before .before .before .before .before .before .before .before .before .before .before .before .before .before .before .before .before .before .before .before .before .before .before .before .before .before .before .before .before .before .before .before)) (c .before .before .before .before .before .before .before .before .before .before .before .before .before .before .before .before .before .before .before .before .before .before .before .before .before .before .before .before .kind-of .ensures) (own-is (c .before .before .before .before .before .before .before .before .before .before .before .before .before .before .before .before .before .before .before .before .before .before .before .before .before .before .before .before .before .before)) (c .before .before .before .before .before .before .before .before .before .before .before .before .before .before .before .before .before .before .before .before .before .before .before .before .before .before .enum-told .given .1) (c .before .before .read .ensures .1) (c .before .before .before .before .none-open .ensures) (c .before .heading-in .ensures) (c .does-read .ensures) (c .before .before .before .before .before .no-claims .ensures)
+    (shut-block basis (here .course) (here .counts) (here .sums) (here .wait) (here .since) (here .top) read claims groups (shut .1 .0 .0) (counted .0) (counted .1))
+    (shut-wait basis (here .course) (here .counts) (here .sums) (here .wait) (here .since) (here .top) read claims groups (shut .1 .0 .1)) (shut .1 .0 .2)
+    (entered-list (ap (λ (xs : List Fault). marked (here .«open» .no) (here .«open» .marks) ++ xs) (shut-faults basis (here .course) (here .counts) (here .sums) (here .wait) (here .since) (here .top) read claims groups)) (shut .0)) (shut .1 .1 .0) (shut .1 .1 .1) (c .before .before .before .before .before .before .before .before .before .before .before .before .before .before .before .before .before .before .shut-all .kept .1 .1 .0)
 
 enum-told-2 : tie.Need-enum-told-2 Inv-loop μ-loop
 enum-told-2 c = search needs
@@ -190,76 +241,113 @@ enter-requires-2 c κs =
     let room = bounded-room (within (c .before .before .before .before .before .before .before .before .before .before .before .before)) B in
     (B .ready, (B .level, omega (arith, room)))
 
-claim-closed-requires : tie.Need-claim-closed-requires Inv-loop μ-loop
-claim-closed-requires c κs = search needs
+claim-closed-requires-2 : tie.Need-claim-closed-requires-2 Inv-loop μ-loop
+claim-closed-requires-2 c κs = search needs
 
 again-requires : tie.Need-again-requires Inv-loop μ-loop
 again-requires c κs =
-    ident-few (span (c .before .before .before .before .before .before .before .before .before .before .before .before .before .before .before .before .before .before .before .before .before .before .before .before .loop .at) (c .before .before .before .before .before .before .before .before .before .before .before .before .before .before .before .before .before .before .before .before .before .before .line-from .result .end) (c .before .before .before .before .before .before .before .before .before .before .before .before .before .before .before .before .before .before .before .before .before .before .before .before .before .before .before .before .before .before .before .before .before .before .before .before .before .before .args .s .now)) (c .before .before .before .before .before .before .before .before .before .before .before .before .before .before .before .before .kind-of .ensures) (c .before .before .before .before .before .before .before .before .before .before .before .before .before .before .x .given .0 .0) (c .before .before .before .before .before .before .before .before .before .before .before .before .before .before .x .given .1)
+    ident-few (span (c .before .before .before .before .before .before .before .before .before .before .before .before .before .before .before .before .before .before .before .before .before .before .before .before .loop .at) (c .before .before .before .before .before .before .before .before .before .before .before .before .before .before .before .before .before .before .before .before .before .before .line-from .result .end) (c .before .before .before .before .before .before .before .before .before .before .before .before .before .before .before .before .before .before .before .before .before .before .before .before .before .before .before .before .before .before .before .before .before .before .before .before .before .before .before .before .before .before .args .s .now)) (c .before .before .before .before .before .before .before .before .before .before .before .before .before .before .before .before .kind-of .ensures) (c .before .before .before .before .before .before .before .before .before .before .before .before .before .before .x .given .0 .0) (c .before .before .before .before .before .before .before .before .before .before .before .before .before .before .x .given .1)
 
-class-of-requires : tie.Need-class-of-requires Inv-loop μ-loop
-class-of-requires c κs = search needs
+-- the field's identifier, and the number of its class
+few-is : (c : tie.After-again Inv-loop μ-loop) → c .before .before .before .before .before .before .before .before .before .before .before .before .before .before .before .x .given .0 .0 < 1296
+few-is c = ident-few (span (c .before .before .before .before .before .before .before .before .before .before .before .before .before .before .before .before .before .before .before .before .before .before .before .before .before .loop .at) (c .before .before .before .before .before .before .before .before .before .before .before .before .before .before .before .before .before .before .before .before .before .before .before .line-from .result .end) (c .before .before .before .before .before .before .before .before .before .before .before .before .before .before .before .before .before .before .before .before .before .before .before .before .before .before .before .before .before .before .before .before .before .before .before .before .before .before .before .before .before .before .before .args .s .now)) (c .before .before .before .before .before .before .before .before .before .before .before .before .before .before .before .before .before .kind-of .ensures) (c .before .before .before .before .before .before .before .before .before .before .before .before .before .before .before .x .given .0 .0) (c .before .before .before .before .before .before .before .before .before .before .before .before .before .before .before .x .given .1)
 
-code-of-requires : tie.Need-code-of-requires Inv-loop μ-loop
-code-of-requires c κs = search needs
+number-is : (c : tie.After-again Inv-loop μ-loop) → getD (c .before .before .before .before .before .before .before .before .before .before .before .before .before .before .before .before .before .before .before .before .before .before .before .before .before .before .before .before .before .before .before .before .before .before .before .before .before .codes .result) (c .before .before .before .before .before .before .before .before .before .before .before .before .before .before .before .x .given .0 .0) 0 ≡ codeOf (c .before .before .before .before .before .before .before .before .before .before .before .before .before .before .before .x .given .0 .0)
+number-is c = c .before .before .before .before .before .before .before .before .before .before .before .before .before .before .before .before .before .before .before .before .before .before .before .before .before .before .before .before .before .before .before .before .before .before .before .before .before .codes .ensures (c .before .before .before .before .before .before .before .before .before .before .before .before .before .before .before .x .given .0 .0) (few-is c)
 
--- the number of its class
-number-is : (c : tie.After-code-of Inv-loop μ-loop) → c .code-of .result ≡ codeOf (c .before .before .before .before .before .before .before .before .before .before .before .before .before .before .before .before .before .x .given .0 .0)
-unfolding codeOf
-number-is c = c .code-of .ensures ∙ ap codeBy (c .before .class-of .ensures)
+array-read-class : tie.Need-array-read-class Inv-loop μ-loop
+array-read-class c =
+    few-is c
 
-sub-read-field : tie.Need-sub-read-field Inv-loop μ-loop
-sub-read-field c =
-    let found = next (c .before .before .before .before .before .before .before .before .before .before .before .before .before .before .before .before .before .before .before .before .before .before .before .before .before) in
+sub-read-claim : tie.Need-sub-read-claim Inv-loop μ-loop
+sub-read-claim c =
+    let found = next (c .before .before .before .before .before .before .before .before .before .before .before .before .before .before .before .before .before .before .before .before .before .before .before .before) in
     omega (arith, found .starts, found .closes, found .within)
 
-part-read-field-start : tie.Need-part-read-field-start Inv-loop μ-loop
-part-read-field-start c =
-    let found = next (c .before .before .before .before .before .before .before .before .before .before .before .before .before .before .before .before .before .before .before .before .before .before .before .before .before) in
+part-read-claim-start : tie.Need-part-read-claim-start Inv-loop μ-loop
+part-read-claim-start c =
+    let found = next (c .before .before .before .before .before .before .before .before .before .before .before .before .before .before .before .before .before .before .before .before .before .before .before .before) in
     omega (arith, found .starts, found .closes, found .within)
 
-part-read-field-end : tie.Need-part-read-field-end Inv-loop μ-loop
-part-read-field-end c =
-    let found = next (c .before .before .before .before .before .before .before .before .before .before .before .before .before .before .before .before .before .before .before .before .before .before .before .before .before) in
+part-read-claim-end : tie.Need-part-read-claim-end Inv-loop μ-loop
+part-read-claim-end c =
+    let found = next (c .before .before .before .before .before .before .before .before .before .before .before .before .before .before .before .before .before .before .before .before .before .before .before .before) in
     omega (arith, found .starts, found .closes, found .within)
 
-read-field-requires : tie.Need-read-field-requires Inv-loop μ-loop
-read-field-requires c κs = search needs
+read-claim-requires : tie.Need-read-claim-requires Inv-loop μ-loop
+read-claim-requires c κs = search needs
 
 field-open-requires : tie.Need-field-open-requires Inv-loop μ-loop
-field-open-requires c κs = (number-is (c .before .before), c .before .before .before .before .before .before .before .before .before .before .before .before .before .before .before .before .before .before .before .before .before .before .before .line-marks .ensures .1)
+field-open-requires c κs =
+    (number-is (c .before .before .before), c .before .before .before .before .before .before .before .before .before .before .before .before .before .before .before .before .before .before .before .before .before .before .line-marks .ensures .1)
 
 claim-own-requires : tie.Need-claim-own-requires Inv-loop μ-loop
 claim-own-requires c κs = search needs
 
 keep-own-requires : tie.Need-keep-own-requires Inv-loop μ-loop
-keep-own-requires c κs = number-is (c .before .before .before .before .before)
+keep-own-requires c κs =
+    number-is (c .before .before .before .before .before .before)
+
+-- what a field says that claims something
+said-is : (c : tie.After-read-claim Inv-loop μ-loop)
+    → c .read-claim .result ≡ readingOf (classOf (c .before .before .before .before .before .before .before .before .before .before .before .before .before .before .before .before .before .before .x .given .0 .0)) (textOf (span (c .before .before .before .before .before .before .before .before .before .before .before .before .before .before .before .before .before .before .before .before .before .before .before .before .before .before .before .before .loop .at) (c .before .before .before .before .before .before .before .before .before .before .before .before .before .before .before .before .before .before .before .before .before .before .before .before .before .before .line-from .result .end) (c .before .before .before .before .before .before .before .before .before .before .before .before .before .before .before .before .before .before .before .before .before .before .before .before .before .before .before .before .before .before .before .before .before .before .before .before .before .before .before .before .before .before .before .before .before .before .args .s .now)))
+unfolding codeOf
+said-is c = c .read-claim .ensures (classOf (c .before .before .before .before .before .before .before .before .before .before .before .before .before .before .before .before .before .before .x .given .0 .0)) (sym (number-is (c .before .before .before))) (c .before .before .if4 .taken)
 
 loop-less-3 : tie.Need-loop-less-3 Inv-loop μ-loop
 loop-less-3 c =
-    let found = next (c .before .before .before .before .before .before .before .before .before .before .before .before .before .before .before .before .before .before .before .before .before .before .before .before .before .before .before .before .before .before .before) in
+    let found = next (c .before .before .before .before .before .before .before .before .before .before .before .before .before .before .before .before .before .before .before .before .before .before .before .before .before .before .before .before .before .before) in
     omega (arith, found .moves, found .within)
 
 loop-again-3 : tie.Need-loop-again-3 Inv-loop μ-loop
 loop-again-3 c =
-    let at-loop = (c .before .before .before .before .before .before .before .before .before .before .before .before .before .before .before .before .before .before .before .before .before .before .before .before .before .before .before .before .before .before .before .before .before) in
-    let asked = c .before .before .before .before .before .before .before .before .again .ensures in
-    let said = c .before .before .before .before .read-field .ensures ∙ ap (λ (k : Class). readingOf k (textOf (span (c .before .before .before .before .before .before .before .before .before .before .before .before .before .before .before .before .before .before .before .before .before .before .before .before .before .before .before .before .before .before .before .before .before .loop .at) (c .before .before .before .before .before .before .before .before .before .before .before .before .before .before .before .before .before .before .before .before .before .before .before .before .before .before .before .before .before .before .before .line-from .result .end) (c .before .before .before .before .before .before .before .before .before .before .before .before .before .before .before .before .before .before .before .before .before .before .before .before .before .before .before .before .before .before .before .before .before .before .before .before .before .before .before .before .before .before .before .before .before .before .before .args .s .now)))) (c .before .before .before .before .before .before .before .class-of .ensures) in
-    let own = own-took (at-loop .loop .since) (c .before .before .before .before .before .before .before .before .before .before .before .before .before .before .before .before .before .before .before .before .before .before .before .x .given .0 .0) (c .before .before .before .before .before .before .code-of .result) (c .before .before .before .before .read-field .result) (number-is (c .before .before .before .before .before .before)) (c .before .before .if2 .taken) (c .before .before .before .before .before .before .before .before .before .before .if1 .claims) (c .before .claim-own .result) (at-loop .loop .pend) (c .keep-own .result) (c .before .claim-own .ensures) (c .keep-own .ensures) in
-    feed-field (c .before .before .before .before .before .before .before .before .before .before .before .before .before .before .before .before .before .before .before .before .before .before .before .before .before .before .before .before .before .before .before .before .before .loop .inv) (next (c .before .before .before .before .before .before .before .before .before .before .before .before .before .before .before .before .before .before .before .before .before .before .before .before .before .before .before .before .before .before .before)) (c .before .before .before .before .before .before .before .before .before .before .before .before .before .before .before .before .before .before .before .before .before .before .before .before .before .kind-of .ensures) (own-is (c .before .before .before .before .before .before .before .before .before .before .before .before .before .before .before .before .before .before .before .before .before .before .before .before .before .before .before)) (c .before .before .before .before .before .before .before .before .before .before .before .before .before .before .before .before .before .before .before .before .before .before .before .x .given .0 .0) (c .before .before .before .before .before .before .before .before .before .before .before .before .before .before .before .before .before .before .before .before .before .before .before .x .given .1) (claims-joined (c .before .before .before .before .before .before .before .before .before .before)) (asked .0) said (c .before .before .before .field-open .ensures) (own .0) (own .1) (asked .1) (c .before .before .before .before .before .before .before .before .before .before .before .before .before .before .before .before .before .before .enter2 .ensures .0) (c .before .before .before .before .before .before .before .before .before .before .before .before .before .before .before .before .before .before .enter2 .ensures .1 .1) (c .before .before .before .before .before .before .before .before .before .before .before .before .before .before .before .before .before .before .enter2 .kept .1 .1 .0)
+    let at-loop = c .before .before .before .before .before .before .before .before .before .before .before .before .before .before .before .before .before .before .before .before .before .before .before .before .before .before .before .before .before .before .before .before in
+    let asked = c .before .before .before .before .before .before .before .again .ensures in
+    let own = own-inside (at-loop .loop .since) (c .before .before .before .before .before .before .before .before .before .before .before .before .before .before .before .before .before .before .before .before .before .before .x .given .0 .0) (c .before .before .before .before .read-claim .result) (c .before .before .before .before .before .before .before .before .before .if3 .claims) (at-loop .loop .pend) (c .before .before .if5 .taken) (c .before .claim-own .ensures) (c .keep-own .ensures) in
+    feed-field (c .before .before .before .before .before .before .before .before .before .before .before .before .before .before .before .before .before .before .before .before .before .before .before .before .before .before .before .before .before .before .before .before .loop .inv) (next (c .before .before .before .before .before .before .before .before .before .before .before .before .before .before .before .before .before .before .before .before .before .before .before .before .before .before .before .before .before .before)) (c .before .before .before .before .before .before .before .before .before .before .before .before .before .before .before .before .before .before .before .before .before .before .before .before .kind-of .ensures) (own-is (c .before .before .before .before .before .before .before .before .before .before .before .before .before .before .before .before .before .before .before .before .before .before .before .before .before .before)) (c .before .before .before .before .before .before .before .before .before .before .before .before .before .before .before .before .before .before .before .before .before .before .x .given .0 .0) (c .before .before .before .before .before .before .before .before .before .before .before .before .before .before .before .before .before .before .before .before .before .before .x .given .1) (claims-at-field (c .before .before .before .before .before .before .before .before .before)) (asked .0) (said-is (c .before .before .before .before)) (c .before .before .before .field-open .ensures) (own .0) (own .1) (asked .1) (c .before .before .before .before .before .before .before .before .before .before .before .before .before .before .before .before .before .enter2 .ensures .0) (c .before .before .before .before .before .before .before .before .before .before .before .before .before .before .before .before .before .enter2 .ensures .1 .1) (c .before .before .before .before .before .before .before .before .before .before .before .before .before .before .before .before .before .enter2 .kept .1 .1 .0)
 
 loop-less-4 : tie.Need-loop-less-4 Inv-loop μ-loop
 loop-less-4 c =
-    let found = next (c .before .before .before .before .before .before .before .before .before .before .before .before .before .before .before .before .before .before .before .before .before .before .before .before .before .before .before .before .before) in
+    let found = next (c .before .before .before .before .before .before .before .before .before .before .before .before .before .before .before .before .before .before .before .before .before .before .before .before .before .before .before .before) in
     omega (arith, found .moves, found .within)
 
 loop-again-4 : tie.Need-loop-again-4 Inv-loop μ-loop
 loop-again-4 c =
-    let at-loop = (c .before .before .before .before .before .before .before .before .before .before .before .before .before .before .before .before .before .before .before .before .before .before .before .before .before .before .before .before .before .before .before) in
-    let asked = c .before .before .before .before .before .before .again .ensures in
-    let said = c .before .before .read-field .ensures ∙ ap (λ (k : Class). readingOf k (textOf (span (c .before .before .before .before .before .before .before .before .before .before .before .before .before .before .before .before .before .before .before .before .before .before .before .before .before .before .before .before .before .before .before .loop .at) (c .before .before .before .before .before .before .before .before .before .before .before .before .before .before .before .before .before .before .before .before .before .before .before .before .before .before .before .before .before .line-from .result .end) (c .before .before .before .before .before .before .before .before .before .before .before .before .before .before .before .before .before .before .before .before .before .before .before .before .before .before .before .before .before .before .before .before .before .before .before .before .before .before .before .before .before .before .before .before .before .args .s .now)))) (c .before .before .before .before .before .class-of .ensures) in
-    let own = own-left (at-loop .loop .since) (c .before .before .before .before .before .before .before .before .before .before .before .before .before .before .before .before .before .before .before .before .before .x .given .0 .0) (c .before .before .before .before .code-of .result) (c .before .before .read-field .result) (number-is (c .before .before .before .before)) (c .if2 .left) (c .before .before .before .before .before .before .before .before .if1 .claims) (at-loop .loop .pend) in
-    feed-field (c .before .before .before .before .before .before .before .before .before .before .before .before .before .before .before .before .before .before .before .before .before .before .before .before .before .before .before .before .before .before .before .loop .inv) (next (c .before .before .before .before .before .before .before .before .before .before .before .before .before .before .before .before .before .before .before .before .before .before .before .before .before .before .before .before .before)) (c .before .before .before .before .before .before .before .before .before .before .before .before .before .before .before .before .before .before .before .before .before .before .before .kind-of .ensures) (own-is (c .before .before .before .before .before .before .before .before .before .before .before .before .before .before .before .before .before .before .before .before .before .before .before .before .before)) (c .before .before .before .before .before .before .before .before .before .before .before .before .before .before .before .before .before .before .before .before .before .x .given .0 .0) (c .before .before .before .before .before .before .before .before .before .before .before .before .before .before .before .before .before .before .before .before .before .x .given .1) (claims-joined (c .before .before .before .before .before .before .before .before)) (asked .0) said (c .before .field-open .ensures) (own .0) (own .1) (asked .1) (c .before .before .before .before .before .before .before .before .before .before .before .before .before .before .before .before .enter2 .ensures .0) (c .before .before .before .before .before .before .before .before .before .before .before .before .before .before .before .before .enter2 .ensures .1 .1) (c .before .before .before .before .before .before .before .before .before .before .before .before .before .before .before .before .enter2 .kept .1 .1 .0)
+    let at-loop = c .before .before .before .before .before .before .before .before .before .before .before .before .before .before .before .before .before .before .before .before .before .before .before .before .before .before .before .before .before .before in
+    let asked = c .before .before .before .before .before .again .ensures in
+    let own = own-above (at-loop .loop .since) (c .before .before .before .before .before .before .before .before .before .before .before .before .before .before .before .before .before .before .before .before .x .given .0 .0) (c .before .before .read-claim .result) (c .before .before .before .before .before .before .before .if3 .claims) (at-loop .loop .pend) (c .if5 .left) in
+    feed-field (c .before .before .before .before .before .before .before .before .before .before .before .before .before .before .before .before .before .before .before .before .before .before .before .before .before .before .before .before .before .before .loop .inv) (next (c .before .before .before .before .before .before .before .before .before .before .before .before .before .before .before .before .before .before .before .before .before .before .before .before .before .before .before .before)) (c .before .before .before .before .before .before .before .before .before .before .before .before .before .before .before .before .before .before .before .before .before .before .kind-of .ensures) (own-is (c .before .before .before .before .before .before .before .before .before .before .before .before .before .before .before .before .before .before .before .before .before .before .before .before)) (c .before .before .before .before .before .before .before .before .before .before .before .before .before .before .before .before .before .before .before .before .x .given .0 .0) (c .before .before .before .before .before .before .before .before .before .before .before .before .before .before .before .before .before .before .before .before .x .given .1) (claims-at-field (c .before .before .before .before .before .before .before)) (asked .0) (said-is (c .before .before)) (c .before .field-open .ensures) (own .0) (own .1) (asked .1) (c .before .before .before .before .before .before .before .before .before .before .before .before .before .before .before .enter2 .ensures .0) (c .before .before .before .before .before .before .before .before .before .before .before .before .before .before .before .enter2 .ensures .1 .1) (c .before .before .before .before .before .before .before .before .before .before .before .before .before .before .before .enter2 .kept .1 .1 .0)
+
+sub-plain-open : tie.Need-sub-plain-open Inv-loop μ-loop
+sub-plain-open c =
+    let found = next (c .before .before .before .before .before .before .before .before .before .before .before .before .before .before .before .before .before .before .before .before .before .before .before .before) in
+    omega (arith, found .starts, found .closes, found .within)
+
+part-plain-open-start : tie.Need-part-plain-open-start Inv-loop μ-loop
+part-plain-open-start c =
+    let found = next (c .before .before .before .before .before .before .before .before .before .before .before .before .before .before .before .before .before .before .before .before .before .before .before .before) in
+    omega (arith, found .starts, found .closes, found .within)
+
+part-plain-open-end : tie.Need-part-plain-open-end Inv-loop μ-loop
+part-plain-open-end c =
+    let found = next (c .before .before .before .before .before .before .before .before .before .before .before .before .before .before .before .before .before .before .before .before .before .before .before .before) in
+    omega (arith, found .starts, found .closes, found .within)
+
+plain-open-requires : tie.Need-plain-open-requires Inv-loop μ-loop
+plain-open-requires c κs =
+    c .before .before .before .before .before .before .before .before .before .before .before .before .before .before .before .before .before .before .before .before .before .line-marks .ensures .1
+
+loop-less-5 : tie.Need-loop-less-5 Inv-loop μ-loop
+loop-less-5 c =
+    let found = next (c .before .before .before .before .before .before .before .before .before .before .before .before .before .before .before .before .before .before .before .before .before .before .before .before .before .before) in
+    omega (arith, found .moves, found .within)
+
+loop-again-5 : tie.Need-loop-again-5 Inv-loop μ-loop
+loop-again-5 c =
+    let at-loop = c .before .before .before .before .before .before .before .before .before .before .before .before .before .before .before .before .before .before .before .before .before .before .before .before .before .before .before .before in
+    let asked = c .before .before .before .again .ensures in
+    let own = own-plain (at-loop .loop .since) (c .before .before .before .before .before .before .before .before .before .before .before .before .before .before .before .before .before .before .x .given .0 .0) (readingOf (classOf (c .before .before .before .before .before .before .before .before .before .before .before .before .before .before .before .before .before .before .x .given .0 .0)) (textOf (span (c .before .before .before .before .before .before .before .before .before .before .before .before .before .before .before .before .before .before .before .before .before .before .before .before .before .before .before .before .loop .at) (c .before .before .before .before .before .before .before .before .before .before .before .before .before .before .before .before .before .before .before .before .before .before .before .before .before .before .line-from .result .end) (c .before .before .before .before .before .before .before .before .before .before .before .before .before .before .before .before .before .before .before .before .before .before .before .before .before .before .before .before .before .before .before .before .before .before .before .before .before .before .before .before .before .before .before .before .before .before .args .s .now)))) (c .before .before .before .before .before .if3 .claims) (at-loop .loop .pend) (number-is (c .before .before .before)) (c .before .before .if4 .left) in
+    feed-field (c .before .before .before .before .before .before .before .before .before .before .before .before .before .before .before .before .before .before .before .before .before .before .before .before .before .before .before .before .loop .inv) (next (c .before .before .before .before .before .before .before .before .before .before .before .before .before .before .before .before .before .before .before .before .before .before .before .before .before .before)) (c .before .before .before .before .before .before .before .before .before .before .before .before .before .before .before .before .before .before .before .before .kind-of .ensures) (own-is (c .before .before .before .before .before .before .before .before .before .before .before .before .before .before .before .before .before .before .before .before .before .before)) (c .before .before .before .before .before .before .before .before .before .before .before .before .before .before .before .before .before .before .x .given .0 .0) (c .before .before .before .before .before .before .before .before .before .before .before .before .before .before .before .before .before .before .x .given .1) (claims-at-field (c .before .before .before .before .before)) (asked .0) refl (c .plain-open .ensures (c .before .before .before .before .before .before .before .before .before .before .before .before .before .before .before .before .before .before .before .before .before .before .before .before .before .before .before .before .before .before .before .before .before .before .before .before .before .before .before .before .before .before .before .before .before .before .args .basis) (c .before .before .before .before .before .if3 .claims .kc) (readAs (at-loop .loop .reads) (at-loop .loop .h)) (c .before .before .before .before .before .before .before .before .before .before .before .before .before .before .before .before .before .before .x .given .0 .0) (number-is (c .before .before .before)) (c .before .before .if4 .left)) (own .0) (own .1) (asked .1) (c .before .before .before .before .before .before .before .before .before .before .before .before .before .enter2 .ensures .0) (c .before .before .before .before .before .before .before .before .before .before .before .before .before .enter2 .ensures .1 .1) (c .before .before .before .before .before .before .before .before .before .before .before .before .before .enter2 .kept .1 .1 .0)
 
 enum-told-3 : tie.Need-enum-told-3 Inv-loop μ-loop
 enum-told-3 c = search needs
@@ -273,26 +361,36 @@ enter-requires-3 c κs =
     let room = bounded-room (within (c .before .before .before .before .before .before .before .before .before .before .before .before)) B in
     (B .ready, (B .level, omega (arith, room)))
 
-loop-less-5 : tie.Need-loop-less-5 Inv-loop μ-loop
-loop-less-5 c =
+loop-less-6 : tie.Need-loop-less-6 Inv-loop μ-loop
+loop-less-6 c =
     let found = next (c .before .before .before .before .before .before .before .before .before .before .before .before .before .before .before .before .before .before .before) in
     omega (arith, found .moves, found .within)
 
-loop-again-5 : tie.Need-loop-again-5 Inv-loop μ-loop
-loop-again-5 c =
+loop-again-6 : tie.Need-loop-again-6 Inv-loop μ-loop
+loop-again-6 c =
     feed-other (c .before .before .before .before .before .before .before .before .before .before .before .before .before .before .before .before .before .before .before .before .before .loop .inv) (next (c .before .before .before .before .before .before .before .before .before .before .before .before .before .before .before .before .before .before .before)) (c .before .before .before .before .before .before .before .before .before .before .before .before .before .kind-of .ensures) (own-is (c .before .before .before .before .before .before .before .before .before .before .before .before .before .before .before)) (c .before .before .before .before .before .before .before .before .before .before .before .enum-told3 .given .1) (c .before .before .before .before .before .before .before .low-marks2 .ensures) (c .before .before .before .before .before .before .enter3 .ensures .0) (c .before .before .before .before .before .before .enter3 .ensures .1 .1) (c .before .before .before .before .before .before .enter3 .kept .1 .1 .0)
 
+block-of-requires : tie.Need-block-of-requires Inv-loop μ-loop
+block-of-requires c κs = search needs
+
 same-length : tie.Need-same-length Inv-loop μ-loop
-same-length c = c .before .loop .inv .lines-long
+same-length c =
+    c .before .before .loop .inv .lines-long
 
 same-length-2 : tie.Need-same-length-2 Inv-loop μ-loop
-same-length-2 c = c .before .loop .inv .rules-long
+same-length-2 c =
+    c .before .before .loop .inv .rules-long
 
 same-length-3 : tie.Need-same-length-3 Inv-loop μ-loop
-same-length-3 c = c .before .loop .inv .places-long
+same-length-3 c =
+    c .before .before .loop .inv .places-long
 
 returns : tie.Need-returns Inv-loop μ-loop
-returns c = feed-end (c .before .loop .inv) (omega (arith, c .loop-test))
+returns c =
+    let here = c .before .before .loop in
+    let start = c .before .before .before .before .before .before .before .before .before .before .before .before .before .before .before .before .before .before .before .before .args in
+    feed-close (start .s .now) (start .base) (start .basis) (start .p) (record { ledger = here .g; field = here .«open»; pend = here .pend; since = here .since; top = here .top; reads = here .reads; heading = here .h; claims = here .claims; block = blockOf (here .course) (here .counts) (here .sums); wait = here .wait; starts = here .starts; n = here .n })
+    (c .before .before .before .before .before .before .before .course-of .ensures) (c .block-of .ensures) (feed-end (here .inv) (omega (arith, c .before .loop-test)))
 
 pub feed-spec : {M : Type 1} → statement M
 feed-spec =
@@ -301,6 +399,8 @@ feed-spec =
     Inv-loop
     μ-loop
     table-requires
+    codes-requires
+    course-of-requires
     loop-holds
     line-from-requires
     cast-here
@@ -316,7 +416,10 @@ feed-spec =
     part-kind-of-end
     kind-of-requires
     enum-told
+    claim-closed-requires
+    group-marks-of-requires
     shut-all-requires
+    count-item-requires
     no-claims-requires
     none-open-requires
     sub-read
@@ -336,14 +439,13 @@ feed-spec =
     loop-again-2
     enum-known-x
     enter-requires-2
-    claim-closed-requires
+    claim-closed-requires-2
     again-requires
-    class-of-requires
-    code-of-requires
-    sub-read-field
-    part-read-field-start
-    part-read-field-end
-    read-field-requires
+    array-read-class
+    sub-read-claim
+    part-read-claim-start
+    part-read-claim-end
+    read-claim-requires
     field-open-requires
     claim-own-requires
     keep-own-requires
@@ -351,11 +453,18 @@ feed-spec =
     loop-again-3
     loop-less-4
     loop-again-4
+    sub-plain-open
+    part-plain-open-start
+    part-plain-open-end
+    plain-open-requires
+    loop-less-5
+    loop-again-5
     enum-told-3
     low-marks-requires-2
     enter-requires-3
-    loop-less-5
-    loop-again-5
+    loop-less-6
+    loop-again-6
+    block-of-requires
     same-length
     same-length-2
     same-length-3

@@ -41,10 +41,10 @@ returns c =
       entered-both (c .before .before .before .before .before .before .before .before .before .before .before .before .before .before .before .before .before .before .before .before .before .before .before .before .before .before .before .pre .0) (entered-list (ap (λ (x : Shut). marked (a .w .line) (x .told)) e) (c .before .before .before .before .before .before .before .before .before .before .before .before .before .before .before .before .enter .ensures .0))
           (entered-list (ap (λ (x : Shut). marked (a .no) (x .marks)) e) (c .before .before .before .before .before .before .enter2 .ensures .0)),
       (
-        (ap (λ (x : Shut). x .block) e, ap (λ (x : Shut). x .wait) e, c .before .before .before .before .before .before .before .before .before .before .before .before .before .before .before .before .before .before .before .before .before .before .before .close-item .ensures .1),
+        (ap (λ (x : Shut). x .course) e, ap (λ (x : Shut). x .wait) e, c .before .before .before .before .before .before .before .before .before .before .before .before .before .before .before .before .before .before .before .before .before .before .before .close-item .ensures .1),
         (
           λ off ps₀ S B. c .before .before .before .before .before .before .enter2 .ensures .1 .1 off ps₀ (S .at-head) (c .before .before .before .before .before .before .before .before .before .before .before .before .before .before .before .before .enter .ensures .1 .1 off ps₀ (S .at-wait) B),
-          waits-at (a .basis) (a .b) (a .w) (a .no) (a .own) (a .read) (a .claims) (a .starts) (ap (λ (x : Shut). x .wait) e) (c .before .before .before .before .before .before .before .before .before .before .before .before .before .before .before .before .before .before .before .before .start-of .ensures),
+          waits-at (a .basis) (a .c) (a .w) (a .no) (a .own) (a .read) (a .kc) (a .span) (a .groups) (a .starts) (ap (λ (x : Shut). x .wait) e) (c .before .before .before .before .before .before .before .before .before .before .before .before .before .before .before .before .before .before .before .before .start-of .ensures),
         ),
       ),
     )

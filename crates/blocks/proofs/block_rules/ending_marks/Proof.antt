@@ -1,8 +1,8 @@
 use native.Mathlib.Omega.{arith}
-use Rattle.blocks.specs.Model.{closingMarks}
-use Rattle.blocks.proofs.block_rules.closing_marks.Statement.{statement}
+use Rattle.blocks.specs.Model.{endingMarks}
+use Rattle.blocks.proofs.block_rules.ending_marks.Statement.{statement}
 use borrow.Author.Needs.{needs}
-use Rattle.blocks.proofs.block_rules.closing_marks.Tie as tie
+use Rattle.blocks.proofs.block_rules.ending_marks.Tie as tie
 
 flag-requires : tie.Need-flag-requires
 flag-requires c κs = search needs
@@ -34,18 +34,12 @@ flag-requires-4 c κs = search needs
 add-result-3 : tie.Need-add-result-3
 add-result-3 c = search needs
 
-group-marks-requires : tie.Need-group-marks-requires
-group-marks-requires c κs = search needs
-
-add-result-4 : tie.Need-add-result-4
-add-result-4 c = search needs
-
 returns : tie.Need-returns
-unfolding closingMarks
-returns c = (simp (c .group-marks .ensures .0, c .before .flag4 .ensures .0, c .before .before .breaks-twenty-one .ensures, c .before .before .before .flag3 .ensures .0, c .before .before .before .before .breaks-nineteen-closing .ensures, c .before .before .before .before .before .flag2 .ensures .0, c .before .before .before .before .before .before .breaks-eighteen .ensures, c .before .before .before .before .before .before .before .flag .ensures .0), omega arith)
+unfolding endingMarks
+returns c = (simp (c .flag4 .ensures .0, c .before .breaks-twenty-one .ensures, c .before .before .flag3 .ensures .0, c .before .before .before .breaks-nineteen-closing .ensures, c .before .before .before .before .flag2 .ensures .0, c .before .before .before .before .before .breaks-eighteen .ensures, c .before .before .before .before .before .before .flag .ensures .0), omega arith)
 
-pub closing-marks-spec : {M : Type 1} → statement M
-closing-marks-spec =
+pub ending-marks-spec : {M : Type 1} → statement M
+ending-marks-spec =
     tie.close
     (tie.spec
     flag-requires
@@ -58,6 +52,4 @@ closing-marks-spec =
     breaks-twenty-one-requires
     flag-requires-4
     add-result-3
-    group-marks-requires
-    add-result-4
     returns)
