@@ -18,6 +18,7 @@ use Rattle.headings.specs.declared.Read.the-variants.{Reads, Unreadable}
 use Rattle.headings.specs.Reading.{headingOf}
 use Rattle.headings.specs.Writing.{fitsHeading}
 use Rattle.headings.proofs.RoundTrips.{fits-read}
+use Rattle.figures.proofs.Tests.{and-parts}
 use Rattle.rules.specs.Rows.{Row}
 use Rattle.rules.specs.Tree.{Owned, Item}
 use Rattle.rules.specs.Said.{continued, headOf}
@@ -27,7 +28,7 @@ use Rattle.register.specs.Register.{Range, Register, rangeStands, allStand, wel
 use Rattle.register.specs.Entering.{Use, usedAt, used, kept, clash, addAll}
 use Rattle.register.specs.Spans.{Span, keysOf, spanOf, spansOf, froms, tos, rangesOf, Fits, Sound, Strung, Least}
 use Rattle.register.proofs.Spans.{weaken}
-use Rattle.register.proofs.Sets.{both, order-strung, all-sound, all-spans}
+use Rattle.register.proofs.Sets.{order-strung, all-sound, all-spans}
 use Rattle.register.proofs.Keys.{ranges-back}
 use Rattle.register.proofs.Formed.{range-parts, stand-sound, Formed, formed}
 use Rattle.adding.specs.declared.Entered.{Entered}
@@ -43,10 +44,10 @@ use Rattle.adding.proofs.Answered.{answers-as}
 seven : (h : Heading) → fitsHeading h ≡ true → h .number .0 < 10000000
 unfolding fitsHeading numbersFit
 seven h e =
-    let a = both (ltb (h .kind) (10 ^ 2)) _ e in
-    let b = both (ltb (h .day) (10 ^ 8)) _ (a .1) in
-    let c = both (ltb (h .first .0) (10 ^ 7)) _ (b .1) in
-    let d = both (ltb (h .number .0) (10 ^ 7)) _ (c .1) in
+    let a = and-parts (ltb (h .kind) (10 ^ 2)) _ e in
+    let b = and-parts (ltb (h .day) (10 ^ 8)) _ (a .1) in
+    let c = and-parts (ltb (h .first .0) (10 ^ 7)) _ (b .1) in
+    let d = and-parts (ltb (h .number .0) (10 ^ 7)) _ (c .1) in
     ltb-true (h .number .0) 10000000 (d .0)
 
 head-seven : (g : Owned Row) (h : Heading) → headOf g ≡ Reads h → h .number .0 < 10000000
@@ -119,7 +120,7 @@ kept-sound today (r ∷ rs) S = go (later today (r .day) 10) (kept-sound today r
 two : (latest : ℕ) (rs : List Range) → allStand latest rs ≡ true → Strung 0 (spansOf rs) → Strung 2 (spansOf rs)
 two latest [] e S = tt
 two latest (r ∷ rs) e S =
-    let p = range-parts latest r (both (rangeStands latest r) (allStand latest rs) e .0) in
+    let p = range-parts latest r (and-parts (rangeStands latest r) (allStand latest rs) e .0) in
     let y : 1 ≤ r .day / 10000 = real-parts (r .day) (p .real) .year-from in
     (omega (arith, y), S .1, S .2)
 

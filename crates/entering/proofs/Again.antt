@@ -15,6 +15,7 @@ use Rattle.days.proofs.Order.{real-parts, later-number}
 use Rattle.headings.specs.declared.Heading.{Heading}
 use Rattle.headings.specs.declared.Read.{Read}
 use Rattle.headings.specs.declared.Read.the-variants.{Reads}
+use Rattle.figures.proofs.Tests.{and-parts}
 use Rattle.rules.specs.Terms.{Terms, input}
 use Rattle.rules.specs.HeadingRules.{rule11}
 use Rattle.rules.specs.Faults.{faults}
@@ -28,7 +29,7 @@ use Rattle.listing.specs.Checking.{isCode, isAccountingDay}
 use Rattle.register.specs.Register.{Range, Register, version, mostOf, sizeOf, registerBytes, registerOf, rangeStands, allStand, inOrder, latestStands, wellFormed, isRegister}
 use Rattle.register.specs.Entering.{Use, usedAt, used, kept, join, add, addAll, entered}
 use Rattle.register.specs.Spans.{Fits, Sound}
-use Rattle.register.proofs.Sets.{both, either, left, right, pair, order-strung, strung-order, all-sound, all-ordered}
+use Rattle.register.proofs.Sets.{either, left, right, pair, order-strung, strung-order, all-sound, all-ordered}
 use Rattle.register.proofs.RoundTrip.{length-register}
 use Rattle.register.proofs.Formed.{Formed, formed, stand-sound, stands-again}
 use Rattle.adding.specs.declared.Entered.the-variants.{Written}
@@ -108,9 +109,9 @@ module _ (old today : ℕ) (ro : isReal old ≡ true) (rt : isReal today ≡ tru
   kept-days : (rs : List Range) → allStand old rs ≡ true → AllDays today (kept today rs)
   kept-days [] e = tt
   kept-days (r ∷ rs) e =
-      let a = both (rangeStands old r) (allStand old rs) e in
-      let b = both (isReal (r .day)) (not (later (r .day) old 0) && (not (later old (r .day) 10) && (leb 1 (r .first) && (leb (r .first) (r .last) && leb (r .last) 9999999)))) (a .0) in
-      let c = both (not (later (r .day) old 0)) (not (later old (r .day) 10) && (leb 1 (r .first) && (leb (r .first) (r .last) && leb (r .last) 9999999))) (b .1) in
+      let a = and-parts (rangeStands old r) (allStand old rs) e in
+      let b = and-parts (isReal (r .day)) (not (later (r .day) old 0) && (not (later old (r .day) 10) && (leb 1 (r .first) && (leb (r .first) (r .last) && leb (r .last) 9999999)))) (a .0) in
+      let c = and-parts (not (later (r .day) old 0)) (not (later old (r .day) 10) && (leb 1 (r .first) && (leb (r .first) (r .last) && leb (r .last) 9999999))) (b .1) in
       let l = ltb-false (dayNumber old + 0) (dayNumber (r .day)) (not-true _ (c .0)) in
       go (later today (r .day) 10) refl (b .0) (le-ltb (dayNumber today + 0) (dayNumber (r .day)) (omega (arith, l, number-le))) (kept-days rs (a .1))
     where
@@ -175,7 +176,7 @@ module _ (g : Register) (w : wellFormed g ≡ true) (us : List Use) (F : Fits us
 
       go : (isReal (g .latest) ≡ true) ⊎ ((eqb (g .latest) 0 && eqb (length (g .ranges)) 0) ≡ true) → AllDays today (kept today (g .ranges))
       go (inl p) = kept-days (g .latest) today p rt h (g .ranges) (f .stand)
-      go (inr p) = none (g .ranges) (eqb-true (length (g .ranges)) 0 (both (eqb (g .latest) 0) (eqb (length (g .ranges)) 0) p .1))
+      go (inr p) = none (g .ranges) (eqb-true (length (g .ranges)) 0 (and-parts (eqb (g .latest) 0) (eqb (length (g .ranges)) 0) p .1))
 
   entered-formed : wellFormed (entered g today us) ≡ true
   entered-formed =
@@ -198,7 +199,7 @@ entered-stands register file code day room e =
     (entered-formed (registerOf register) (is-formed register a) (usesOf file) (uses-fit 1 (body file)) day (fine-days (input code day) (slipsFrom 1 (body file)) (accepted (input code day) file z)) (real-day day r) l)
   where
     real-day : (day : ℕ) → isAccountingDay day ≡ true → isReal day ≡ true
-    real-day day r = both (isReal day) (leb 20000101 day && leb day 20991231) r .0
+    real-day day r = and-parts (isReal day) (leb 20000101 day && leb day 20991231) r .0
 
 -- so the bytes that an answer says were written can be entered in again
 pub enter-again : (register file : List ℕ) (code day : ℕ) (before : List ℕ) (n : ℕ) (after : List ℕ) → Enters register file code day before (Written n) after → isRegister (take n after) ≡ true

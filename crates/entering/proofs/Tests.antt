@@ -10,6 +10,7 @@ use borrow.Author.Tests.{eq-eqb, ne-eqb, lt-ltb, le-ltb, ltb-true, ltb-false, le
 use Rattle.laws.specs.Refusals.{Refusal, _if_, first}
 use Rattle.laws.proofs.Put.{put-is}
 use Rattle.text.specs.Strings.{Wrote, begins}
+use Rattle.figures.proofs.Tests.{and-parts}
 use Rattle.lines.specs.Lines.{body}
 use Rattle.lines.proofs.Body.{body-take}
 use Rattle.rules.specs.Terms.{input}
@@ -23,7 +24,6 @@ use Rattle.listing.proofs.Unique.{some-number}
 use Rattle.listing.specs.Checking.{checkRefusals, uncheckedNumber, checkedNumber, checkedOr, Totals}
 use Rattle.register.specs.Register.{isVersion, version, mostOf, versionIn, countIn, sizeOf, headBytes, registerBytes, registerOf, hasLayout, wellFormed, isRegister}
 use Rattle.register.specs.Entering.{used, entered}
-use Rattle.register.proofs.Sets.{both}
 use Rattle.register.proofs.RoundTrip.{length-register}
 use Rattle.laws.specs.Ascii.{ascii}
 use Rattle.entering.specs.declared.blanking.Blanked.the-variants.{Done, BadCode as BadBlank, TooShort as TooShortBlank}
@@ -115,9 +115,6 @@ module _ (register file : List ℕ) (code day : ℕ) (before : List ℕ) where
                 let w : refusal ≡ first (usesRefusals (registerOf register) (usesOf file) day (length before)) =
                 past-25 ∙ ap (λ (b : Bool). first ((26 if not b) ∷ usesRefusals (registerOf register) (usesOf file) day (length before))) (eq-eqb (length (faults (input code day) file)) 0 (sym total-is ∙ z)) in
                 answers-as (sym w) (λ _. ap (λ (k : ℕ). record { code = k; latest = day; ranges = entered (registerOf register) day (usesOf file) .ranges }) (sym b)) A′
-
-pub body-fits : (file : List ℕ) (k : ℕ) → k ≡ length (body file) → k ≡ length (take k file)
-body-fits file k e = e ∙ sym (ap length (ap (λ (n : ℕ). take n file) e ∙ body-take file))
 
 pub front-fits : (k : ℕ) (l : List ℕ) → length (take k l) ≤ length l
 front-fits zero l = omega arith

@@ -10,7 +10,7 @@ use lib.Dec.{leb, eqb, leb·zero}
 use borrow.Author.Tests.{leb-true, leb-false}
 use Rattle.laws.specs.Refusals.{_if_, first}
 use Rattle.text.specs.Digits.{isDigit, value}
-use Rattle.figures.specs.declared.parts.Part.{Part}
+use Rattle.figures.specs.declared.parts.PartRead.{PartRead}
 use Rattle.figures.specs.declared.parts.Number.{Number}
 use Rattle.figures.specs.declared.parts.Number.the-variants.{Good, Failing, Zero}
 use Rattle.figures.specs.declared.parts.Halves.{Halves}
@@ -32,15 +32,15 @@ some-digits h t = go (leb (length t) (run isDigit h t)) refl
         rw (leb·zero (run isDigit h t), k)
     go false e = rw (empty-before t (run isDigit h t) (leb-false (length t) (run isDigit h t) e), and-false, and-false, and-false)
 
-abbrev told : Bool → List ℕ → Part
+abbrev told : Bool → List ℕ → PartRead
 told t bs = cond t (record { digits = true; some = not (eqb (value bs) 0); passes = passes bs }) noPart
 
 -- the halves, from what was told of the parts
-abbrev halvesBy : Part → Part → Halves
+abbrev halvesBy : PartRead → PartRead → Halves
 halvesBy a b = record { prefix = a .passes; number = numberBy (not (b .some)) (b .passes) }
 
 -- the open check, from what was told of its parts
-pub judged : (p n : List ℕ) {a b : Part} → a ≡ partOf 6 p → b ≡ partOf 10 n
+pub judged : (p n : List ℕ) {a b : PartRead} → a ≡ partOf 6 p → b ≡ partOf 10 n
     → accountBy (leb 1 (length n) && (a .digits && b .digits)) (halvesBy a b) ≡ accountOf p n
 unfolding partOf accountOf
 judged p n ea eb =

@@ -9,7 +9,7 @@ use Rattle.laws.specs.Refusals.{Refusal, _if_, first}
 use Rattle.text.specs.Digits.{value}
 use Rattle.figures.specs.declared.accounts.Account.{Account}
 use Rattle.figures.specs.declared.accounts.Account.the-variants.{Judged, NotDigits}
-use Rattle.figures.specs.declared.parts.Part.{Part}
+use Rattle.figures.specs.declared.parts.PartRead.{PartRead}
 use Rattle.figures.specs.declared.parts.Number.{Number}
 use Rattle.figures.specs.declared.parts.Number.the-variants.{Good, Failing, Zero}
 use Rattle.figures.specs.declared.parts.Halves.{Halves}
@@ -38,10 +38,10 @@ unfoldable pub halvesOf : List ℕ → List ℕ → Halves
 halvesOf prefix number = record { prefix = passes prefix; number = numberBy (eqb (value number) 0) (passes number) }
 
 -- what is told of a part of at most so many digits, and of what is none
-abbrev pub noPart : Part
+abbrev pub noPart : PartRead
 noPart = record { digits = false; some = false; passes = false }
 
-unfoldable pub partOf : ℕ → List ℕ → Part
+unfoldable pub partOf : ℕ → List ℕ → PartRead
 partOf most bs = cond (fits (num 0 most ∷ []) bs) (record { digits = true; some = not (eqb (value bs) 0); passes = passes bs }) noPart
 
 -- a first part of 0 to 6 digits and a second of 1 to 10

@@ -30,16 +30,16 @@ fn part_passes(s: &[u8]) -> bool
 }
 
 // A part that may not be digits: whether it is at most so many of them; if so, whether one is not 0, and whether it passes.
-pub struct Part {
+pub struct PartRead {
     pub digits: bool,
     pub some: bool,
     pub passes: bool,
 }
 
-fn no_part() -> Part
+fn no_part() -> PartRead
     ensures { λ r. ⌜ r ≡ noPart ⌝ }
 {
-    Part {
+    PartRead {
         digits: false,
         some: false,
         passes: false,
@@ -47,7 +47,7 @@ fn no_part() -> Part
 }
 
 // Reads a part: one loop for its digits, their sum, and whether one is not 0.
-pub fn part_of(s: &[u8], most: usize) -> Part
+pub fn part_of(s: &[u8], most: usize) -> PartRead
     requires { ⌜ most ≤ 10 ⌝ }
     ensures { λ r. ⌜ r ≡ partOf most (now (s .entry)) ⌝ }
 {
@@ -67,7 +67,7 @@ pub fn part_of(s: &[u8], most: usize) -> Part
         any = any | d;
         i += 1;
     }
-    Part {
+    PartRead {
         digits: true,
         some: any != 0,
         passes: sum % 11 == 0,

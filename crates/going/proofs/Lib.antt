@@ -1,2 +1,3 @@
 mod Alike
+pub mod Pieces
 pub mod Reached

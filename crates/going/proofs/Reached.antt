@@ -35,6 +35,7 @@ use Rattle.joining.proofs.Real.{kept-like, kept-nothing, lines-all, Ended, join
 use Rattle.going.specs.declared.Going.{Going}
 use Rattle.going.specs.Reached.{Sound, Reached, Begun, Gone, Done, Judged}
 use Rattle.going.proofs.Alike.{one-alike, alone-alike}
+use Rattle.going.proofs.Pieces.{Thens, held-all}
 
 -- ---- texts that are lent
 
@@ -271,25 +272,17 @@ pub record State : Type 0 where
 abbrev pub Then : Basis → List ℕ → State → State → Type 0
 Then j s a b = Gone s j (a .lines-in) (a .rules-in) (a .offsets-in) (a .stood-in) (a .going) (b .lines-in) (b .rules-in) (b .offsets-in) (b .stood-in) (b .going)
 
--- pieces came one behind the other
-pub data Thens (j : Basis) : List (List ℕ) → State → State → Type 0 where
-  no-more : {a : State} → Thens j [] a a
-  one-more : {s : List ℕ} {ss : List (List ℕ)} {a b c : State} → Then j s a b → Thens j ss b c → Thens j (s ∷ ss) a c
-
 abbrev ReachedAt : Terms → List ℕ → List ℕ → List ℕ → List ℕ → State → Type 0
 ReachedAt terms t ls₀ rs₀ ps₀ a = Reached terms t ls₀ rs₀ ps₀ (a .lines-in) (a .rules-in) (a .offsets-in) (a .stood-in) (a .going)
 
 -- what is known then is what would be known of the text that they make
-pub over-all : {j : Basis} {ss : List (List ℕ)} {a b : State} → Thens j ss a b → (terms : Terms) (t ls₀ rs₀ ps₀ : List ℕ) → j ≡ basisOf terms
+pub over-all : {j : Basis} {ss : List (List ℕ)} {a b : State} → Thens (Then j) ss a b → (terms : Terms) (t ls₀ rs₀ ps₀ : List ℕ) → j ≡ basisOf terms
     → ReachedAt terms t ls₀ rs₀ ps₀ a → ReachedAt terms (t ++ concat ss) ls₀ rs₀ ps₀ b
-unfolding concat
-over-all {a = a} no-more terms t ls₀ rs₀ ps₀ ej R = subst (λ (l : List ℕ). ReachedAt terms l ls₀ rs₀ ps₀ a) (sym (append-nil t)) R
-over-all {b = b} (one-more {s} {ss} G T) terms t ls₀ rs₀ ps₀ ej R =
-    subst (λ (l : List ℕ). ReachedAt terms l ls₀ rs₀ ps₀ b) (append-assoc t s (concat ss)) (over-all T terms (t ++ s) ls₀ rs₀ ps₀ ej (G terms t ls₀ rs₀ ps₀ ej R))
+over-all T terms t ls₀ rs₀ ps₀ ej R = held-all (λ (l : List ℕ) (a : State). ReachedAt terms l ls₀ rs₀ ps₀ a) (λ s a b G l H. G terms l ls₀ rs₀ ps₀ ej H) T t R
 
 -- and from the start on, at the end: the faults of that text are listed, as the pass over the whole lists them
 pub all-listed : {j : Basis} {ss : List (List ℕ)} {a b : State} → Begun (a .going) → length (a .lines-in) ≡ length (a .rules-in) → length (a .lines-in) ≡ length (a .offsets-in)
-    → a .stood-in ≡ replicate 1296 0 → Thens j ss a b → {r : Ledger} {ls rs ps : List ℕ}
+    → a .stood-in ≡ replicate 1296 0 → Thens (Then j) ss a b → {r : Ledger} {ls rs ps : List ℕ}
     → Done j (b .lines-in) (b .rules-in) (b .offsets-in) (b .stood-in) (b .going) r ls rs ps → (terms : Terms) → j ≡ basisOf terms
     → Listed (offsetOf (concat ss)) (faultsIn terms (concat ss)) (a .lines-in) (a .rules-in) (a .offsets-in) r ls rs ps
 all-listed {ss = ss} {a} B same level es T D terms ej =

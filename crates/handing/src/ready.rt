@@ -1,15 +1,6 @@
 // Whether two slices hold `n` pairs of a line and a rule in order, which is what entering asks of them.
 ghost use mathlib.Core.Path.{_≡_};
-ghost use Rattle.rules.specs.Faults.{fault};
-ghost use Rattle.ledger.specs.Marks.{key};
 ghost use Rattle.handing.specs.Ready.{isReady};
-
-// The order of faults, as one number.
-fn key_of(line: u32, rule: u32) -> u64
-    ensures { λ r. ⌜ r ≡ key (fault line rule) ⌝ }
-{
-    64 * (line as u64) + (rule as u64)
-}
 
 // One look at each pair: it must not come before the one above it.
 pub fn is_ready(lines: &[u32], rules: &[u32], n: usize) -> bool
@@ -24,7 +15,7 @@ pub fn is_ready(lines: &[u32], rules: &[u32], n: usize) -> bool
     let mut low = 0u64;
     let mut i = 0;
     while i < n {
-        let k = key_of(lines[i], rules[i]);
+        let k = ledger::key_of(lines[i], rules[i]);
         if k < low {
             return false;
         }

@@ -6,12 +6,13 @@ use Prim.Native.Nat.{ℕ, suc, _+_, _-_, _<_, _≤_, min}
 use native.Mathlib.Nat.{zero-add}
 use native.Mathlib.Omega.{arith}
 use lib.Dec.{eqb, ltb, leb, eqb·suc-zero}
-use lib.ListN.{length, take, drop, set, getD, replicate, length-append, length-take, length-drop, length-replicate, drop-of-length-le}
+use lib.ListN.{length, take, drop, set, getD, replicate, length-append, length-take, length-drop, length-replicate}
 use lib.Seq.{take-all, take-length, drop-length, take-append-le, drop-append-le, take-append-add, drop-append-add, set-split}
 use borrow.Author.Tests.{leb-true, leb-false, eqb-true, eq-eqb, ne-eqb, lt-ltb, le-ltb}
 use Rattle.laws.specs.Lists.{put, anyOf}
 use Rattle.laws.proofs.Any.{any-append}
 use Rattle.laws.proofs.Put.{put-is, length-put, take-put, put-both, put-none}
+use Rattle.laws.proofs.Parts.{drop-min}
 use Rattle.figures.proofs.Tests.{and-parts}
 use Rattle.text.specs.Characters.{isInadmissible}
 use Rattle.text.specs.Strings.{Wrote}
@@ -75,16 +76,6 @@ fits k n s e = omega (arith, length-take n s)
 tail : (n : ℕ) (s : List ℕ) → take (length s - n) (drop n s) ≡ drop n s
 tail n s = take-all (length s - n) (drop n s) (omega (arith, length-drop n s))
 
-drop-min : (k : ℕ) (s : List ℕ) → drop (min k (length s)) s ≡ drop k s
-drop-min k s = go (leb k (length s)) refl
-  where
-    go : (t : Bool) → leb k (length s) ≡ t → drop (min k (length s)) s ≡ drop k s
-    go true e = let f : k ≤ length s = leb-true k (length s) e in let m : min k (length s) ≡ k = omega arith in rw m
-    go false e =
-        let f : length s < k = leb-false k (length s) e in
-        let m : min k (length s) ≡ length s = omega arith in
-        rw m (drop-length s ∙ sym (drop-of-length-le s {i = k} (omega arith)))
-
 -- the first w bytes of two texts are n of the one and m of the other
 module _ (w : ℕ) (a b : List ℕ) (n m : ℕ) (is-n : n ≡ min w (length a)) (is-m : m ≡ min (w - n) (length b)) where
   pub front : take w (a ++ b) ≡ take n a ++ take m b
@@ -119,7 +110,7 @@ module _ (w : ℕ) (a b : List ℕ) (n m : ℕ) (is-n : n ≡ min w (length a)) 
           let f : length a < w = leb-false w (length a) e in
           let p : n ≡ length a = omega arith in
           let k : w ≡ length a + (w - length a) = omega arith in
-          let q : m ≡ min (w - length a) (length b) = omega arith in
+          let q : m ≡ min (length b) (w - length a) = omega arith in
           ap (λ (i : ℕ). drop i (a ++ b)) k
           ∙ drop-append-add a b (w - length a)
           ∙ sym (λ i. drop-length a i ++ drop-min (w - length a) b i)

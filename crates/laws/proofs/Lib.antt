@@ -4,5 +4,6 @@ pub mod Finite
 pub mod OneOf
 pub mod Any
 pub mod Put
+pub mod Parts
 pub mod Truth
 pub mod Refusals

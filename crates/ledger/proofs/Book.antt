@@ -1,11 +1,10 @@
 -- The book of all faults so far, in order: what the slices and the ledger hold of it.
 use mathlib.Core.Path.{_≡_, refl, sym, ap, _∙_}
 use mathlib.Core.List.{List, [], _∷_, _++_, map}
-use Prim.Native.Nat.{ℕ, zero, suc, min}
-use native.Mathlib.Nat.{min-zero, suc-min-suc}
+use Prim.Native.Nat.{ℕ, min}
 use native.Mathlib.Omega.{arith}
 use lib.ListN.{length, take, drop, take-append-drop}
-use lib.Seq.{drop-nil}
+use Rattle.laws.proofs.Parts.{drop-min}
 use Rattle.rules.specs.Faults.{Fault, written}
 use Rattle.ledger.specs.declared.Ledger.{Ledger}
 use Rattle.ledger.specs.Marks.{insertAll}
@@ -46,11 +45,6 @@ book-more {all} {xs} {ls₀} {rs₀} B E = record {
   entered = entered-both (start-ready ls₀ rs₀ (B .same)) (B .entered) E;
   are = insertAll-append (B .since) xs [] ∙ ap (insertAll xs) (B .are);
 }
-
-drop-min : (n : ℕ) (s : List ℕ) → drop (min (length s) n) s ≡ drop n s
-drop-min zero s = rw (min-zero (length s))
-drop-min (suc n) [] = drop-nil (min 0 (suc n))
-drop-min (suc n) (x ∷ s) = rw (suc-min-suc (length s) n) (drop-min n s)
 
 -- one column: f of the first pairs, then what the slice held
 column : (f : Fault → ℕ) (all : List Fault) (kept : ℕ) (s₀ s : List ℕ) → take kept s ≡ map f (take (length s₀) all) → kept ≡ min (length s₀) (length all) → drop kept s ≡ drop kept s₀

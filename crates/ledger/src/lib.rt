@@ -7,7 +7,7 @@ ghost use mathlib.Core.List.{[], _∷_, _++_};
 ghost use Prim.Native.Nat.{_+_, _-_, _*_, _^_, _<_, _≤_, min};
 ghost use lib.ListN.{length, take, drop};
 ghost use Rattle.rules.specs.Faults.{fault};
-ghost use Rattle.ledger.specs.Marks.{insert, marked};
+ghost use Rattle.ledger.specs.Marks.{key, insert, marked};
 ghost use Rattle.ledger.specs.Slices.{opened, held, Ready, Put, Entered, Kept};
 
 // How many pairs the slices hold, and how many faults there are in all.
@@ -24,8 +24,8 @@ pub fn empty() -> Ledger
 }
 
 // The order of faults, as one number.
-fn key_of(line: u32, rule: u32) -> u64
-    ensures { λ r. ⌜ r ≡ 64 * line + rule ⌝ }
+pub fn key_of(line: u32, rule: u32) -> u64
+    ensures { λ r. ⌜ r ≡ key (fault line rule) ⌝ }
 {
     64 * (line as u64) + (rule as u64)
 }

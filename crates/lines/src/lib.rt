@@ -171,7 +171,7 @@ fn odds(w: u64) -> u64
 }
 
 // Whether a byte of a word has its high bit.
-fn marked(w: u64) -> bool
+fn has_high(w: u64) -> bool
     ensures { λ r. ⌜ r ≡ flagged w ⌝ }
 {
     w & HIGH != 0
@@ -223,14 +223,14 @@ pub fn line_at(s: &[u8], at: usize) -> Found
                     end: k,
                     next: k + 2,
                     ended: true,
-                    odd: marked(odd),
+                    odd: has_high(odd),
                 };
             }
             odd = odd | 0x80;
             i = k + 1;
         }
     }
-    line_by_bytes(s, i, marked(odd))
+    line_by_bytes(s, i, has_high(odd))
 }
 
 // The line reader: the lent file, and its place in it.

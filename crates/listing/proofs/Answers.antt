@@ -31,6 +31,10 @@ level m n k e = go (eqb m n) refl (eqb m k) refl e
     go true ea false eb e = absurd (true≢false e)
     go false ea b eb e = absurd (true≢false e)
 
+-- as many bytes as the body has
+pub body-fits : (file : List ℕ) (k : ℕ) → k ≡ length (body file) → k ≡ length (take k file)
+body-fits file k e = e ∙ sym (ap length (ap (λ (n : ℕ). take n file) e ∙ body-take file))
+
 -- a file that is not refused is its body and one mark
 pub body-and-mark : (file : List ℕ) (terms : Terms) (m n k : ℕ) → first (checkRefusals file terms m n k) ≡ 0 → suc (length (body file)) ≡ length file
 body-and-mark file terms m n k e =

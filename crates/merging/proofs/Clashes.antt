@@ -7,11 +7,12 @@ use mathlib.Core.List.{List, [], _∷_}
 use mathlib.Core.Logic.{_⊎_, inl, inr}
 use lib.Dec.{eqb, leb}
 use borrow.Author.Tests.{leb-true, leb-false, eqb-true, eq-eqb}
+use Rattle.figures.proofs.Tests.{and-parts}
 use Rattle.sorting.specs.Sorting.{count, Same, Rises}
 use Rattle.register.specs.Register.{Range}
 use Rattle.register.specs.Entering.{Use, holds, standsIn, clash}
 use Rattle.register.specs.Spans.{Strung, keyOf, keysOf, spansOf, Fit, Fits, Sound}
-use Rattle.register.proofs.Sets.{both, either, agree, left, right, pair, holds-has, has-holds}
+use Rattle.register.proofs.Sets.{either, agree, left, right, pair, holds-has, has-holds}
 use Rattle.register.proofs.Spans.{weaken}
 use Rattle.merging.specs.Merging.{one, weave, hits}
 use Rattle.merging.proofs.Covers.{within, cover, Held, inside, below, above, heldIs, cover-more, has-cover, cover-has, cover-weave, climbs-weave, low, strung-once, hit-found, spread}
@@ -24,7 +25,7 @@ stands-count u (v ∷ us) e = go (either (eqb (u .day) (v .day) && eqb (u .numbe
   where
     go : ((eqb (u .day) (v .day) && eqb (u .number) (v .number)) ≡ true) ⊎ (standsIn u us ≡ true) → (standsIn u us ≡ true → 1 ≤ count (keyOf u) (keysOf us)) → 1 ≤ count (keyOf u) (keysOf (v ∷ us))
     go (inl p) ih =
-        let b = both (eqb (u .day) (v .day)) (eqb (u .number) (v .number)) p in
+        let b = and-parts (eqb (u .day) (v .day)) (eqb (u .number) (v .number)) p in
         let d = eqb-true (u .day) (v .day) (b .0) in
         let n = eqb-true (u .number) (v .number) (b .1) in
         omega (arith, count-same (keyOf u) (keyOf v) (keysOf us) (omega arith))

@@ -1,4 +1,5 @@
--- Model of the code, not part of the statement: the states that can go on, as a test of their numbers.
+-- The states that can go on, as a test of their numbers: `isOpen` is what refusal 18 is asked by, in `Adds` and `Closes`. The bounds that it
+-- asks are those that the code needs; that each state of an open file is within them is `usable` of `Holds`.
 use Prim.Native.Nat.{ℕ, _+_, _*_, _^_}
 use mathlib.Core.Bool.{Bool, _&&_}
 use mathlib.Core.List.{List}

@@ -22,7 +22,7 @@ use Rattle.portions.specs.Usable.{isOpen}
 use Rattle.portions.specs.Jobs.{Rooms, Holds, openRefusals, openingNumber, addingNumber, Opens, Adds}
 use Rattle.answering.specs.Closing.{fileRefusals, closeRefusals, closingNumber, closingOr, checkedIn, Closes}
 use Rattle.portions.proofs.Bounds.{shut-shut}
-use Rattle.answering.proofs.Cut.{Thens, held-all}
+use Rattle.going.proofs.Pieces.{Thens, held-all}
 use Rattle.stored.specs.Stored.{Puts}
 use Rattle.stored.proofs.Back.{state-shut}
 use Rattle.checking_face.specs.Face.{CheckedAt}

@@ -84,6 +84,6 @@ pub fn close(
     let refusal = answering::number_of(answer);
     let faults = answering::total_or(answer, 0);
     store_total(total, refusal == 0, faults);
-    stored::close(refusal != 18, frame);
+    stored::shut_frame(refusal != 18, frame);
     refusal
 }

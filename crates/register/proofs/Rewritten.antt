@@ -10,10 +10,10 @@ use lib.Seq.{drop-drop, length-take-le}
 use borrow.Author.Tests.{eqb-true}
 use Rattle.laws.specs.Ascii.{ascii}
 use Rattle.text.specs.Strings.{begins}
+use Rattle.figures.proofs.Tests.{and-parts}
 use Rattle.register.specs.Bytes.{big, bigAfter, bigAt, Small}
 use Rattle.register.specs.Register.{rangesBytes, bytesIn, rangesIn, countIn, registerOf, mostOf, isVersion, versionIn, sizeOf, hasLayout, wellFormed, isRegister}
 use Rattle.register.proofs.Widths.{written-read}
-use Rattle.register.proofs.Sets.{both}
 
 -- ---- bytes cut into pieces
 small-take : (n : ℕ) (s : List ℕ) → Small s → Small (take n s)
@@ -72,17 +72,17 @@ unfolding begins
 begins-front s [] e = refl
 begins-front [] (b ∷ bs) e = absurd (false≢true e)
 begins-front (a ∷ s) (b ∷ bs) e =
-    let p = both (eqb a b) (begins s bs) e in
+    let p = and-parts (eqb a b) (begins s bs) e in
     let q = sym (eqb-true a b (p .0)) in
     let t = begins-front s bs (p .1) in
     λ i. q i ∷ t i
 
 pub written-back : (s : List ℕ) → Small s → isRegister s ≡ true → bytesIn (versionIn s) (registerOf s) ≡ s
 written-back s S e =
-    let l = both (hasLayout s) (wellFormed (registerOf s)) e .0 in
-    let a = both (begins s (ascii "CRG")) (isVersion (versionIn s) && (leb (countIn s) (mostOf (versionIn s)) && eqb (length s) (sizeOf (countIn s)))) l in
-    let b = both (isVersion (versionIn s)) (leb (countIn s) (mostOf (versionIn s)) && eqb (length s) (sizeOf (countIn s))) (a .1) in
-    let c = both (leb (countIn s) (mostOf (versionIn s))) (eqb (length s) (sizeOf (countIn s))) (b .1) in
+    let l = and-parts (hasLayout s) (wellFormed (registerOf s)) e .0 in
+    let a = and-parts (begins s (ascii "CRG")) (isVersion (versionIn s) && (leb (countIn s) (mostOf (versionIn s)) && eqb (length s) (sizeOf (countIn s)))) l in
+    let b = and-parts (isVersion (versionIn s)) (leb (countIn s) (mostOf (versionIn s)) && eqb (length s) (sizeOf (countIn s))) (a .1) in
+    let c = and-parts (leb (countIn s) (mostOf (versionIn s))) (eqb (length s) (sizeOf (countIn s))) (b .1) in
     let z : length s ≡ 13 + 12 * countIn s = eqb-true (length s) (sizeOf (countIn s)) (c .1) in
     let m : ascii "CRG" ≡ take 3 (drop 0 s) = begins-front s (ascii "CRG") (a .0) in
     let v = again s S 2 3 (omega arith) in

@@ -3,22 +3,18 @@
 use Prim.Native.Nat.{ℕ, zero, suc, _+_, _-_, _*_, _≤_, _<_}
 use native.Mathlib.Omega.{arith}
 use mathlib.Core.Path.{_≡_, refl, sym, ap, _∙_, subst}
-use mathlib.Core.Bool.{Bool, true, false, cond, _&&_, _||_, true≢false, false≢true}
+use mathlib.Core.Bool.{Bool, true, false, cond, _&&_, _||_, or-false, or-assoc, true≢false, false≢true}
 use mathlib.Core.List.{List, [], _∷_}
 use mathlib.Core.Logic.{_⊎_, inl, inr}
 use lib.Dec.{eqb, leb, ltb}
 use borrow.Author.Tests.{ltb-true, ltb-false, leb-true, leb-false, eqb-true, eqb-false, eq-eqb, ne-eqb, lt-ltb, le-ltb, le-leb, lt-leb}
+use Rattle.figures.proofs.Tests.{and-parts}
 use Rattle.register.specs.Register.{Range, apart, inOrder}
 use Rattle.register.specs.Entering.{Use, holds, standsIn, join, add, addAll}
 use Rattle.register.specs.Spans.{Span, key, keyOf, spanOf, spansOf, keysOf, Has, Strung, joinSpan, addSpan, addKeys, Fit, Fits, Sound}
 use Rattle.register.proofs.Spans as spans
 
 -- ---- tests
-pub both : (x y : Bool) → (x && y) ≡ true → (x ≡ true) × (y ≡ true)
-both true true e = (refl, refl)
-both true false e = absurd (false≢true e)
-both false y e = absurd (false≢true e)
-
 -- two tests that follow from each other are one
 pub agree : (x y : Bool) → (x ≡ true → y ≡ true) → (y ≡ true → x ≡ true) → x ≡ y
 agree true true f g = refl
@@ -51,7 +47,7 @@ before-key d m e n hm hn = agree _ _ to from
       where
         go : (ltb d e ≡ true) ⊎ ((eqb d e && ltb m n) ≡ true) → ltb (key d m) (key e n) ≡ true
         go (inl q) = lt-ltb (key d m) (key e n) (let l = ltb-true d e q in omega arith)
-        go (inr q) = let b = both (eqb d e) (ltb m n) q in lt-ltb (key d m) (key e n) (let l = eqb-true d e (b .0) in let k = ltb-true m n (b .1) in omega arith)
+        go (inr q) = let b = and-parts (eqb d e) (ltb m n) q in lt-ltb (key d m) (key e n) (let l = eqb-true d e (b .0) in let k = ltb-true m n (b .1) in omega arith)
 
     from : ltb (key d m) (key e n) ≡ true → (ltb d e || (eqb d e && ltb m n)) ≡ true
     from p = let l = ltb-true (key d m) (key e n) p in go (ltb d e) refl l
@@ -64,7 +60,7 @@ touch-key : (d l e f : ℕ) → l ≤ 9999999 → 1 ≤ f → f ≤ 9999999 → 
 touch-key d l e f hl h1 hf = agree _ _ to from
   where
     to : (eqb d e && eqb (l + 1) f) ≡ true → eqb (key d l + 1) (key e f) ≡ true
-    to p = let b = both (eqb d e) (eqb (l + 1) f) p in let x = eqb-true d e (b .0) in let y = eqb-true (l + 1) f (b .1) in eq-eqb (key d l + 1) (key e f) (omega arith)
+    to p = let b = and-parts (eqb d e) (eqb (l + 1) f) p in let x = eqb-true d e (b .0) in let y = eqb-true (l + 1) f (b .1) in eq-eqb (key d l + 1) (key e f) (omega arith)
 
     from : eqb (key d l + 1) (key e f) ≡ true → (eqb d e && eqb (l + 1) f) ≡ true
     from p = let x = eqb-true (key d l + 1) (key e f) p in pair _ _ (eq-eqb d e (omega arith)) (eq-eqb (l + 1) f (omega arith))
@@ -76,7 +72,7 @@ reach-key : (d m e n : ℕ) → m ≤ 9999999 → n ≤ 9999999 → e ≤ d → 
 reach-key d m e n hm hn h = agree _ _ to from
   where
     to : (eqb d e && leb m n) ≡ true → leb (key d m) (key e n) ≡ true
-    to p = let b = both (eqb d e) (leb m n) p in let x = eqb-true d e (b .0) in let y = leb-true m n (b .1) in le-leb (key d m) (key e n) (omega arith)
+    to p = let b = and-parts (eqb d e) (leb m n) p in let x = eqb-true d e (b .0) in let y = leb-true m n (b .1) in le-leb (key d m) (key e n) (omega arith)
 
     from : leb (key d m) (key e n) ≡ true → (eqb d e && leb m n) ≡ true
     from p = let x = leb-true (key d m) (key e n) p in pair _ _ (eq-eqb d e (omega arith)) (le-leb m n (omega arith))
@@ -88,7 +84,7 @@ join-spans r (q ∷ qs) h S = go (eqb (r .day) (q .day) && eqb (r .last + 1) (q 
   where
     go : (x : Bool) → (eqb (r .day) (q .day) && eqb (r .last + 1) (q .first)) ≡ x → (eqb (r .day) (q .day) && eqb (r .last + 1) (q .first)) ≡ eqb (key (r .day) (r .last) + 1) (key (q .day) (q .first)) → spansOf (join r (q ∷ qs)) ≡ joinSpan (key (r .day) (r .first)) (key (r .day) (r .last)) (spansOf (q ∷ qs))
     go true p e =
-        let d : r .day ≡ q .day = eqb-true _ _ (both (eqb (r .day) (q .day)) (eqb (r .last + 1) (q .first)) p .0) in
+        let d : r .day ≡ q .day = eqb-true _ _ (and-parts (eqb (r .day) (q .day)) (eqb (r .last + 1) (q .first)) p .0) in
         rw (sym e ∙ p, p) (ap (λ (x : ℕ). record { from = key (r .day) (r .first); to = key x (q .last) } ∷ spansOf qs) d)
     go false p e = rw (sym e ∙ p, p) refl
 
@@ -101,7 +97,7 @@ module _ (u : Use) (r : Range) (rs : List Range) (F : Fit u) (S : Sound (r ∷ r
       → spansOf (cond y (join (record { day = r .day; first = r .first; last = u .number }) rs) (cond z (r ∷ rs) (r ∷ add u rs)))
       ≡ cond y (joinSpan (key (r .day) (r .first)) (keyOf u) (spansOf rs)) (cond z (spanOf r ∷ spansOf rs) (spanOf r ∷ addSpan (keyOf u) (spansOf rs)))
   second true z q =
-      let d : u .day ≡ r .day = eqb-true _ _ (both (eqb (u .day) (r .day)) (eqb (r .last + 1) (u .number)) q .0) in
+      let d : u .day ≡ r .day = eqb-true _ _ (and-parts (eqb (u .day) (r .day)) (eqb (r .last + 1) (u .number)) q .0) in
       join-spans (record { day = r .day; first = r .first; last = u .number }) rs (F .1) (S .3)
       ∙ ap (λ (x : ℕ). joinSpan (key (r .day) (r .first)) (key x (u .number)) (spansOf rs)) (sym d)
   second false z q = third z
@@ -130,7 +126,7 @@ join-sound r [] a b c S = (a, b, c, tt)
 join-sound r (q ∷ qs) a b c S = go (eqb (r .day) (q .day) && eqb (r .last + 1) (q .first)) refl
   where
     go : (x : Bool) → (eqb (r .day) (q .day) && eqb (r .last + 1) (q .first)) ≡ x → Sound (cond x (record { day = r .day; first = r .first; last = q .last } ∷ qs) (r ∷ q ∷ qs))
-    go true p = let e = eqb-true (r .last + 1) (q .first) (both (eqb (r .day) (q .day)) (eqb (r .last + 1) (q .first)) p .1) in (a, omega (arith, e, b, S .1), S .2, S .3)
+    go true p = let e = eqb-true (r .last + 1) (q .first) (and-parts (eqb (r .day) (q .day)) (eqb (r .last + 1) (q .first)) p .1) in (a, omega (arith, e, b, S .1), S .2, S .3)
     go false p = (a, b, c, S)
 
 pub add-sound : (u : Use) (rs : List Range) → Fit u → Sound rs → Sound (add u rs)
@@ -140,7 +136,7 @@ add-sound u (r ∷ rs) F S = go (ltb (u .day) (r .day) || (eqb (u .day) (r .day)
     go : (x y : Bool) → (eqb (u .day) (r .day) && eqb (r .last + 1) (u .number)) ≡ y → (z : Bool) → Sound (add u rs) → Sound (cond x (join (record { day = u .day; first = u .number; last = u .number }) (r ∷ rs)) (cond y (join (record { day = r .day; first = r .first; last = u .number }) rs) (cond z (r ∷ rs) (r ∷ add u rs))))
     go true y q z ih = join-sound (record { day = u .day; first = u .number; last = u .number }) (r ∷ rs) (F .0) (omega arith) (F .1) S
     go false true q z ih =
-        let e = eqb-true (r .last + 1) (u .number) (both (eqb (u .day) (r .day)) (eqb (r .last + 1) (u .number)) q .1) in
+        let e = eqb-true (r .last + 1) (u .number) (and-parts (eqb (u .day) (r .day)) (eqb (r .last + 1) (u .number)) q .1) in
         join-sound (record { day = r .day; first = r .first; last = u .number }) rs (S .0) (omega (arith, e, S .1)) (F .1) (S .3)
     go false false q true ih = S
     go false false q false ih = (S .0, S .1, S .2, ih)
@@ -148,7 +144,7 @@ add-sound u (r ∷ rs) F S = go (ltb (u .day) (r .day) || (eqb (u .day) (r .day)
 -- ---- order
 pub order-strung : (rs : List Range) → Sound rs → inOrder rs ≡ true → Strung 0 (spansOf rs)
 order-strung [] S e = tt
-order-strung (r ∷ rs) S e = (omega arith, omega (arith, S .1), go rs (S .3) (both (apart r rs) (inOrder rs) e .0) (order-strung rs (S .3) (both (apart r rs) (inOrder rs) e .1)))
+order-strung (r ∷ rs) S e = (omega arith, omega (arith, S .1), go rs (S .3) (and-parts (apart r rs) (inOrder rs) e .0) (order-strung rs (S .3) (and-parts (apart r rs) (inOrder rs) e .1)))
   where
     go : (qs : List Range) → Sound qs → apart r qs ≡ true → Strung 0 (spansOf qs) → Strung (key (r .day) (r .last) + 2) (spansOf qs)
     go [] Q p T = tt
@@ -156,7 +152,7 @@ order-strung (r ∷ rs) S e = (omega arith, omega (arith, S .1), go rs (S .3) (b
       where
         part : (ltb (r .day) (q .day) ≡ true) ⊎ ((eqb (r .day) (q .day) && ltb (r .last + 1) (q .first)) ≡ true) → key (r .day) (r .last) + 2 ≤ key (q .day) (q .first)
         part (inl h) = let l = ltb-true (r .day) (q .day) h in omega (arith, S .2, Q .0, l)
-        part (inr h) = let b = both (eqb (r .day) (q .day)) (ltb (r .last + 1) (q .first)) h in let d = eqb-true (r .day) (q .day) (b .0) in let l = ltb-true (r .last + 1) (q .first) (b .1) in omega (arith, d, l)
+        part (inr h) = let b = and-parts (eqb (r .day) (q .day)) (ltb (r .last + 1) (q .first)) h in let d = eqb-true (r .day) (q .day) (b .0) in let l = ltb-true (r .last + 1) (q .first) (b .1) in omega (arith, d, l)
 
 pub strung-order : (n : ℕ) (rs : List Range) → Sound rs → Strung n (spansOf rs) → inOrder rs ≡ true
 strung-order n [] S T = refl
@@ -187,8 +183,8 @@ holds-has (r ∷ rs) u e = go (either (inRange r u) (holds rs u) e) (λ q. holds
   where
     go : (inRange r u ≡ true) ⊎ (holds rs u ≡ true) → (holds rs u ≡ true → Has (spansOf rs) (keyOf u)) → Has (spansOf (r ∷ rs)) (keyOf u)
     go (inl h) ih =
-        let a = both (eqb (r .day) (u .day)) (leb (r .first) (u .number) && leb (u .number) (r .last)) h in
-        let b = both (leb (r .first) (u .number)) (leb (u .number) (r .last)) (a .1) in
+        let a = and-parts (eqb (r .day) (u .day)) (leb (r .first) (u .number) && leb (u .number) (r .last)) h in
+        let b = and-parts (leb (r .first) (u .number)) (leb (u .number) (r .last)) (a .1) in
         let d = eqb-true (r .day) (u .day) (a .0) in
         let f = leb-true (r .first) (u .number) (b .0) in
         let l = leb-true (u .number) (r .last) (b .1) in
@@ -226,7 +222,7 @@ members u v rs F G S e = agree (holds (add u rs) v) (holds rs v || same) to from
         go : (holds rs v ≡ true) ⊎ ((eqb (u .day) (v .day) && eqb (u .number) (v .number)) ≡ true) → Has (addSpan (keyOf u) (spansOf rs)) (keyOf v)
         go (inl q) = spans.members-from 0 (keyOf u) (spansOf rs) O (keyOf v) (holds-has rs v q)
         go (inr q) =
-            let b = both (eqb (u .day) (v .day)) (eqb (u .number) (v .number)) q in
+            let b = and-parts (eqb (u .day) (v .day)) (eqb (u .number) (v .number)) q in
             let d = eqb-true (u .day) (v .day) (b .0) in
             let n = eqb-true (u .number) (v .number) (b .1) in
             let k : keyOf u ≡ keyOf v = omega arith in
@@ -296,15 +292,7 @@ all-spans [] rs F S = refl
 all-spans (u ∷ us) rs F S = all-spans us (add u rs) (F .1) (add-sound u rs (F .0) S) ∙ ap (addKeys (keysOf us)) (add-spans u rs (F .0) S)
 
 pub all-members : (us : List Use) (v : Use) (rs : List Range) → Fits us → Fit v → Sound rs → inOrder rs ≡ true → holds (addAll us rs) v ≡ (holds rs v || standsIn v us)
-all-members [] v rs F G S e = or-false (holds rs v)
-  where
-    or-false : (x : Bool) → x ≡ (x || false)
-    or-false true = refl
-    or-false false = refl
+all-members [] v rs F G S e = sym (or-false (holds rs v))
 all-members (u ∷ us) v rs F G S e =
     all-members us v (add u rs) (F .1) G (add-sound u rs (F .0) S) (ordered u rs (F .0) S e)
     ∙ rw (members u v rs (F .0) G S e, turned (u .day) (v .day), turned (u .number) (v .number)) (or-assoc (holds rs v) (eqb (v .day) (u .day) && eqb (v .number) (u .number)) (standsIn v us))
-  where
-    or-assoc : (x y z : Bool) → ((x || y) || z) ≡ (x || (y || z))
-    or-assoc true y z = refl
-    or-assoc false y z = refl

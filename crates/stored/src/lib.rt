@@ -16,7 +16,7 @@ ghost use lib.ListN.{set};
 ghost use Rattle.stored.specs.Stored.{frameOf, stateIn, Puts};
 
 // Any other number says that a state is closed.
-pub const OPEN: u32 = 0x43455254;
+const OPEN: u32 = 0x43455254;
 
 // The state that stands in some numbers.
 pub fn state_in(
@@ -113,7 +113,7 @@ pub fn store(
 }
 
 // Takes the mark away, where the job is done.
-pub fn close(done: bool, frame: &mut [u32; 8])
+pub fn shut_frame(done: bool, frame: &mut [u32; 8])
     ensures { λ _. ⌜ now (frame .exit) ≡ cond done (set (now (frame .entry)) 0 0) (now (frame .entry)) ⌝ }
 {
     if !done {

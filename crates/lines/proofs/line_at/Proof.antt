@@ -95,13 +95,13 @@ ends-at-requires c κs = (omega (arith, inside c, fits (c .before)), here c)
 add-t21 : tie.Need-add-t21 Inv-loop μ-loop
 add-t21 c = omega (arith, inside (c .before .before), fits (c .before .before .before))
 
-marked-requires : tie.Need-marked-requires Inv-loop μ-loop
-marked-requires c κs = search needs
+has-high-requires : tie.Need-has-high-requires Inv-loop μ-loop
+has-high-requires c κs = search needs
 
 returns : tie.Need-returns Inv-loop μ-loop
 returns c =
     let e = c .before .before .before in
-    ap (λ (t : Bool). record { end = l e .loop .i + k e; next = l e .loop .i + k e + 2; ended = true; odd = t }) (c .marked .ensures)
+    ap (λ (t : Bool). record { end = l e .loop .i + k e; next = l e .loop .i + k e + 2; ended = true; odd = t }) (c .has-high .ensures)
     ∙ sym (passed e ∙ line-cut _ _ _ (sym (c .before .before .ends-at .ensures) ∙ c .before .if2 .taken))
 
 add-i-2 : tie.Need-add-i-2 Inv-loop μ-loop
@@ -115,15 +115,15 @@ loop-again-2 c =
     let e = c .before .before in
     passed e ∙ cr-alone (l e .before .before .before .args .s .now) (l e .loop .i + k e) (odd e) (omega (arith, inside e, fits (e .before))) (here e) (sym (c .before .ends-at .ensures) ∙ c .if2 .left)
 
-marked-requires-2 : tie.Need-marked-requires-2 Inv-loop μ-loop
-marked-requires-2 c κs = search needs
+has-high-requires-2 : tie.Need-has-high-requires-2 Inv-loop μ-loop
+has-high-requires-2 c κs = search needs
 
 line-by-bytes-requires : tie.Need-line-by-bytes-requires Inv-loop μ-loop
 line-by-bytes-requires c κs = search needs
 
 returns-2 : tie.Need-returns-2 Inv-loop μ-loop
 returns-2 c =
-    c .line-by-bytes .ensures ∙ ap (λ (t : Bool). after t (lineAt (c .before .before .before .before .before .before .args .s .now) (c .before .before .before .loop .i))) (c .before .marked2 .ensures)
+    c .line-by-bytes .ensures ∙ ap (λ (t : Bool). after t (lineAt (c .before .before .before .before .before .before .args .s .now) (c .before .before .before .loop .i))) (c .before .has-high2 .ensures)
     ∙ sym (c .before .before .before .loop .inv)
 
 pub line-at-spec : {M : Type 1} → statement M
@@ -145,11 +145,11 @@ line-at-spec =
     sub-odd
     ends-at-requires
     add-t21
-    marked-requires
+    has-high-requires
     returns
     add-i-2
     loop-less-2
     loop-again-2
-    marked-requires-2
+    has-high-requires-2
     line-by-bytes-requires
     returns-2)

@@ -18,11 +18,11 @@ total-or-requires c κs = search needs
 store-total-requires : tie.Need-store-total-requires
 store-total-requires c κs = search needs
 
-close-requires-2 : tie.Need-close-requires-2
-close-requires-2 c κs = search needs
+shut-frame-requires : tie.Need-shut-frame-requires
+shut-frame-requires c κs = search needs
 
 returns : tie.Need-returns
-returns c = closed-at _ _ (c .before .before .before .before .before .before .before .before .before .before .before .before .before .before .state-in .ensures) (c .before .before .before .before .before .before .close .ensures) (c .before .before .before .before .before .number-of .ensures) (c .before .before .before .before .total-or .ensures) (c .before .before .store-total .ensures) (c .close2 .ensures)
+returns c = closed-at _ _ (c .before .before .before .before .before .before .before .before .before .before .before .before .before .before .state-in .ensures) (c .before .before .before .before .before .before .close .ensures) (c .before .before .before .before .before .number-of .ensures) (c .before .before .before .before .total-or .ensures) (c .before .before .store-total .ensures) (c .shut-frame .ensures)
 
 pub close-spec : {M : Type 1} → statement M
 close-spec =
@@ -33,5 +33,5 @@ close-spec =
     number-of-requires
     total-or-requires
     store-total-requires
-    close-requires-2
+    shut-frame-requires
     returns)

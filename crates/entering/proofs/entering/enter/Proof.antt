@@ -8,8 +8,9 @@ use Rattle.lines.specs.Lines.{body}
 use Rattle.rules.specs.Terms.{input}
 use Rattle.rules.specs.Faults.{faults}
 use Rattle.register.specs.Register.{isRegister}
+use Rattle.listing.proofs.Answers.{body-fits}
 use Rattle.adding.proofs.Lengths.{register-size}
-use Rattle.entering.proofs.Tests.{refused-by, not-register, other-code, day-before, has-faults, items, not-long, mark-last, total-is, body-fits, front-fits}
+use Rattle.entering.proofs.Tests.{refused-by, not-register, other-code, day-before, has-faults, items, not-long, mark-last, total-is, front-fits}
 use Rattle.entering.proofs.Again.{accepted-dated, body-dated, accepted-read, body-read}
 use borrow.Author.Needs.{needs}
 use Rattle.entering.proofs.entering.enter.Statement.{statement}

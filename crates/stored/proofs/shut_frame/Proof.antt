@@ -1,7 +1,7 @@
 use Rattle.laws.proofs.Truth.{not-true, not-false}
 use borrow.Author.Needs.{needs}
-use Rattle.stored.proofs.close.Statement.{statement}
-use Rattle.stored.proofs.close.Tie as tie
+use Rattle.stored.proofs.shut_frame.Statement.{statement}
+use Rattle.stored.proofs.shut_frame.Tie as tie
 
 returns : tie.Need-returns
 returns c = rw (not-true (c .before .args .done) (c .if1 .taken))
@@ -12,5 +12,5 @@ element-write-frame c = search needs
 returns-2 : tie.Need-returns-2
 returns-2 c = rw (not-false (c .before .args .done) (c .if1 .left))
 
-pub close-spec : {M : Type 1} → statement M
-close-spec = tie.close (tie.spec returns element-write-frame returns-2)
+pub shut-frame-spec : {M : Type 1} → statement M
+shut-frame-spec = tie.close (tie.spec returns element-write-frame returns-2)
