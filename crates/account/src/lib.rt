@@ -114,14 +114,16 @@ fn number_kept(some: bool, first: ItemNo, number: ItemNo) -> ItemNo
 fn with_heading(c: Course, h: Heading) -> Course
     ensures { λ r. ⌜ r ≡ courseOf (headingBlock (blockOf c [] []) h) ⌝ }
 {
+    let classed = c.classed;
+    let some = c.some;
     let paying = is_payment(h.kind);
     let own = is_priority(h.kind);
-    let day = day_kept(c.some, c.day, h.day);
-    let first = number_kept(c.some, c.first, h.number);
+    let day = day_kept(some, c.day, h.day);
+    let first = number_kept(some, c.first, h.number);
     let last = h.number;
     Course {
-        classed: c.classed | paying,
-        priority: (c.classed & c.priority) | (!c.classed & (paying & own)),
+        classed: classed | paying,
+        priority: (classed & c.priority) | (!classed & (paying & own)),
         any: true,
         some: true,
         day,

@@ -17,7 +17,7 @@ number-kept-requires c κs = search needs
 
 returns : tie.Need-returns
 unfolding headingBlock
-returns c = simp (c .before .before .before .before .number-kept .ensures, c .before .before .before .before .before .day-kept .ensures, c .before .before .before .before .before .before .is-priority .ensures, c .before .before .before .before .before .before .before .is-payment .ensures)
+returns c = simp (c .before .before .number-kept .ensures, c .before .before .before .day-kept .ensures, c .before .before .before .before .is-priority .ensures, c .before .before .before .before .before .is-payment .ensures)
 
 pub with-heading-spec : {M : Type 1} → statement M
 with-heading-spec =
