@@ -33,8 +33,8 @@ pub struct Course {
     pub last: ItemNo,
 }
 
-// The running account. Of the file: whether it has a payment yet, and whether the first is priority. Of the open block: whether
-// it has a heading, and a readable one, its first day and number, its last number, and of each group the count and the sum.
+// The running account whole: its course, field by field, and of each group of the open block the count and the sum. So the pass holds it
+// between two texts; from line to line the course is handed on by value, and the groups are lent.
 pub struct Block {
     pub classed: bool,
     pub priority: bool,

@@ -1,4 +1,4 @@
-// An item closes: its account, its heading's marks, and the heading that waits for rule 16.
+// An item closes: the course of its block, its heading's marks, and the heading that waits for rule 16.
 use crate::Shut;
 use crate::Wait;
 use account::Outline;

@@ -15,8 +15,8 @@ pub struct Wait {
     pub marks: u64,
 }
 
-// The account after an item, and who waits then; the marks of the one who waited, where the block ends; the heading's own marks,
-// where they are complete.
+// The course of the account after an item, and who waits then; the marks of the one who waited, where the block ends; the heading's own
+// marks, where they are complete. The groups of the account are counted in apart, where they are lent.
 pub struct Shut {
     pub course: Course,
     pub wait: Wait,

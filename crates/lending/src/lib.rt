@@ -1,4 +1,4 @@
-// The running account of a block, lent by `&mut`: `step` takes its course out, has `account` close an item by value, and stores it back;
+// The course of a block's running account, lent by `&mut`: `step` takes it out, has `account` close an item by value, and stores it back;
 // `advance` lends a local course to `step`, for callers that hold theirs by value. Promised, for every course, item and basis: the course
 // and the marks that `courseModel` of `account` says. It judges no rule; the rules as functions and the record of the account stand in
 // `blocks`, the account by value and its model in `account`.
