@@ -26,7 +26,7 @@ use Rattle.item_reader.specs.Slips.{slipOf, fileFrom, slipsFrom}
 use Rattle.sorting.specs.Sorting.{count, Rises, Within, Same, Ordered}
 use Rattle.register.specs.Register.{Range, Register, rangeStands, allStand, wellFormed}
 use Rattle.register.specs.Entering.{Use, usedAt, used, kept, clash, addAll}
-use Rattle.register.specs.Spans.{Span, keysOf, spanOf, spansOf, froms, tos, rangesOf, Fits, Sound, Strung, Least}
+use Rattle.register.specs.Spans.{Span, useKeys, spanOf, spansOf, froms, tos, rangesOf, Fits, Sound, Strung, Least}
 use Rattle.register.proofs.Spans.{weaken}
 use Rattle.register.proofs.Sets.{order-strung, all-sound, all-spans}
 use Rattle.register.proofs.Keys.{ranges-back}
@@ -74,11 +74,11 @@ pub uses-fit : (n : ℕ) (s : List ℕ) → Fits (used (slipsFrom n s))
 uses-fit n s = items-fit (fileFrom n s .items)
 
 -- ---- how large keys are
-pub keys-within : (us : List Use) → Fits us → Dated us → Within 0 1000000000000000 (keysOf us)
+pub keys-within : (us : List Use) → Fits us → Dated us → Within 0 1000000000000000 (useKeys us)
 keys-within [] F D = tt
 keys-within (u ∷ us) F D = (omega arith, omega (arith, F .0 .1, D .1), keys-within us (F .1) (D .2))
 
-keys-least : (us : List Use) → Dated us → Least 2 (keysOf us)
+keys-least : (us : List Use) → Dated us → Least 2 (useKeys us)
 keys-least [] D = tt
 keys-least (u ∷ us) D = (omega (arith, D .0), keys-least us (D .2))
 
@@ -132,7 +132,7 @@ ltb-next m n k e = go (ltb m n) refl
     go true p = let q = ltb-true m n p in lt-ltb (m + 1) k (omega arith)
     go false p = let q = ltb-false m n p in le-ltb (m + 1) k (omega arith)
 
-module _ (g : Register) (w : wellFormed g ≡ true) (us : List Use) (F : Fits us) (D : Dated us) (ks : List ℕ) (O : Ordered 0 (keysOf us) ks) (today : ℕ) where
+module _ (g : Register) (w : wellFormed g ≡ true) (us : List Use) (F : Fits us) (D : Dated us) (ks : List ℕ) (O : Ordered 0 (useKeys us) ks) (today : ℕ) where
   abbrev rs : List Range
   rs = kept today (g .ranges)
 
@@ -149,7 +149,7 @@ module _ (g : Register) (w : wellFormed g ≡ true) (us : List Use) (F : Fits us
   T = kept-strung 2 today (g .ranges) (two (g .latest) (g .ranges) (f₀ .stand) (order-strung (g .ranges) S₀ (f₀ .order)))
 
   R : Rises 2 ks
-  R = rises-two (keysOf us) ks (keys-least us D) (O .rises) (O .same)
+  R = rises-two (useKeys us) ks (keys-least us D) (O .rises) (O .same)
 
   hit-is : hits 0 (weave (spansOf rs) ks) ≡ clash rs us
   hit-is = clash-is rs S T us ks F R (O .same)
@@ -157,7 +157,7 @@ module _ (g : Register) (w : wellFormed g ≡ true) (us : List Use) (F : Fits us
   module _ (q : clash rs us ≡ false) where
     spans-are : closedUp (spansOf rs) ks ≡ one 0 ∷ spansOf (addAll us rs)
     spans-are =
-        closed-is (spansOf rs) (keysOf us) ks T (keys-least us D) R (O .same) (hit-is ∙ q)
+        closed-is (spansOf rs) (useKeys us) ks T (keys-least us D) R (O .same) (hit-is ∙ q)
         ∙ ap (λ (l : List Span). one 0 ∷ l) (sym (all-spans us rs F S))
 
     length-spans : (rs : List Range) → length (spansOf rs) ≡ length rs

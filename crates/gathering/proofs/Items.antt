@@ -22,7 +22,7 @@ use Rattle.sorting.specs.Sorting.{Rises}
 use Rattle.register.specs.Bytes.{bigAt}
 use Rattle.register.specs.Register.{Range, rangesIn}
 use Rattle.register.specs.Entering.{Use, usedAt, used, kept}
-use Rattle.register.specs.Spans.{Span, key, keysOf, spanOf, spansOf, froms, tos}
+use Rattle.register.specs.Spans.{Span, dayKey, useKeys, spanOf, spansOf, froms, tos}
 use Rattle.register_reader.proofs.Standing.{range, next-is}
 use Rattle.gathering.specs.Keys.{keyAt, Gathered, Kept}
 use Rattle.merging.proofs.Turns.{drop-past, drop-more, stored}
@@ -35,23 +35,23 @@ pub rises-end : (keys : List ℕ) (i last : ℕ) → length keys ≤ i → (Rise
 rises-end keys i last h f = f (rw (drop-past keys i h) tt)
 
 -- ---- the keys of a file
-keyed : (head : Read) (us : List Use) → keysOf (usedAt head us) ≡ cond (eqb (keyAt head) 0) (keysOf us) (keyAt head ∷ keysOf us)
+keyed : (head : Read) (us : List Use) → useKeys (usedAt head us) ≡ cond (eqb (keyAt head) 0) (useKeys us) (keyAt head ∷ useKeys us)
 keyed (Reads h) us = go (eqb (h .number .0) 0) refl
   where
     go : (x : Bool) → eqb (h .number .0) 0 ≡ x
-        → keysOf (cond x us (record { day = h .day; number = h .number .0 } ∷ us)) ≡ cond (eqb (cond x 0 (key (h .day) (h .number .0))) 0) (keysOf us) (cond x 0 (key (h .day) (h .number .0)) ∷ keysOf us)
+        → useKeys (cond x us (record { day = h .day; number = h .number .0 } ∷ us)) ≡ cond (eqb (cond x 0 (dayKey (h .day) (h .number .0))) 0) (useKeys us) (cond x 0 (dayKey (h .day) (h .number .0)) ∷ useKeys us)
     go true p = refl
-    go false p = rw (ne-eqb (key (h .day) (h .number .0)) 0 (λ e. eqb-false (h .number .0) 0 p (omega (arith, e))))
+    go false p = rw (ne-eqb (dayKey (h .day) (h .number .0)) 0 (λ e. eqb-false (h .number .0) 0 p (omega (arith, e))))
 keyed Unreadable us = refl
 
 module _ {s : List ℕ} {at : ℕ} {x : Numbered} (X : IsNumbered s at x) where
-  key-is : keyAt (Reads (X .heading)) ≡ cond (eqb (x .number) 0) 0 (key (x .day) (x .number))
-  key-is = let d = sym (X .day) in let n = sym (X .number) in λ i. cond (eqb (n i) 0) 0 (key (d i) (n i))
+  key-is : keyAt (Reads (X .heading)) ≡ cond (eqb (x .number) 0) 0 (dayKey (x .day) (x .number))
+  key-is = let d = sym (X .day) in let n = sym (X .number) in λ i. cond (eqb (n i) 0) 0 (dayKey (d i) (n i))
 
   pub key-none : x .number ≡ 0 → 0 ≡ keyAt (Reads (X .heading))
   key-none z = sym (key-is ∙ (rw (eq-eqb (x .number) 0 z)))
 
-  pub key-used : (x .number ≡ 0 → ⊥) → {k : ℕ} → k ≡ key (x .day) (x .number) → (k ≡ keyAt (Reads (X .heading))) × (k ≡ 0 → ⊥)
+  pub key-used : (x .number ≡ 0 → ⊥) → {k : ℕ} → k ≡ dayKey (x .day) (x .number) → (k ≡ keyAt (Reads (X .heading))) × (k ≡ 0 → ⊥)
   key-used z q = (q ∙ sym (key-is ∙ (rw (ne-eqb (x .number) 0 z))), λ e. z (omega (arith, e, q)))
 
 pub record Gathering (s keys : List ℕ) (n at : ℕ) : Type 0 where
@@ -59,10 +59,10 @@ pub record Gathering (s keys : List ℕ) (n at : ℕ) : Type 0 where
   pub headed : at < length s → Headed s at
   pub reads : Each Readable (slipsFrom 1 (drop at s))
   pub few : 54 * n ≤ at
-  pub left : keysOf (used (slipsFrom 1 s)) ≡ take n keys ++ keysOf (used (slipsFrom 1 (drop at s)))
+  pub left : useKeys (used (slipsFrom 1 s)) ≡ take n keys ++ useKeys (used (slipsFrom 1 (drop at s)))
 
 abbrev keysFrom : List ℕ → List ℕ
-keysFrom s = keysOf (used (slipsFrom 1 s))
+keysFrom s = useKeys (used (slipsFrom 1 s))
 
 nothing-left : (s : List ℕ) (at : ℕ) → length s ≤ at → keysFrom (drop at s) ≡ []
 unfolding rowsFrom lines
@@ -75,13 +75,13 @@ module _ {s keys : List ℕ} where
     headed = B .headed;
     reads = subst (Each Readable) (B .after 1) R;
     few = omega arith;
-    left = ap (λ (l : List Slip). keysOf (used l)) (B .after 1);
+    left = ap (λ (l : List Slip). useKeys (used l)) (B .after 1);
   }
 
   module _ {n at : ℕ} (G : Gathering s keys n at) {x : Next} (X : IsSlip s at x) {k : ℕ} (e : k ≡ keyAt (x .slip .head)) where
     on : keysFrom (drop at s) ≡ cond (eqb k 0) (keysFrom (drop (x .next) s)) (k ∷ keysFrom (drop (x .next) s))
     on =
-        ap (λ (l : List Slip). keysOf (used l)) (X .cut 1)
+        ap (λ (l : List Slip). useKeys (used l)) (X .cut 1)
         ∙ keyed (x .slip .head) (used (slipsFrom 1 (drop (x .next) s)))
         ∙ ap (λ (k : ℕ). cond (eqb k 0) (keysFrom (drop (x .next) s)) (k ∷ keysFrom (drop (x .next) s))) (sym e)
 
@@ -160,7 +160,7 @@ module _ {reg : List ℕ} {day n : ℕ} {starts ends : List ℕ} {k at left : �
         lasts = K .lasts ∙ ap (λ (ss : List Span). take k ends ++ tos ss) q;
       }
 
-  pub keep-take : b ≡ false → k < length starts → k < length ends → {x y : ℕ} → x ≡ key d f → y ≡ key d l → Keeping reg day n (set starts k x) (set ends k y) (k + 1) (at + 12) (left - 1)
+  pub keep-take : b ≡ false → k < length starts → k < length ends → {x y : ℕ} → x ≡ dayKey d f → y ≡ dayKey d l → Keeping reg day n (set starts k x) (set ends k y) (k + 1) (at + 12) (left - 1)
   keep-take e hs he {x} {y} ex ey =
       let q : keptFrom reg day left at ≡ record { from = x; to = y } ∷ keptFrom reg day (left - 1) (at + 12) =
       next-kept ∙ (rw e (λ i. record { from = sym ex i; to = sym ey i } ∷ keptFrom reg day (left - 1) (at + 12))) in

@@ -8,11 +8,11 @@ use lib.ListN.{length, take}
 use Rattle.headings.specs.declared.Read.{Read}
 use Rattle.headings.specs.declared.Read.the-variants.{Reads, Unreadable}
 use Rattle.register.specs.Entering.{Use}
-use Rattle.register.specs.Spans.{Span, key, keysOf, froms, tos}
+use Rattle.register.specs.Spans.{Span, dayKey, useKeys, froms, tos}
 
 -- the key of a heading, 0 where it uses no number
 abbrev pub keyAt : Read → ℕ
-keyAt (Reads h) = cond (eqb (h .number .0) 0) 0 (key (h .day) (h .number .0))
+keyAt (Reads h) = cond (eqb (h .number .0) 0) 0 (dayKey (h .day) (h .number .0))
 keyAt Unreadable = 0
 
 -- each day is later than 0 and has eight digits, as a day of an accepted file has
@@ -24,7 +24,7 @@ Dated (u ∷ us) = (1 ≤ u .day) × (u .day ≤ 99999999) × Dated us
 pub record Gathered (size : ℕ) (us : List Use) (n : ℕ) (keys : List ℕ) : Type 0 where
   pub few : 54 * n ≤ size
   pub within : n ≤ length keys
-  pub holds : take n keys ≡ keysOf us
+  pub holds : take n keys ≡ useKeys us
 
 -- the first n places of two rows hold the ends of some spans
 pub record Kept (ss : List Span) (n : ℕ) (starts ends : List ℕ) : Type 0 where

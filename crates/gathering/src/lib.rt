@@ -10,12 +10,13 @@ ghost use Rattle.item_reader.specs.Slips.{slipsFrom};
 ghost use Rattle.item_reader.specs.Accepted.{Readable, Each};
 ghost use Rattle.register.specs.Register.{rangesIn};
 ghost use Rattle.register.specs.Entering.{used, kept};
-ghost use Rattle.register.specs.Spans.{key, spansOf};
+ghost use Rattle.register.specs.Spans.{dayKey, spansOf};
 ghost use Rattle.sorting.specs.Sorting.{Rises, Within, Ordered};
 ghost use Rattle.gathering.specs.Keys.{Gathered, Kept};
 
-fn key_of(day: u32, number: u32) -> u64
-    ensures { λ r. ⌜ r ≡ key day number ⌝ }
+// A day and a number in one.
+fn day_key(day: u32, number: u32) -> u64
+    ensures { λ r. ⌜ r ≡ dayKey day number ⌝ }
 {
     (day as u64) * 10000000 + (number as u64)
 }
@@ -32,7 +33,7 @@ pub fn gather(s: &[u8], keys: &mut [u64]) -> usize
         let number = x.number;
         at = x.next;
         if number != 0 {
-            keys[n] = key_of(x.day, number);
+            keys[n] = day_key(x.day, number);
             n += 1;
         }
     }
@@ -81,8 +82,8 @@ pub fn keep(register: &[u8], day: u32, n: usize, starts: &mut [u64], ends: &mut 
         at += 12;
         left -= 1;
         if !register_reader::later(day, then, 10) {
-            starts[k] = key_of(then, from);
-            ends[k] = key_of(then, to);
+            starts[k] = day_key(then, from);
+            ends[k] = day_key(then, to);
             k += 1;
         }
     }

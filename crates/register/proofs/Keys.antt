@@ -4,12 +4,12 @@ use mathlib.Core.List.{List, [], _∷_}
 use Prim.Native.Nat.{ℕ, _+_, _*_, _/_, _%_, _≤_}
 use native.Mathlib.Omega.{arith}
 use Rattle.register.specs.Register.{Range}
-use Rattle.register.specs.Spans.{key, spansOf, froms, tos, rangesOf, Sound}
+use Rattle.register.specs.Spans.{dayKey, spansOf, froms, tos, rangesOf, Sound}
 
-day-back : (d n : ℕ) → n ≤ 9999999 → key d n / 10000000 ≡ d
+day-back : (d n : ℕ) → n ≤ 9999999 → dayKey d n / 10000000 ≡ d
 day-back d n h = omega arith
 
-number-back : (d n : ℕ) → n ≤ 9999999 → key d n % 10000000 ≡ n
+number-back : (d n : ℕ) → n ≤ 9999999 → dayKey d n % 10000000 ≡ n
 number-back d n h = omega arith
 
 -- ranges made of the keys of ranges are these ranges

@@ -11,7 +11,7 @@ use borrow.Author.Tests.{ltb-true, ltb-false, leb-true, leb-false, eqb-true, eqb
 use Rattle.figures.proofs.Tests.{and-parts}
 use Rattle.register.specs.Register.{Range, apart, inOrder}
 use Rattle.register.specs.Entering.{Use, holds, standsIn, join, add, addAll}
-use Rattle.register.specs.Spans.{Span, key, keyOf, spanOf, spansOf, keysOf, Has, Strung, joinSpan, addSpan, addKeys, Fit, Fits, Sound}
+use Rattle.register.specs.Spans.{Span, dayKey, useKey, spanOf, spansOf, useKeys, Has, Strung, joinSpan, addSpan, addKeys, Fit, Fits, Sound}
 use Rattle.register.proofs.Spans as spans
 
 -- ---- tests
@@ -39,84 +39,84 @@ pair true y p q = q
 pair false y p q = p
 
 -- by day and number, and by key
-before-key : (d m e n : ℕ) → m ≤ 9999999 → n ≤ 9999999 → (ltb d e || (eqb d e && ltb m n)) ≡ ltb (key d m) (key e n)
+before-key : (d m e n : ℕ) → m ≤ 9999999 → n ≤ 9999999 → (ltb d e || (eqb d e && ltb m n)) ≡ ltb (dayKey d m) (dayKey e n)
 before-key d m e n hm hn = agree _ _ to from
   where
-    to : (ltb d e || (eqb d e && ltb m n)) ≡ true → ltb (key d m) (key e n) ≡ true
+    to : (ltb d e || (eqb d e && ltb m n)) ≡ true → ltb (dayKey d m) (dayKey e n) ≡ true
     to p = go (either (ltb d e) (eqb d e && ltb m n) p)
       where
-        go : (ltb d e ≡ true) ⊎ ((eqb d e && ltb m n) ≡ true) → ltb (key d m) (key e n) ≡ true
-        go (inl q) = lt-ltb (key d m) (key e n) (let l = ltb-true d e q in omega arith)
-        go (inr q) = let b = and-parts (eqb d e) (ltb m n) q in lt-ltb (key d m) (key e n) (let l = eqb-true d e (b .0) in let k = ltb-true m n (b .1) in omega arith)
+        go : (ltb d e ≡ true) ⊎ ((eqb d e && ltb m n) ≡ true) → ltb (dayKey d m) (dayKey e n) ≡ true
+        go (inl q) = lt-ltb (dayKey d m) (dayKey e n) (let l = ltb-true d e q in omega arith)
+        go (inr q) = let b = and-parts (eqb d e) (ltb m n) q in lt-ltb (dayKey d m) (dayKey e n) (let l = eqb-true d e (b .0) in let k = ltb-true m n (b .1) in omega arith)
 
-    from : ltb (key d m) (key e n) ≡ true → (ltb d e || (eqb d e && ltb m n)) ≡ true
-    from p = let l = ltb-true (key d m) (key e n) p in go (ltb d e) refl l
+    from : ltb (dayKey d m) (dayKey e n) ≡ true → (ltb d e || (eqb d e && ltb m n)) ≡ true
+    from p = let l = ltb-true (dayKey d m) (dayKey e n) p in go (ltb d e) refl l
       where
-        go : (x : Bool) → ltb d e ≡ x → key d m < key e n → (ltb d e || (eqb d e && ltb m n)) ≡ true
+        go : (x : Bool) → ltb d e ≡ x → dayKey d m < dayKey e n → (ltb d e || (eqb d e && ltb m n)) ≡ true
         go true q l = left (ltb d e) (eqb d e && ltb m n) q
         go false q l = let g = ltb-false d e q in right (ltb d e) (eqb d e && ltb m n) (pair _ _ (eq-eqb d e (omega arith)) (lt-ltb m n (omega arith)))
 
-touch-key : (d l e f : ℕ) → l ≤ 9999999 → 1 ≤ f → f ≤ 9999999 → (eqb d e && eqb (l + 1) f) ≡ eqb (key d l + 1) (key e f)
+touch-key : (d l e f : ℕ) → l ≤ 9999999 → 1 ≤ f → f ≤ 9999999 → (eqb d e && eqb (l + 1) f) ≡ eqb (dayKey d l + 1) (dayKey e f)
 touch-key d l e f hl h1 hf = agree _ _ to from
   where
-    to : (eqb d e && eqb (l + 1) f) ≡ true → eqb (key d l + 1) (key e f) ≡ true
-    to p = let b = and-parts (eqb d e) (eqb (l + 1) f) p in let x = eqb-true d e (b .0) in let y = eqb-true (l + 1) f (b .1) in eq-eqb (key d l + 1) (key e f) (omega arith)
+    to : (eqb d e && eqb (l + 1) f) ≡ true → eqb (dayKey d l + 1) (dayKey e f) ≡ true
+    to p = let b = and-parts (eqb d e) (eqb (l + 1) f) p in let x = eqb-true d e (b .0) in let y = eqb-true (l + 1) f (b .1) in eq-eqb (dayKey d l + 1) (dayKey e f) (omega arith)
 
-    from : eqb (key d l + 1) (key e f) ≡ true → (eqb d e && eqb (l + 1) f) ≡ true
-    from p = let x = eqb-true (key d l + 1) (key e f) p in pair _ _ (eq-eqb d e (omega arith)) (eq-eqb (l + 1) f (omega arith))
+    from : eqb (dayKey d l + 1) (dayKey e f) ≡ true → (eqb d e && eqb (l + 1) f) ≡ true
+    from p = let x = eqb-true (dayKey d l + 1) (dayKey e f) p in pair _ _ (eq-eqb d e (omega arith)) (eq-eqb (l + 1) f (omega arith))
 
 turned : (d e : ℕ) → eqb d e ≡ eqb e d
 turned d e = agree _ _ (λ p. eq-eqb e d (sym (eqb-true d e p))) (λ p. eq-eqb d e (sym (eqb-true e d p)))
 
-reach-key : (d m e n : ℕ) → m ≤ 9999999 → n ≤ 9999999 → e ≤ d → (eqb d e && leb m n) ≡ leb (key d m) (key e n)
+reach-key : (d m e n : ℕ) → m ≤ 9999999 → n ≤ 9999999 → e ≤ d → (eqb d e && leb m n) ≡ leb (dayKey d m) (dayKey e n)
 reach-key d m e n hm hn h = agree _ _ to from
   where
-    to : (eqb d e && leb m n) ≡ true → leb (key d m) (key e n) ≡ true
-    to p = let b = and-parts (eqb d e) (leb m n) p in let x = eqb-true d e (b .0) in let y = leb-true m n (b .1) in le-leb (key d m) (key e n) (omega arith)
+    to : (eqb d e && leb m n) ≡ true → leb (dayKey d m) (dayKey e n) ≡ true
+    to p = let b = and-parts (eqb d e) (leb m n) p in let x = eqb-true d e (b .0) in let y = leb-true m n (b .1) in le-leb (dayKey d m) (dayKey e n) (omega arith)
 
-    from : leb (key d m) (key e n) ≡ true → (eqb d e && leb m n) ≡ true
-    from p = let x = leb-true (key d m) (key e n) p in pair _ _ (eq-eqb d e (omega arith)) (le-leb m n (omega arith))
+    from : leb (dayKey d m) (dayKey e n) ≡ true → (eqb d e && leb m n) ≡ true
+    from p = let x = leb-true (dayKey d m) (dayKey e n) p in pair _ _ (eq-eqb d e (omega arith)) (le-leb m n (omega arith))
 
 -- ---- one number more
-join-spans : (r : Range) (qs : List Range) → r .last ≤ 9999999 → Sound qs → spansOf (join r qs) ≡ joinSpan (key (r .day) (r .first)) (key (r .day) (r .last)) (spansOf qs)
+join-spans : (r : Range) (qs : List Range) → r .last ≤ 9999999 → Sound qs → spansOf (join r qs) ≡ joinSpan (dayKey (r .day) (r .first)) (dayKey (r .day) (r .last)) (spansOf qs)
 join-spans r [] h S = refl
 join-spans r (q ∷ qs) h S = go (eqb (r .day) (q .day) && eqb (r .last + 1) (q .first)) refl (touch-key (r .day) (r .last) (q .day) (q .first) h (S .0) (omega (arith, S .1, S .2)))
   where
-    go : (x : Bool) → (eqb (r .day) (q .day) && eqb (r .last + 1) (q .first)) ≡ x → (eqb (r .day) (q .day) && eqb (r .last + 1) (q .first)) ≡ eqb (key (r .day) (r .last) + 1) (key (q .day) (q .first)) → spansOf (join r (q ∷ qs)) ≡ joinSpan (key (r .day) (r .first)) (key (r .day) (r .last)) (spansOf (q ∷ qs))
+    go : (x : Bool) → (eqb (r .day) (q .day) && eqb (r .last + 1) (q .first)) ≡ x → (eqb (r .day) (q .day) && eqb (r .last + 1) (q .first)) ≡ eqb (dayKey (r .day) (r .last) + 1) (dayKey (q .day) (q .first)) → spansOf (join r (q ∷ qs)) ≡ joinSpan (dayKey (r .day) (r .first)) (dayKey (r .day) (r .last)) (spansOf (q ∷ qs))
     go true p e =
         let d : r .day ≡ q .day = eqb-true _ _ (and-parts (eqb (r .day) (q .day)) (eqb (r .last + 1) (q .first)) p .0) in
-        rw (sym e ∙ p, p) (ap (λ (x : ℕ). record { from = key (r .day) (r .first); to = key x (q .last) } ∷ spansOf qs) d)
+        rw (sym e ∙ p, p) (ap (λ (x : ℕ). record { from = dayKey (r .day) (r .first); to = dayKey x (q .last) } ∷ spansOf qs) d)
     go false p e = rw (sym e ∙ p, p) refl
 
-module _ (u : Use) (r : Range) (rs : List Range) (F : Fit u) (S : Sound (r ∷ rs)) (ih : spansOf (add u rs) ≡ addSpan (keyOf u) (spansOf rs)) where
-  third : (z : Bool) → spansOf (cond z (r ∷ rs) (r ∷ add u rs)) ≡ cond z (spanOf r ∷ spansOf rs) (spanOf r ∷ addSpan (keyOf u) (spansOf rs))
+module _ (u : Use) (r : Range) (rs : List Range) (F : Fit u) (S : Sound (r ∷ rs)) (ih : spansOf (add u rs) ≡ addSpan (useKey u) (spansOf rs)) where
+  third : (z : Bool) → spansOf (cond z (r ∷ rs) (r ∷ add u rs)) ≡ cond z (spanOf r ∷ spansOf rs) (spanOf r ∷ addSpan (useKey u) (spansOf rs))
   third true = refl
   third false = ap (λ (l : List Span). spanOf r ∷ l) ih
 
   second : (y z : Bool) → (eqb (u .day) (r .day) && eqb (r .last + 1) (u .number)) ≡ y
       → spansOf (cond y (join (record { day = r .day; first = r .first; last = u .number }) rs) (cond z (r ∷ rs) (r ∷ add u rs)))
-      ≡ cond y (joinSpan (key (r .day) (r .first)) (keyOf u) (spansOf rs)) (cond z (spanOf r ∷ spansOf rs) (spanOf r ∷ addSpan (keyOf u) (spansOf rs)))
+      ≡ cond y (joinSpan (dayKey (r .day) (r .first)) (useKey u) (spansOf rs)) (cond z (spanOf r ∷ spansOf rs) (spanOf r ∷ addSpan (useKey u) (spansOf rs)))
   second true z q =
       let d : u .day ≡ r .day = eqb-true _ _ (and-parts (eqb (u .day) (r .day)) (eqb (r .last + 1) (u .number)) q .0) in
       join-spans (record { day = r .day; first = r .first; last = u .number }) rs (F .1) (S .3)
-      ∙ ap (λ (x : ℕ). joinSpan (key (r .day) (r .first)) (key x (u .number)) (spansOf rs)) (sym d)
+      ∙ ap (λ (x : ℕ). joinSpan (dayKey (r .day) (r .first)) (dayKey x (u .number)) (spansOf rs)) (sym d)
   second false z q = third z
 
   first : (x : Bool) → (ltb (u .day) (r .day) || (eqb (u .day) (r .day) && ltb (u .number) (r .first))) ≡ x
       → spansOf (cond x (join (record { day = u .day; first = u .number; last = u .number }) (r ∷ rs)) (cond (eqb (u .day) (r .day) && eqb (r .last + 1) (u .number)) (join (record { day = r .day; first = r .first; last = u .number }) rs) (cond (eqb (u .day) (r .day) && leb (u .number) (r .last)) (r ∷ rs) (r ∷ add u rs))))
-      ≡ cond x (joinSpan (keyOf u) (keyOf u) (spansOf (r ∷ rs))) (cond (eqb (u .day) (r .day) && eqb (r .last + 1) (u .number)) (joinSpan (key (r .day) (r .first)) (keyOf u) (spansOf rs)) (cond (leb (keyOf u) (key (r .day) (r .last))) (spanOf r ∷ spansOf rs) (spanOf r ∷ addSpan (keyOf u) (spansOf rs))))
+      ≡ cond x (joinSpan (useKey u) (useKey u) (spansOf (r ∷ rs))) (cond (eqb (u .day) (r .day) && eqb (r .last + 1) (u .number)) (joinSpan (dayKey (r .day) (r .first)) (useKey u) (spansOf rs)) (cond (leb (useKey u) (dayKey (r .day) (r .last))) (spanOf r ∷ spansOf rs) (spanOf r ∷ addSpan (useKey u) (spansOf rs))))
   first true p = join-spans (record { day = u .day; first = u .number; last = u .number }) (r ∷ rs) (F .1) S
   first false p =
-      let k : key (r .day) (r .first) ≤ keyOf u = ltb-false (keyOf u) (key (r .day) (r .first)) (sym (before-key (u .day) (u .number) (r .day) (r .first) (F .1) (omega (arith, S .1, S .2))) ∙ p) in
+      let k : dayKey (r .day) (r .first) ≤ useKey u = ltb-false (useKey u) (dayKey (r .day) (r .first)) (sym (before-key (u .day) (u .number) (r .day) (r .first) (F .1) (omega (arith, S .1, S .2))) ∙ p) in
       rw (sym (reach-key (u .day) (u .number) (r .day) (r .last) (F .1) (S .2) (omega (arith, k, F .1, S .0))))
       (second (eqb (u .day) (r .day) && eqb (r .last + 1) (u .number)) (eqb (u .day) (r .day) && leb (u .number) (r .last)) refl)
 
-  more : spansOf (add u (r ∷ rs)) ≡ addSpan (keyOf u) (spansOf (r ∷ rs))
+  more : spansOf (add u (r ∷ rs)) ≡ addSpan (useKey u) (spansOf (r ∷ rs))
   more =
       rw (sym (before-key (u .day) (u .number) (r .day) (r .first) (F .1) (omega (arith, S .1, S .2))), sym (touch-key (r .day) (r .last) (u .day) (u .number) (S .2) (F .0) (F .1)), turned (r .day) (u .day))
       (first (ltb (u .day) (r .day) || (eqb (u .day) (r .day) && ltb (u .number) (r .first))) refl)
 
-pub add-spans : (u : Use) (rs : List Range) → Fit u → Sound rs → spansOf (add u rs) ≡ addSpan (keyOf u) (spansOf rs)
+pub add-spans : (u : Use) (rs : List Range) → Fit u → Sound rs → spansOf (add u rs) ≡ addSpan (useKey u) (spansOf rs)
 add-spans u [] F S = refl
 add-spans u (r ∷ rs) F S = more u r rs F S (add-spans u rs F (S .3))
 
@@ -146,19 +146,19 @@ pub order-strung : (rs : List Range) → Sound rs → inOrder rs ≡ true → St
 order-strung [] S e = tt
 order-strung (r ∷ rs) S e = (omega arith, omega (arith, S .1), go rs (S .3) (and-parts (apart r rs) (inOrder rs) e .0) (order-strung rs (S .3) (and-parts (apart r rs) (inOrder rs) e .1)))
   where
-    go : (qs : List Range) → Sound qs → apart r qs ≡ true → Strung 0 (spansOf qs) → Strung (key (r .day) (r .last) + 2) (spansOf qs)
+    go : (qs : List Range) → Sound qs → apart r qs ≡ true → Strung 0 (spansOf qs) → Strung (dayKey (r .day) (r .last) + 2) (spansOf qs)
     go [] Q p T = tt
     go (q ∷ qs) Q p T = (part (either (ltb (r .day) (q .day)) (eqb (r .day) (q .day) && ltb (r .last + 1) (q .first)) p), T .1, T .2)
       where
-        part : (ltb (r .day) (q .day) ≡ true) ⊎ ((eqb (r .day) (q .day) && ltb (r .last + 1) (q .first)) ≡ true) → key (r .day) (r .last) + 2 ≤ key (q .day) (q .first)
+        part : (ltb (r .day) (q .day) ≡ true) ⊎ ((eqb (r .day) (q .day) && ltb (r .last + 1) (q .first)) ≡ true) → dayKey (r .day) (r .last) + 2 ≤ dayKey (q .day) (q .first)
         part (inl h) = let l = ltb-true (r .day) (q .day) h in omega (arith, S .2, Q .0, l)
         part (inr h) = let b = and-parts (eqb (r .day) (q .day)) (ltb (r .last + 1) (q .first)) h in let d = eqb-true (r .day) (q .day) (b .0) in let l = ltb-true (r .last + 1) (q .first) (b .1) in omega (arith, d, l)
 
 pub strung-order : (n : ℕ) (rs : List Range) → Sound rs → Strung n (spansOf rs) → inOrder rs ≡ true
 strung-order n [] S T = refl
-strung-order n (r ∷ rs) S T = pair (apart r rs) (inOrder rs) (go rs (S .3) (T .2)) (strung-order (key (r .day) (r .last) + 2) rs (S .3) (T .2))
+strung-order n (r ∷ rs) S T = pair (apart r rs) (inOrder rs) (go rs (S .3) (T .2)) (strung-order (dayKey (r .day) (r .last) + 2) rs (S .3) (T .2))
   where
-    go : (qs : List Range) → Sound qs → Strung (key (r .day) (r .last) + 2) (spansOf qs) → apart r qs ≡ true
+    go : (qs : List Range) → Sound qs → Strung (dayKey (r .day) (r .last) + 2) (spansOf qs) → apart r qs ≡ true
     go [] Q T = refl
     go (q ∷ qs) Q T = day (ltb (r .day) (q .day)) refl
       where
@@ -171,17 +171,17 @@ strung-order n (r ∷ rs) S T = pair (apart r rs) (inOrder rs) (go rs (S .3) (T 
 
 -- ranges in order stay in order with one number more
 pub ordered : (u : Use) (rs : List Range) → Fit u → Sound rs → inOrder rs ≡ true → inOrder (add u rs) ≡ true
-ordered u rs F S e = strung-order 0 (add u rs) (add-sound u rs F S) (rw (add-spans u rs F S) (spans.ordered 0 (keyOf u) (spansOf rs) (order-strung rs S e) (omega arith)))
+ordered u rs F S e = strung-order 0 (add u rs) (add-sound u rs F S) (rw (add-spans u rs F S) (spans.ordered 0 (useKey u) (spansOf rs) (order-strung rs S e) (omega arith)))
 
 -- ---- members
 abbrev inRange : Range → Use → Bool
 inRange r u = eqb (r .day) (u .day) && (leb (r .first) (u .number) && leb (u .number) (r .last))
 
-pub holds-has : (rs : List Range) (u : Use) → holds rs u ≡ true → Has (spansOf rs) (keyOf u)
+pub holds-has : (rs : List Range) (u : Use) → holds rs u ≡ true → Has (spansOf rs) (useKey u)
 holds-has [] u e = absurd (false≢true e)
 holds-has (r ∷ rs) u e = go (either (inRange r u) (holds rs u) e) (λ q. holds-has rs u q)
   where
-    go : (inRange r u ≡ true) ⊎ (holds rs u ≡ true) → (holds rs u ≡ true → Has (spansOf rs) (keyOf u)) → Has (spansOf (r ∷ rs)) (keyOf u)
+    go : (inRange r u ≡ true) ⊎ (holds rs u ≡ true) → (holds rs u ≡ true → Has (spansOf rs) (useKey u)) → Has (spansOf (r ∷ rs)) (useKey u)
     go (inl h) ih =
         let a = and-parts (eqb (r .day) (u .day)) (leb (r .first) (u .number) && leb (u .number) (r .last)) h in
         let b = and-parts (leb (r .first) (u .number)) (leb (u .number) (r .last)) (a .1) in
@@ -191,7 +191,7 @@ holds-has (r ∷ rs) u e = go (either (inRange r u) (holds rs u) e) (λ q. holds
         inl (omega arith, omega arith)
     go (inr h) ih = inr (ih h)
 
-pub has-holds : (rs : List Range) (u : Use) → Sound rs → Fit u → Has (spansOf rs) (keyOf u) → holds rs u ≡ true
+pub has-holds : (rs : List Range) (u : Use) → Sound rs → Fit u → Has (spansOf rs) (useKey u) → holds rs u ≡ true
 has-holds [] u S F p = absurd p
 has-holds (r ∷ rs) u S F (inl i) =
     let d : r .day ≡ u .day = omega (arith, i .0, i .1, F .0, F .1, S .0, S .1, S .2) in
@@ -210,30 +210,30 @@ members u v rs F G S e = agree (holds (add u rs) v) (holds rs v || same) to from
     O = order-strung rs S e
 
     to : holds (add u rs) v ≡ true → (holds rs v || (eqb (u .day) (v .day) && eqb (u .number) (v .number))) ≡ true
-    to p = go (spans.members-to 0 (keyOf u) (spansOf rs) O (keyOf v) (subst (λ (l : List Span). Has l (keyOf v)) (add-spans u rs F S) (holds-has (add u rs) v p)))
+    to p = go (spans.members-to 0 (useKey u) (spansOf rs) O (useKey v) (subst (λ (l : List Span). Has l (useKey v)) (add-spans u rs F S) (holds-has (add u rs) v p)))
       where
-        go : (keyOf u ≡ keyOf v) ⊎ Has (spansOf rs) (keyOf v) → (holds rs v || (eqb (u .day) (v .day) && eqb (u .number) (v .number))) ≡ true
+        go : (useKey u ≡ useKey v) ⊎ Has (spansOf rs) (useKey v) → (holds rs v || (eqb (u .day) (v .day) && eqb (u .number) (v .number))) ≡ true
         go (inl q) = right (holds rs v) (eqb (u .day) (v .day) && eqb (u .number) (v .number)) (pair (eqb (u .day) (v .day)) (eqb (u .number) (v .number)) (eq-eqb (u .day) (v .day) (omega (arith, q, F .0, F .1, G .0, G .1))) (eq-eqb (u .number) (v .number) (omega (arith, q, F .0, F .1, G .0, G .1))))
         go (inr q) = left (holds rs v) (eqb (u .day) (v .day) && eqb (u .number) (v .number)) (has-holds rs v S G q)
 
     from : (holds rs v || (eqb (u .day) (v .day) && eqb (u .number) (v .number))) ≡ true → holds (add u rs) v ≡ true
     from p = has-holds (add u rs) v (add-sound u rs F S) G (rw (add-spans u rs F S) (go (either (holds rs v) (eqb (u .day) (v .day) && eqb (u .number) (v .number)) p)))
       where
-        go : (holds rs v ≡ true) ⊎ ((eqb (u .day) (v .day) && eqb (u .number) (v .number)) ≡ true) → Has (addSpan (keyOf u) (spansOf rs)) (keyOf v)
-        go (inl q) = spans.members-from 0 (keyOf u) (spansOf rs) O (keyOf v) (holds-has rs v q)
+        go : (holds rs v ≡ true) ⊎ ((eqb (u .day) (v .day) && eqb (u .number) (v .number)) ≡ true) → Has (addSpan (useKey u) (spansOf rs)) (useKey v)
+        go (inl q) = spans.members-from 0 (useKey u) (spansOf rs) O (useKey v) (holds-has rs v q)
         go (inr q) =
             let b = and-parts (eqb (u .day) (v .day)) (eqb (u .number) (v .number)) q in
             let d = eqb-true (u .day) (v .day) (b .0) in
             let n = eqb-true (u .number) (v .number) (b .1) in
-            let k : keyOf u ≡ keyOf v = omega arith in
-            subst (λ (j : ℕ). Has (addSpan (keyOf u) (spansOf rs)) j) k (spans.member-own 0 (keyOf u) (spansOf rs) O)
+            let k : useKey u ≡ useKey v = omega arith in
+            subst (λ (j : ℕ). Has (addSpan (useKey u) (spansOf rs)) j) k (spans.member-own 0 (useKey u) (spansOf rs) O)
 
 -- ---- determined by their members
 -- a number that spans of ranges hold is the key of a day and a number
 record Keyed (j : ℕ) : Type 0 where
   of : Use
   fit : Fit of
-  is : keyOf of ≡ j
+  is : useKey of ≡ j
 
 keyed : (rs : List Range) → Sound rs → (j : ℕ) → Has (spansOf rs) j → Keyed j
 keyed [] S j p = absurd p
@@ -249,8 +249,8 @@ spans-once [] [] S Q e = refl
 spans-once [] (q ∷ qs) S Q e = let z : _≡_ {A = ℕ} 0 1 = cc in absurd (omega arith)
 spans-once (r ∷ rs) [] S Q e = let z : _≡_ {A = ℕ} 0 1 = cc in absurd (omega arith)
 spans-once (r ∷ rs) (q ∷ qs) S Q e =
-    let a : key (r .day) (r .first) ≡ key (q .day) (q .first) = ap headFrom e in
-    let b : key (r .day) (r .last) ≡ key (q .day) (q .last) = ap headTo e in
+    let a : dayKey (r .day) (r .first) ≡ dayKey (q .day) (q .first) = ap headFrom e in
+    let b : dayKey (r .day) (r .last) ≡ dayKey (q .day) (q .last) = ap headTo e in
     let d : r .day ≡ q .day = omega (arith, a, S .0, S .1, S .2, Q .0, Q .1, Q .2) in
     let f : r .first ≡ q .first = omega (arith, a, d) in
     let l : r .last ≡ q .last = omega (arith, b, d) in
@@ -287,9 +287,9 @@ pub all-ordered : (us : List Use) (rs : List Range) → Fits us → Sound rs →
 all-ordered [] rs F S e = e
 all-ordered (u ∷ us) rs F S e = all-ordered us (add u rs) (F .1) (add-sound u rs (F .0) S) (ordered u rs (F .0) S e)
 
-pub all-spans : (us : List Use) (rs : List Range) → Fits us → Sound rs → spansOf (addAll us rs) ≡ addKeys (keysOf us) (spansOf rs)
+pub all-spans : (us : List Use) (rs : List Range) → Fits us → Sound rs → spansOf (addAll us rs) ≡ addKeys (useKeys us) (spansOf rs)
 all-spans [] rs F S = refl
-all-spans (u ∷ us) rs F S = all-spans us (add u rs) (F .1) (add-sound u rs (F .0) S) ∙ ap (addKeys (keysOf us)) (add-spans u rs (F .0) S)
+all-spans (u ∷ us) rs F S = all-spans us (add u rs) (F .1) (add-sound u rs (F .0) S) ∙ ap (addKeys (useKeys us)) (add-spans u rs (F .0) S)
 
 pub all-members : (us : List Use) (v : Use) (rs : List Range) → Fits us → Fit v → Sound rs → inOrder rs ≡ true → holds (addAll us rs) v ≡ (holds rs v || standsIn v us)
 all-members [] v rs F G S e = sym (or-false (holds rs v))

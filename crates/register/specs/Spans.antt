@@ -11,22 +11,22 @@ pub record Span : Type 0 where
   pub from : ℕ
   pub to : ℕ
 
-abbrev pub key : ℕ → ℕ → ℕ
-key day number = day * 10000000 + number
+abbrev pub dayKey : ℕ → ℕ → ℕ
+dayKey day number = day * 10000000 + number
 
-abbrev pub keyOf : Use → ℕ
-keyOf u = key (u .day) (u .number)
+abbrev pub useKey : Use → ℕ
+useKey u = dayKey (u .day) (u .number)
 
 abbrev pub spanOf : Range → Span
-spanOf r = record { from = key (r .day) (r .first); to = key (r .day) (r .last) }
+spanOf r = record { from = dayKey (r .day) (r .first); to = dayKey (r .day) (r .last) }
 
 abbrev pub spansOf : List Range → List Span
 spansOf [] = []
 spansOf (r ∷ rs) = spanOf r ∷ spansOf rs
 
-abbrev pub keysOf : List Use → List ℕ
-keysOf [] = []
-keysOf (u ∷ us) = keyOf u ∷ keysOf us
+abbrev pub useKeys : List Use → List ℕ
+useKeys [] = []
+useKeys (u ∷ us) = useKey u ∷ useKeys us
 
 -- numbers 1 to 9,999,999, and ranges of them with the first not over the last
 abbrev pub Fit : Use → Type 0

@@ -24,8 +24,8 @@ number-at-requires c κs =
     let g = c .before .loop .inv .0 in
     (c .loop-test .taken, g .headed (c .loop-test .taken), g .reads)
 
-key-of-requires : tie.Need-key-of-requires Inv-loop μ-loop
-key-of-requires c κs = search needs
+day-key-requires : tie.Need-day-key-requires Inv-loop μ-loop
+day-key-requires c κs = search needs
 
 mul-keys : tie.Need-mul-keys Inv-loop μ-loop
 mul-keys c = search needs
@@ -34,7 +34,7 @@ slice-write-keys : tie.Need-slice-write-keys Inv-loop μ-loop
 slice-write-keys c =
     let l = c .before .before .before .before in
     let x = c .before .before .number-at .ensures in
-    let k = key-used x (c .before .if1 .taken) (c .key-of .ensures) in
+    let k = key-used x (c .before .if1 .taken) (c .day-key .ensures) in
     gather-room (l .loop .inv .0) (x .head .item) (k .0) (k .1) (l .before .before .before .before .pre .0) (l .loop .inv .1)
 
 add-n : tie.Need-add-n Inv-loop μ-loop
@@ -49,8 +49,8 @@ loop-again : tie.Need-loop-again Inv-loop μ-loop
 loop-again c =
     let l = c .before .before .before .before in
     let x = c .before .before .number-at .ensures in
-    let k = key-used x (c .before .if1 .taken) (c .key-of .ensures) in
-    (gather-key (l .loop .inv .0) (x .head .item) (k .0) (k .1) (l .before .before .before .before .pre .0) (l .loop .inv .1), length-set (l .loop .keys) (l .loop .n) (c .key-of .result) ∙ l .loop .inv .1)
+    let k = key-used x (c .before .if1 .taken) (c .day-key .ensures) in
+    (gather-key (l .loop .inv .0) (x .head .item) (k .0) (k .1) (l .before .before .before .before .pre .0) (l .loop .inv .1), length-set (l .loop .keys) (l .loop .n) (c .day-key .result) ∙ l .loop .inv .1)
 
 loop-less-2 : tie.Need-loop-less-2 Inv-loop μ-loop
 loop-less-2 c = let x = c .before .number-at .ensures .head .item in omega (arith, x .moves, x .within)
@@ -76,7 +76,7 @@ gather-spec =
     heading-from-requires
     loop-holds
     number-at-requires
-    key-of-requires
+    day-key-requires
     mul-keys
     slice-write-keys
     add-n

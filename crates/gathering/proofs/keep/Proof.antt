@@ -40,8 +40,8 @@ sub-left c = search needs
 later-requires : tie.Need-later-requires Inv-loop μ-loop
 later-requires c κs = search needs
 
-key-of-requires : tie.Need-key-of-requires Inv-loop μ-loop
-key-of-requires c κs = search needs
+day-key-requires : tie.Need-day-key-requires Inv-loop μ-loop
+day-key-requires c κs = search needs
 
 mul-starts : tie.Need-mul-starts Inv-loop μ-loop
 mul-starts c = search needs
@@ -51,8 +51,8 @@ slice-write-starts c =
     let l = c .before .before .before .before .before .before .before in
     omega (arith, l .loop .inv .0 .few, l .loop .inv .1, c .before .before .before .before .before .before .loop-test .taken, l .before .before .before .before .pre .1)
 
-key-of-requires-2 : tie.Need-key-of-requires-2 Inv-loop μ-loop
-key-of-requires-2 c κs = search needs
+day-key-requires-2 : tie.Need-day-key-requires-2 Inv-loop μ-loop
+day-key-requires-2 c κs = search needs
 
 mul-ends : tie.Need-mul-ends Inv-loop μ-loop
 mul-ends c = search needs
@@ -72,9 +72,9 @@ loop-again : tie.Need-loop-again Inv-loop μ-loop
 loop-again c =
     let l = c .before .before .before .before .before .before .before .before in
     let p = l .before .before .before .before .pre in (
-      keep-take (l .loop .inv .0) (c .before .before .before .before .before .before .before .loop-test .taken) (c .before .before .before .before .before .before .read .ensures) (c .before .before .before .before .before .read2 .ensures) (c .before .before .before .before .read3 .ensures) (c .before .before .before .later .ensures) (not-true _ (c .before .before .if1 .taken)) (omega (arith, l .loop .inv .0 .few, l .loop .inv .1, c .before .before .before .before .before .before .before .loop-test .taken, p .1)) (omega (arith, l .loop .inv .0 .few, l .loop .inv .2, c .before .before .before .before .before .before .before .loop-test .taken, p .2)) (c .before .key-of .ensures) (c .key-of2 .ensures),
-      length-set (l .loop .starts) (l .loop .k) (c .before .key-of .result) ∙ l .loop .inv .1,
-      length-set (l .loop .ends) (l .loop .k) (c .key-of2 .result) ∙ l .loop .inv .2,
+      keep-take (l .loop .inv .0) (c .before .before .before .before .before .before .before .loop-test .taken) (c .before .before .before .before .before .before .read .ensures) (c .before .before .before .before .before .read2 .ensures) (c .before .before .before .before .read3 .ensures) (c .before .before .before .later .ensures) (not-true _ (c .before .before .if1 .taken)) (omega (arith, l .loop .inv .0 .few, l .loop .inv .1, c .before .before .before .before .before .before .before .loop-test .taken, p .1)) (omega (arith, l .loop .inv .0 .few, l .loop .inv .2, c .before .before .before .before .before .before .before .loop-test .taken, p .2)) (c .before .day-key .ensures) (c .day-key2 .ensures),
+      length-set (l .loop .starts) (l .loop .k) (c .before .day-key .result) ∙ l .loop .inv .1,
+      length-set (l .loop .ends) (l .loop .k) (c .day-key2 .result) ∙ l .loop .inv .2,
     )
 
 loop-less-2 : tie.Need-loop-less-2 Inv-loop μ-loop
@@ -109,10 +109,10 @@ keep-spec =
     add-at
     sub-left
     later-requires
-    key-of-requires
+    day-key-requires
     mul-starts
     slice-write-starts
-    key-of-requires-2
+    day-key-requires-2
     mul-ends
     slice-write-ends
     add-k
