@@ -8,9 +8,9 @@ use lib.Dec.{eqb, leb}
 use lib.ListN.{length}
 use borrow.Author.Tests.{leb-true, eqb-true}
 use Rattle.laws.specs.Ascii.{ascii}
+use Rattle.laws.proofs.Truth.{and-parts}
 use Rattle.text.specs.Strings.{begins}
 use Rattle.register.specs.Register.{isVersion, version, mostOf, versionIn, countIn, sizeOf, registerOf, hasLayout, wellFormed, isRegister}
-use Rattle.figures.proofs.Tests.{and-parts}
 
 module _ (s : List ℕ) (e : isRegister s ≡ true) where
   laid : hasLayout s ≡ true

@@ -9,6 +9,7 @@ use lib.ListN.{length, take, drop}
 use lib.Seq.{take-at, length-take-le}
 use borrow.Author.Tests.{ltb-true, ltb-false, eqb-false, lt-ltb, le-ltb}
 use Rattle.laws.specs.Refusals.{first}
+use Rattle.laws.proofs.Truth.{and-parts}
 use Rattle.days.specs.Days.{later}
 use Rattle.days.proofs.Order.{real-parts}
 use Rattle.text.specs.Forms.{numbersFit}
@@ -18,7 +19,6 @@ use Rattle.headings.specs.declared.Read.the-variants.{Reads, Unreadable}
 use Rattle.headings.specs.Reading.{headingOf}
 use Rattle.headings.specs.Writing.{fitsHeading}
 use Rattle.headings.proofs.RoundTrips.{fits-read}
-use Rattle.figures.proofs.Tests.{and-parts}
 use Rattle.rules.specs.Rows.{Row}
 use Rattle.rules.specs.Tree.{Owned, Item}
 use Rattle.rules.specs.Said.{continued, headOf}

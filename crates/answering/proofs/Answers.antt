@@ -6,9 +6,8 @@ use mathlib.Core.Bool.{true, false, not, true≢false}
 use mathlib.Core.List.{List, _++_}
 use lib.Dec.{ltb}
 use lib.ListN.{length, take, drop}
-use borrow.Author.Tests.{ltb-true, lt-ltb, le-ltb, eq-eqb, ne-eqb}
+use borrow.Author.Tests.{ltb-true, lt-ltb, le-ltb, eq-eqb, ne-eqb, not-true, not-false}
 use Rattle.laws.specs.Refusals.{first}
-use Rattle.laws.proofs.Truth.{not-true, not-false}
 use Rattle.lines.specs.Lines.{hasMark, body, offsetOf}
 use Rattle.lines.proofs.Body.{body-take, body-whole, body-shorter}
 use Rattle.rules.specs.Terms.{input}

@@ -8,9 +8,9 @@ use lib.Dec.{leb, ltb}
 use lib.ListN.{length, getD, drop, drop-of-length-le}
 use lib.Seq.{getD-set-other}
 use lib.IntN.{ℤ, pos, _+ℤ_}
-use borrow.Author.Tests.{ltb-true, ltb-false, lt-leb, le-leb}
+use borrow.Author.Tests.{ltb-true, ltb-false, lt-leb, le-leb, not-true, not-false}
 use Rattle.laws.specs.Tests.{among}
-use Rattle.laws.proofs.Truth.{not-true, not-false, both-left, both-right}
+use Rattle.laws.proofs.Truth.{both-left, both-right}
 use Rattle.fields.specs.Kinds.{place}
 use Rattle.fields.proofs.Places.{place-in}
 use Rattle.lines.specs.Lines.{lines}

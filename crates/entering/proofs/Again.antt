@@ -10,12 +10,12 @@ use lib.ListN.{length, take, drop}
 use lib.Seq.{take-at}
 use borrow.Author.Tests.{eqb-true, eq-eqb, ltb-true, ltb-false, le-leb, le-ltb, not-true, not-false}
 use Rattle.laws.specs.Refusals.{first}
+use Rattle.laws.proofs.Truth.{and-parts, one-holds, first-holds, second-holds, both-hold}
 use Rattle.days.specs.Days.{isReal, later, dayNumber}
 use Rattle.days.proofs.Order.{real-parts, later-number}
 use Rattle.headings.specs.declared.Heading.{Heading}
 use Rattle.headings.specs.declared.Read.{Read}
 use Rattle.headings.specs.declared.Read.the-variants.{Reads}
-use Rattle.figures.proofs.Tests.{and-parts}
 use Rattle.rules.specs.Terms.{Terms, input}
 use Rattle.rules.specs.HeadingRules.{rule11}
 use Rattle.rules.specs.Faults.{faults}
@@ -29,7 +29,7 @@ use Rattle.listing.specs.Checking.{isCode, isAccountingDay}
 use Rattle.register.specs.Register.{Range, Register, version, mostOf, sizeOf, registerBytes, registerOf, rangeStands, allStand, inOrder, latestStands, wellFormed, isRegister}
 use Rattle.register.specs.Entering.{Use, usedAt, used, kept, join, add, addAll, entered}
 use Rattle.register.specs.Spans.{Fits, Sound}
-use Rattle.register.proofs.Sets.{either, left, right, pair, order-strung, strung-order, all-sound, all-ordered}
+use Rattle.register.proofs.Sets.{order-strung, strung-order, all-sound, all-ordered}
 use Rattle.register.proofs.RoundTrip.{length-register}
 use Rattle.register.proofs.Formed.{Formed, formed, stand-sound, stands-again}
 use Rattle.adding.specs.declared.Entered.the-variants.{Written}
@@ -148,9 +148,9 @@ all-stand : (latest : ℕ) (rs : List Range) → Sound rs → AllDays latest rs 
 all-stand latest [] S D = refl
 all-stand latest (r ∷ rs) S D =
     let d = D .0 in
-    pair (rangeStands latest r) (allStand latest rs)
-    (pair (isReal (r .day)) _ (d .0) (pair (not (later (r .day) latest 0)) _ (ap not (d .1)) (pair (not (later latest (r .day) 10)) _ (ap not (d .2))
-    (pair (leb 1 (r .first)) _ (le-leb 1 (r .first) (S .0)) (pair (leb (r .first) (r .last)) (leb (r .last) 9999999) (le-leb (r .first) (r .last) (S .1)) (le-leb (r .last) 9999999 (S .2)))))))
+    both-hold (rangeStands latest r) (allStand latest rs)
+    (both-hold (isReal (r .day)) _ (d .0) (both-hold (not (later (r .day) latest 0)) _ (ap not (d .1)) (both-hold (not (later latest (r .day) 10)) _ (ap not (d .2))
+    (both-hold (leb 1 (r .first)) _ (le-leb 1 (r .first) (S .0)) (both-hold (leb (r .first) (r .last)) (leb (r .last) 9999999) (le-leb (r .first) (r .last) (S .1)) (le-leb (r .last) 9999999 (S .2)))))))
     (all-stand latest rs (S .3) (D .1))
 
 -- ---- the register with a file entered is well formed
@@ -168,7 +168,7 @@ module _ (g : Register) (w : wellFormed g ≡ true) (us : List Use) (F : Fits us
   O = strung-order 0 (kept today (g .ranges)) S (kept-strung 0 today (g .ranges) (order-strung (g .ranges) S₀ (f .order)))
 
   D : AllDays today (kept today (g .ranges))
-  D = go (either (isReal (g .latest)) (eqb (g .latest) 0 && eqb (length (g .ranges)) 0) (f .latest))
+  D = go (one-holds (isReal (g .latest)) (eqb (g .latest) 0 && eqb (length (g .ranges)) 0) (f .latest))
     where
       none : (rs : List Range) → length rs ≡ 0 → AllDays today (kept today rs)
       none [] e = tt
@@ -180,9 +180,9 @@ module _ (g : Register) (w : wellFormed g ≡ true) (us : List Use) (F : Fits us
 
   entered-formed : wellFormed (entered g today us) ≡ true
   entered-formed =
-      pair (leb 1 (g .code) && leb (g .code) 9999) _ (pair (leb 1 (g .code)) (leb (g .code) 9999) (le-leb 1 (g .code) (f .code-from)) (le-leb (g .code) 9999 (f .code-to)))
-      (pair (latestStands today (addAll us (kept today (g .ranges)))) _ (left (isReal today) _ rt)
-      (pair (allStand today (addAll us (kept today (g .ranges)))) (inOrder (addAll us (kept today (g .ranges))))
+      both-hold (leb 1 (g .code) && leb (g .code) 9999) _ (both-hold (leb 1 (g .code)) (leb (g .code) 9999) (le-leb 1 (g .code) (f .code-from)) (le-leb (g .code) 9999 (f .code-to)))
+      (both-hold (latestStands today (addAll us (kept today (g .ranges)))) _ (first-holds (isReal today) _ rt)
+      (both-hold (allStand today (addAll us (kept today (g .ranges)))) (inOrder (addAll us (kept today (g .ranges))))
       (all-stand today (addAll us (kept today (g .ranges))) (all-sound us (kept today (g .ranges)) F S) (all-days today us (kept today (g .ranges)) U D))
       (all-ordered us (kept today (g .ranges)) F S O)))
 
@@ -214,4 +214,4 @@ enter-again register file code day before n after E =
 
 -- and so can a new one
 pub blank-stands : (code : ℕ) → isCode code ≡ true → isRegister (registerBytes (newRegister code)) ≡ true
-blank-stands code e = stands-again (newRegister code) (omega arith) (pair (leb 1 code && leb code 9999) ((isReal 0 || true) && true) e (pair (isReal 0 || true) true (right (isReal 0) true refl) refl))
+blank-stands code e = stands-again (newRegister code) (omega arith) (both-hold (leb 1 code && leb code 9999) ((isReal 0 || true) && true) e (both-hold (isReal 0 || true) true (second-holds (isReal 0) true refl) refl))

@@ -1,16 +1,15 @@
 -- Entering and a new register, by their tests in order.
-use Prim.Native.Nat.{ℕ, zero, suc, _+_, _-_, _*_, _≤_, _<_}
+use Prim.Native.Nat.{ℕ, zero, suc, _+_, _-_, _≤_, _<_}
 use native.Mathlib.Omega.{arith}
 use mathlib.Core.Path.{_≡_, refl, sym, ap, _∙_, subst}
 use mathlib.Core.Bool.{Bool, true, false, cond, not, _&&_, _||_}
 use mathlib.Core.List.{List, [], _∷_, _++_, append-nil}
 use lib.Dec.{eqb, leb, ltb}
 use lib.ListN.{length, take, drop}
-use borrow.Author.Tests.{eq-eqb, ne-eqb, lt-ltb, le-ltb, ltb-true, ltb-false, leb-true, le-leb, lt-leb, eqb-true}
+use borrow.Author.Tests.{eq-eqb, ne-eqb, lt-ltb, le-ltb, ltb-true, ltb-false, le-leb, lt-leb}
 use Rattle.laws.specs.Refusals.{Refusal, _if_, first}
 use Rattle.laws.proofs.Put.{put-is}
-use Rattle.text.specs.Strings.{Wrote, begins}
-use Rattle.figures.proofs.Tests.{and-parts}
+use Rattle.text.specs.Strings.{Wrote}
 use Rattle.lines.specs.Lines.{body}
 use Rattle.lines.proofs.Body.{body-take}
 use Rattle.rules.specs.Terms.{input}
@@ -22,10 +21,9 @@ use Rattle.listing.specs.declared.checking.Unchecked.{Unchecked}
 use Rattle.listing.proofs.Answers.{body-and-mark}
 use Rattle.listing.proofs.Unique.{some-number}
 use Rattle.listing.specs.Checking.{checkRefusals, uncheckedNumber, checkedNumber, checkedOr, Totals}
-use Rattle.register.specs.Register.{isVersion, version, mostOf, versionIn, countIn, sizeOf, headBytes, registerBytes, registerOf, hasLayout, wellFormed, isRegister}
+use Rattle.register.specs.Register.{headBytes, registerBytes, registerOf, isRegister}
 use Rattle.register.specs.Entering.{used, entered}
 use Rattle.register.proofs.RoundTrip.{length-register}
-use Rattle.laws.specs.Ascii.{ascii}
 use Rattle.entering.specs.declared.blanking.Blanked.the-variants.{Done, BadCode as BadBlank, TooShort as TooShortBlank}
 use Rattle.adding.specs.declared.Entered.{Entered}
 use Rattle.adding.specs.declared.Entered.the-variants.{Refused as RefusedBy, NotRegister, OtherCode, DayBefore, HasFaults}

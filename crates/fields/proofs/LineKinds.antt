@@ -11,11 +11,11 @@ use lib.Dec.{ltb, leb, eqb}
 use borrow.Author.Tests.{ltb-true, leb-true, leb-false, eqb-true}
 use Rattle.laws.specs.Ascii.{ascii}
 use Rattle.laws.specs.Tests.{among}
+use Rattle.laws.proofs.Truth.{and-parts}
 use Rattle.text.specs.Strings.{begins}
 use Rattle.fields.specs.declared.kinds.Kind.{Kind}
 use Rattle.fields.specs.declared.kinds.Kind.the-variants.{Heading, Continuation, Field, Other}
 use Rattle.fields.specs.Kinds.{symbols, place, identOf, isField, kindBy, kindOf}
-use Rattle.figures.proofs.Tests.{and-parts}
 use Rattle.fields.proofs.Places.{place-in}
 
 begins-length : (s x : List ℕ) → begins s x ≡ true → length x ≤ length s

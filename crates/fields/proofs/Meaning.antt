@@ -9,13 +9,13 @@ use lib.ListN.{length, take, drop, getD, take-append-drop}
 use lib.Seq.{length-take-le, take-append-seam, drop-append-seam, take-nil, drop-nil}
 use lib.Dec.{leb, eqb}
 use borrow.Author.Tests.{leb-true, le-leb, eqb-true, eq-eqb, not-true}
+use Rattle.laws.proofs.Truth.{and-parts}
 use Rattle.fields.specs.declared.classes.Class.{Class}
 use Rattle.fields.specs.declared.classes.Class.the-variants.{Money, Number, Range, Group, Account, Text, Free}
 use Rattle.figures.specs.Layouts.{Part, several, lit, mayEnd, rest, run, isEmpty, headIs, fits, part}
 use Rattle.figures.specs.Described.{allOf, Described, whole, stretch, stands, stops, goes-on, left}
 use Rattle.fields.specs.Readings.{textOf, layoutOf, saidBy, readingOf}
 use Rattle.fields.specs.Tails.{takes, reads, saysOf}
-use Rattle.figures.proofs.Tests.{and-parts}
 use Rattle.figures.proofs.Runs.{run-le, run-length, run-all}
 
 -- the stretches that reading finds

@@ -11,7 +11,7 @@ use lib.Dec.{leb, ltb, eqb, eqb→eq, leb·suc-suc}
 use borrow.Author.Tests.{ne-eqb, le-leb, lt-ltb, leb-true, ltb-true, eqb-true, eqb-false}
 use Rattle.laws.specs.Tests.{among}
 use Rattle.laws.proofs.Finite.{at}
-use Rattle.figures.proofs.Tests.{and-parts}
+use Rattle.laws.proofs.Truth.{and-parts}
 use Rattle.fields.specs.declared.classes.Class.{Class}
 use Rattle.fields.specs.declared.classes.Class.the-variants.{Money, Number, Range, Group, Account, Text, Free}
 use Rattle.fields.specs.Kinds.{symbols, place, identOf, isField}

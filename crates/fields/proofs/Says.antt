@@ -9,6 +9,7 @@ use lib.ListN.{length, take, drop, length-drop, drop-of-length-le}
 use lib.Seq.{drop-drop, length-take-le, take-all}
 use lib.Dec.{leb}
 use Rattle.laws.specs.Refusals.{first}
+use Rattle.laws.proofs.Truth.{and-parts}
 use Rattle.text.specs.Digits.{isDigit, value}
 use Rattle.figures.specs.declared.numbers.Run.{Run}
 use Rattle.figures.specs.declared.numbers.Two.the-variants.{Found, NotTwo}
@@ -22,7 +23,6 @@ use Rattle.figures.specs.declared.parts.Halves.{Halves}
 use Rattle.figures.specs.declared.accounts.Account.the-variants.{Judged}
 use Rattle.figures.specs.Accounts.{halvesOf, areDigits, accountOf, accountRefusals}
 use Rattle.fields.specs.Readings.{textOf, layoutOf, saidBy, ifFits, readingOf}
-use Rattle.figures.proofs.Tests.{and-parts}
 use Rattle.figures.proofs.Runs.{run-length, run-again}
 use Rattle.figures.proofs.Told.{tests, not-found, known, size, first-is, second-is}
 use Rattle.figures.proofs.Endings.{bytes-are, empty-past}

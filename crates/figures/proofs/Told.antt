@@ -11,7 +11,7 @@ use Rattle.text.specs.Digits.{isDigit, allDigits, value}
 use Rattle.figures.specs.declared.numbers.Two.the-variants.{Found, NotTwo}
 use Rattle.figures.specs.Layouts.{run, headIs}
 use Rattle.figures.specs.Numbers.{twoOf}
-use Rattle.figures.proofs.Tests.{and-parts}
+use Rattle.laws.proofs.Truth.{and-parts}
 use Rattle.figures.proofs.Runs.{run-le, run-length, run-digits, run-value}
 use Rattle.figures.proofs.Pairs.{head-past}
 

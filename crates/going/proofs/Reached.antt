@@ -8,7 +8,7 @@ use borrow.Author.Tests.{eqb-true}
 use lib.Dec.{eqb}
 use lib.ListN.{length, take, drop, replicate, length-append, length-take, length-drop}
 use lib.Seq.{take-all}
-use Rattle.figures.proofs.Tests.{and-parts}
+use Rattle.laws.proofs.Truth.{and-parts}
 use Rattle.lines.specs.Lines.{Line, lines, takenBy, taken, offsetOf}
 use Rattle.rules.specs.Terms.{Terms}
 use Rattle.rules.specs.Faults.{faultsIn}

@@ -8,8 +8,8 @@ use mathlib.Core.List.{List, [], _∷_, map, List·Memᴰ, List·Memᴰ·head, L
 use mathlib.Core.Logic.{_↔_, inl}
 use lib.Dec.{eqb}
 use lib.ListN.{length}
-use borrow.Author.Tests.{eqb-true}
-use Rattle.laws.proofs.Truth.{not-false, never-true, both-left}
+use borrow.Author.Tests.{eqb-true, not-false}
+use Rattle.laws.proofs.Truth.{never-true, both-left}
 use Rattle.lines.specs.Lines.{body, lines}
 use Rattle.headings.specs.declared.Heading.{Heading}
 use Rattle.headings.specs.declared.Amount.{Amount}

@@ -7,8 +7,8 @@ use mathlib.Core.List.{List, [], _∷_}
 use lib.Dec.{eqb, ltb}
 use lib.ListN.{length, take, drop, getD, length-take, length-drop}
 use lib.Seq.{getD-drop, getD-take, take-all}
-use borrow.Author.Tests.{eqb-true, eq-eqb, ltb-true, ltb-false}
-use Rattle.laws.proofs.Truth.{never-true, not-true, both-left, both-right}
+use borrow.Author.Tests.{eqb-true, eq-eqb, ltb-true, ltb-false, not-true}
+use Rattle.laws.proofs.Truth.{never-true, both-left, both-right}
 use Rattle.text.specs.Strings.{begins}
 use Rattle.item_reader.specs.Search.{sign, standsAt, Quiet, Apart, IsSign}
 

@@ -225,15 +225,15 @@ form-plain (t ∷ ts) [] e f = refl
 form-plain (t ∷ ts) (b ∷ x) e f =
     rw (never-true (isByte 0x0d b) (λ q. no-cr (eqb-true b 0x0d q))) (form-plain ts x (or-right (isByte 0x0d t) (anyOf (isByte 0x0d) ts) e) (both-right (fitsByte t b) (hasForm ts x) f))
   where
-    either : (u v : Bool) → (u || (v && false)) ≡ true → u ≡ true
-    either true v w = refl
-    either false true w = w
-    either false false w = w
+    or-none : (u v : Bool) → (u || (v && false)) ≡ true → u ≡ true
+    or-none true v w = refl
+    or-none false true w = w
+    or-none false false w = w
 
     no-cr : b ≡ 0x0d → ⊥
     no-cr q =
         let w : fitsByte t 0x0d ≡ true = ap (fitsByte t) (sym q) ∙ both-left (fitsByte t b) (hasForm ts x) f in
-        let z : 0x0d ≡ t = eqb-true 0x0d t (either (eqb 0x0d t) (eqb t 48) w) in
+        let z : 0x0d ≡ t = eqb-true 0x0d t (or-none (eqb 0x0d t) (eqb t 48) w) in
         true≢false (ap (isByte 0x0d) z ∙ or-left (isByte 0x0d t) (anyOf (isByte 0x0d) ts) e)
 
 pub read-plain : (x : List ℕ) → readsTo (headingOf x) ≡ true → anyOf (isByte 0x0d) x ≡ false

@@ -1,6 +1,6 @@
 -- What the pass puts out is what is declared, for any list in which the order of two entries does not matter.
 use mathlib.Core.Path.{_≡_, refl, sym, ap, _∙_}
-use mathlib.Core.Bool.{Bool, true, false, not, _&&_, cond}
+use mathlib.Core.Bool.{Bool, true, false, not, _&&_, cond, and-false}
 use mathlib.Core.Option.{none, some}
 use mathlib.Core.List.{List, [], _∷_, _++_, map, append-nil, append-assoc}
 use Rattle.rules.specs.Terms.{Terms}
@@ -13,10 +13,6 @@ use Rattle.rules.specs.Said.{digest}
 use Rattle.rules.specs.Spots.{lowSpot, lows, fieldSpot, fields, inner, items, spots}
 use Rattle.ledger.proofs.Entries.{putAll, putAll-append, past, swap, one}
 use Rattle.items.proofs.Ideal.{headAs, head-as, ends, fresh, noneEnds, start, early, atHead, atField, closed, item, push, waitsAt, outAt, under, waits, headsOut, out, final, pending, heads, left, Pieces}
-
-and-false : (b : Bool) → (b && false) ≡ false
-and-false true = refl
-and-false false = refl
 
 module _ (terms : Terms) where
   -- where the block has no item yet, nobody waits

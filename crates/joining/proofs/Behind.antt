@@ -7,10 +7,10 @@ use native.Mathlib.Omega.{arith}
 use lib.ListN.{length, take, drop, getD, length-drop, take-append-drop}
 use lib.Seq.{drop-cons, take-suc}
 use borrow.Author.Tests.{eqb-true}
+use Rattle.laws.proofs.Truth.{and-parts}
 use Rattle.lines.specs.Lines.{Line, isByte, crlf, onto, lines, takenBy}
 use Rattle.lines.proofs.Lines.{lines-none, crlf-short}
 use Rattle.lines.proofs.Reading.{crlf-in}
-use Rattle.figures.proofs.Tests.{and-parts}
 use Rattle.joining.specs.Whole.{endedOnes, openOne, whole, rest}
 use Rattle.joining.specs.Short.{endsCr, crIf, withoutCr}
 use Rattle.joining.proofs.Cutting.{Clear, alone, ahead, clear-lines, lines-append, rest-clear, sizes, whole-append, rest-append}

@@ -7,7 +7,7 @@ use native.Mathlib.Omega.{arith}
 use borrow.Author.Tests.{eqb-true}
 use lib.Seq.{take-all}
 use lib.ListN.{length, take, drop, length-append, length-take}
-use Rattle.figures.proofs.Tests.{and-parts}
+use Rattle.laws.proofs.Truth.{and-parts}
 use Rattle.text.specs.Strings.{begins}
 use Rattle.lines.specs.declared.Found.{Found}
 use Rattle.lines.specs.Lines.{Line, isByte, crlf, lines, takenBy}

@@ -13,7 +13,7 @@ use Rattle.laws.specs.Lists.{put, anyOf}
 use Rattle.laws.proofs.Any.{any-append}
 use Rattle.laws.proofs.Put.{put-is, length-put, take-put, put-both, put-none}
 use Rattle.laws.proofs.Parts.{drop-min}
-use Rattle.figures.proofs.Tests.{and-parts}
+use Rattle.laws.proofs.Truth.{and-parts}
 use Rattle.text.specs.Characters.{isInadmissible}
 use Rattle.text.specs.Strings.{Wrote}
 use Rattle.text.proofs.Wrote.{then}

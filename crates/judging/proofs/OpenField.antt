@@ -1,6 +1,6 @@
 -- The open field's four numbers against the tree: what a field opens, what a line below it changes, what is entered when it closes.
 use mathlib.Core.Path.{_≡_, refl, sym, ap, _∙_}
-use mathlib.Core.Bool.{Bool, true, false, cond, not, _&&_, _||_}
+use mathlib.Core.Bool.{Bool, true, false, cond, not, _&&_, _||_, and-false}
 use mathlib.Core.List.{List, [], _∷_}
 use Prim.Native.Nat.{ℕ, suc, _+_, _*_, _%_, _^_, _<_, min}
 use native.Mathlib.Numerals.{add-one}
@@ -80,10 +80,6 @@ text-more count n short r = go (ltb 3 (suc count)) (ltb 38 n) refl refl
     go false true p q =
         let e : leb n (3 + 35) ≡ false = lt-leb n 38 (omega (arith, ltb-true 38 n q)) in
         rw (e, and-false (leb (min 4 (suc (min 4 count))) 3))
-      where
-        and-false : (t : Bool) → (t && false) ≡ false
-        and-false true = refl
-        and-false false = refl
     go false false p q =
         let e : leb n (3 + 35) ≡ true = le-leb n 38 (omega (arith, ltb-false 38 n q)) in
         let f : leb (min 4 (suc (min 4 count))) 3 ≡ true = le-leb (min 4 (suc (min 4 count))) 3 (omega (arith, ltb-false 3 (suc count) p)) in

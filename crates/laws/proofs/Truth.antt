@@ -1,19 +1,12 @@
 -- Tests that hold and tests that do not, as equations.
 use mathlib.Core.Path.{_≡_, refl, sym, ap, _∙_}
-use mathlib.Core.Bool.{Bool, true, false, not, _&&_, _||_, true≢false, false≢true}
+use mathlib.Core.Bool.{Bool, true, false, not, _&&_, _||_, false≢true}
 use mathlib.Core.List.{List, [], _∷_, map}
+use mathlib.Core.Logic.{_⊎_, inl, inr}
 use Prim.Native.Nat.{ℕ}
 use lib.Dec.{eqb}
-use borrow.Author.Tests.{eqb-true}
+use borrow.Author.Tests.{eqb-true, not-true}
 use Rattle.laws.specs.Tests.{every, among}
-
-pub not-true : (b : Bool) → not b ≡ true → b ≡ false
-not-true false e = refl
-not-true true e = sym e
-
-pub not-false : (b : Bool) → not b ≡ false → b ≡ true
-not-false true e = refl
-not-false false e = sym e
 
 pub never-true : (b : Bool) → (b ≡ true → ⊥) → b ≡ false
 never-true false h = refl
@@ -26,6 +19,32 @@ both-left false b e = e
 pub both-right : (a b : Bool) → (a && b) ≡ true → b ≡ true
 both-right true b e = e
 both-right false b e = absurd (false≢true e)
+
+pub and-parts : (a b : Bool) → (a && b) ≡ true → (a ≡ true) × (b ≡ true)
+and-parts a b e = (both-left a b e, both-right a b e)
+
+pub both-hold : (a b : Bool) → a ≡ true → b ≡ true → (a && b) ≡ true
+both-hold true b p q = q
+both-hold false b p q = p
+
+pub one-holds : (a b : Bool) → (a || b) ≡ true → (a ≡ true) ⊎ (b ≡ true)
+one-holds true b e = inl refl
+one-holds false b e = inr e
+
+pub first-holds : (a b : Bool) → a ≡ true → (a || b) ≡ true
+first-holds true b e = refl
+first-holds false b e = absurd (false≢true e)
+
+pub second-holds : (a b : Bool) → b ≡ true → (a || b) ≡ true
+second-holds true b e = refl
+second-holds false b e = e
+
+-- two tests that follow from each other are one
+pub both-ways : (a b : Bool) → (a ≡ true → b ≡ true) → (b ≡ true → a ≡ true) → a ≡ b
+both-ways true true f g = refl
+both-ways true false f g = sym (f refl)
+both-ways false true f g = g refl
+both-ways false false f g = refl
 
 -- a test that holds of each number of a list holds of one that stands in it
 pub each-of : (f : ℕ → Bool) (x : ℕ) (ys : List ℕ) → every (map f ys) ≡ true → among x ys ≡ true → f x ≡ true

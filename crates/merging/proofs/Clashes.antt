@@ -7,12 +7,12 @@ use mathlib.Core.List.{List, [], _∷_}
 use mathlib.Core.Logic.{_⊎_, inl, inr}
 use lib.Dec.{eqb, leb}
 use borrow.Author.Tests.{leb-true, leb-false, eqb-true, eq-eqb}
-use Rattle.figures.proofs.Tests.{and-parts}
+use Rattle.laws.proofs.Truth.{and-parts, one-holds, both-ways, first-holds, second-holds, both-hold}
 use Rattle.sorting.specs.Sorting.{count, Same, Rises}
 use Rattle.register.specs.Register.{Range}
 use Rattle.register.specs.Entering.{Use, holds, standsIn, clash}
 use Rattle.register.specs.Spans.{Strung, useKey, useKeys, spansOf, Fit, Fits, Sound}
-use Rattle.register.proofs.Sets.{either, agree, left, right, pair, holds-has, has-holds}
+use Rattle.register.proofs.Sets.{holds-has, has-holds}
 use Rattle.register.proofs.Spans.{weaken}
 use Rattle.merging.specs.Merging.{one, weave, hits}
 use Rattle.merging.proofs.Covers.{within, cover, Held, inside, below, above, heldIs, cover-more, has-cover, cover-has, cover-weave, climbs-weave, low, strung-once, hit-found, spread}
@@ -21,7 +21,7 @@ use Rattle.merging.proofs.Members.{count-same, count-least, count-no, A
 -- ---- a number that stands in a file
 stands-count : (u : Use) (us : List Use) → standsIn u us ≡ true → 1 ≤ count (useKey u) (useKeys us)
 stands-count u [] e = absurd (false≢true e)
-stands-count u (v ∷ us) e = go (either (eqb (u .day) (v .day) && eqb (u .number) (v .number)) (standsIn u us) e) (λ q. stands-count u us q)
+stands-count u (v ∷ us) e = go (one-holds (eqb (u .day) (v .day) && eqb (u .number) (v .number)) (standsIn u us) e) (λ q. stands-count u us q)
   where
     go : ((eqb (u .day) (v .day) && eqb (u .number) (v .number)) ≡ true) ⊎ (standsIn u us ≡ true) → (standsIn u us ≡ true → 1 ≤ count (useKey u) (useKeys us)) → 1 ≤ count (useKey u) (useKeys (v ∷ us))
     go (inl p) ih =
@@ -37,9 +37,9 @@ count-stands u (v ∷ us) F G h = go (amongIs (useKey u) (useKey v) (useKeys us)
   where
     go : Among (useKey u) (useKey v) (useKeys us) → (1 ≤ count (useKey u) (useKeys us) → standsIn u us ≡ true) → standsIn u (v ∷ us) ≡ true
     go (first e c) ih =
-        left (eqb (u .day) (v .day) && eqb (u .number) (v .number)) (standsIn u us)
-        (pair (eqb (u .day) (v .day)) (eqb (u .number) (v .number)) (eq-eqb (u .day) (v .day) (omega (arith, e, F .0, F .1, G .0 .0, G .0 .1))) (eq-eqb (u .number) (v .number) (omega (arith, e, F .0, F .1, G .0 .0, G .0 .1))))
-    go (later e c) ih = right (eqb (u .day) (v .day) && eqb (u .number) (v .number)) (standsIn u us) (ih (omega arith))
+        first-holds (eqb (u .day) (v .day) && eqb (u .number) (v .number)) (standsIn u us)
+        (both-hold (eqb (u .day) (v .day)) (eqb (u .number) (v .number)) (eq-eqb (u .day) (v .day) (omega (arith, e, F .0, F .1, G .0 .0, G .0 .1))) (eq-eqb (u .number) (v .number) (omega (arith, e, F .0, F .1, G .0 .0, G .0 .1))))
+    go (later e c) ih = second-holds (eqb (u .day) (v .day) && eqb (u .number) (v .number)) (standsIn u us) (ih (omega arith))
 
 -- ---- a number covered twice
 module _ (rs : List Range) (S : Sound rs) (O : Strung 2 (spansOf rs)) where
@@ -48,20 +48,20 @@ module _ (rs : List Range) (S : Sound rs) (O : Strung 2 (spansOf rs)) where
   crowd-clash (u ∷ us) F j h = go (amongIs j (useKey u) (useKeys us)) (leb 1 (cover (spansOf rs) j)) refl (λ q. crowd-clash us (F .1) j q)
     where
       twice : (standsIn u us || clash rs us) ≡ true → clash rs (u ∷ us) ≡ true
-      twice e = right (holds rs u) (standsIn u us || clash rs us) e
+      twice e = second-holds (holds rs u) (standsIn u us || clash rs us) e
 
       go : Among j (useKey u) (useKeys us) → (x : Bool) → leb 1 (cover (spansOf rs) j) ≡ x → (2 ≤ cover (spansOf rs) j + count j (useKeys us) → clash rs us ≡ true) → clash rs (u ∷ us) ≡ true
       go (first e c) true p ih =
-          left (holds rs u) (standsIn u us || clash rs us) (has-holds rs u S (F .0) (cover-has (spansOf rs) (useKey u) (rw e (leb-true 1 (cover (spansOf rs) j) p))))
+          first-holds (holds rs u) (standsIn u us || clash rs us) (has-holds rs u S (F .0) (cover-has (spansOf rs) (useKey u) (rw e (leb-true 1 (cover (spansOf rs) j) p))))
       go (first e c) false p ih =
           let n = leb-false 1 (cover (spansOf rs) j) p in
           let k : 1 ≤ count j (useKeys us) = omega arith in
-          twice (left (standsIn u us) (clash rs us) (count-stands u us (F .0) (F .1) (rw e k)))
-      go (later e c) x p ih = twice (right (standsIn u us) (clash rs us) (ih (omega arith)))
+          twice (first-holds (standsIn u us) (clash rs us) (count-stands u us (F .0) (F .1) (rw e k)))
+      go (later e c) x p ih = twice (second-holds (standsIn u us) (clash rs us) (ih (omega arith)))
 
   clash-crowd : (us : List Use) → clash rs us ≡ true → (j : ℕ) × (2 ≤ cover (spansOf rs) j + count j (useKeys us))
   clash-crowd [] e = absurd (false≢true e)
-  clash-crowd (u ∷ us) e = go (either (holds rs u) (standsIn u us || clash rs us) e) (λ q. clash-crowd us q)
+  clash-crowd (u ∷ us) e = go (one-holds (holds rs u) (standsIn u us || clash rs us) e) (λ q. clash-crowd us q)
     where
       again : (standsIn u us ≡ true) ⊎ (clash rs us ≡ true) → (clash rs us ≡ true → (j : ℕ) × (2 ≤ cover (spansOf rs) j + count j (useKeys us))) → (j : ℕ) × (2 ≤ cover (spansOf rs) j + count j (useKeys (u ∷ us)))
       again (inl q) ih = (useKey u, omega (arith, stands-count u us q, count-same (useKey u) (useKey u) (useKeys us) refl))
@@ -69,11 +69,11 @@ module _ (rs : List Range) (S : Sound rs) (O : Strung 2 (spansOf rs)) where
 
       go : (holds rs u ≡ true) ⊎ ((standsIn u us || clash rs us) ≡ true) → (clash rs us ≡ true → (j : ℕ) × (2 ≤ cover (spansOf rs) j + count j (useKeys us))) → (j : ℕ) × (2 ≤ cover (spansOf rs) j + count j (useKeys (u ∷ us)))
       go (inl q) ih = (useKey u, omega (arith, has-cover (spansOf rs) (useKey u) (holds-has rs u q), count-same (useKey u) (useKey u) (useKeys us) refl))
-      go (inr q) ih = again (either (standsIn u us) (clash rs us) q) ih
+      go (inr q) ih = again (one-holds (standsIn u us) (clash rs us) q) ih
 
   module _ (us : List Use) (ks : List ℕ) (F : Fits us) (R : Rises 2 ks) (E : Same (useKeys us) ks) where
     pub clash-is : hits 0 (weave (spansOf rs) ks) ≡ clash rs us
-    clash-is = agree (hits 0 (weave (spansOf rs) ks)) (clash rs us) to from
+    clash-is = both-ways (hits 0 (weave (spansOf rs) ks)) (clash rs us) to from
       where
         to : hits 0 (weave (spansOf rs) ks) ≡ true → clash rs us ≡ true
         to e =

@@ -1,19 +1,19 @@
 -- What is granted where deriving refuses nothing: no condition of a refusal holds.
 use mathlib.Core.Path.{_≡_, refl}
-use mathlib.Core.Bool.{Bool, true, false, not, _&&_, false≢true}
+use mathlib.Core.Bool.{Bool, true, false, not, _&&_}
 use mathlib.Core.List.{List, [], _∷_}
-use Prim.Native.Nat.{ℕ, _≤_}
+use Prim.Native.Nat.{ℕ}
 use native.Mathlib.Omega.{arith}
-use lib.Dec.{leb, ltb}
-use borrow.Author.Tests.{leb-true, not-false}
+use lib.Dec.{ltb}
+use borrow.Author.Tests.{not-false}
 use Rattle.laws.specs.Refusals.{_if_, first}
+use Rattle.laws.proofs.Truth.{and-parts}
 use Rattle.headings.specs.declared.ItemNo.{ItemNo}
 use Rattle.headings.specs.declared.Heading.{Heading}
 use Rattle.headings.specs.declared.Read.the-variants.{Reads}
 use Rattle.headings.specs.Reading.{headingOf}
 use Rattle.outcome_tables.specs.Outcomes.{inClass}
 use Rattle.turning.specs.Turning.{barredTo, isOutcome, isStanding, isMissing}
-use Rattle.turning.proofs.Steps.{and-parts}
 use Rattle.outcomes.specs.Deriving.{tellRefusals, numberRefusals, deriveRefusals}
 
 pub record Granted (h : Heading) (o p : ℕ) (n : ItemNo) : Type 0 where

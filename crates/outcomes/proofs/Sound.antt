@@ -9,6 +9,7 @@ use lib.Seq.{take-at}
 use lib.Dec.{eqb, leb}
 use borrow.Author.Tests.{leb-true}
 use Rattle.laws.specs.Refusals.{first}
+use Rattle.laws.proofs.Truth.{and-parts}
 use Rattle.headings.specs.declared.Code.{Code}
 use Rattle.headings.specs.declared.ItemNo.{ItemNo}
 use Rattle.headings.specs.declared.Heading.{Heading}
@@ -22,7 +23,7 @@ use Rattle.outcome_tables.specs.Outcomes.{codes, inClass}
 use Rattle.turning.specs.Turning.{turned}
 use Rattle.outcomes.specs.Deriving.{numbered, deriveRefusals, derivedTarget}
 use Rattle.outcome_tables.proofs.Seven.{seven}
-use Rattle.turning.proofs.Steps.{and-parts, one-of-seven}
+use Rattle.turning.proofs.Steps.{one-of-seven}
 use Rattle.outcomes.proofs.Granted.{granted}
 use Rattle.outcome_tables.proofs.Cells.{two-digits}
 use Rattle.outcomes.proofs.Small.{Small, small, fits-small}

@@ -1,15 +1,16 @@
 -- What the code asks at one line, and finds there.
-use mathlib.Core.Path.{_≡_, refl, sym, ap, _∙_, subst}
-use mathlib.Core.Bool.{Bool, true, false, cond, not, _&&_, _||_, true≢false}
+use mathlib.Core.Path.{_≡_, refl, sym, ap, _∙_}
+use mathlib.Core.Bool.{Bool, true, false, cond, not, _&&_, true≢false}
 use mathlib.Core.List.{List, _++_}
 use Prim.Native.Nat.{ℕ, zero, suc, _+_, _-_, _≤_, _<_}
 use native.Mathlib.Omega.{arith}
 use lib.Dec.{eqb, leb}
 use lib.ListN.{length, drop, getD, replicate, length-append, length-drop}
 use lib.Seq.{length-take-le}
-use borrow.Author.Tests.{le-leb, lt-leb, eq-eqb, ne-eqb, eqb-true}
+use borrow.Author.Tests.{le-leb, lt-leb, eq-eqb, ne-eqb}
 use Rattle.laws.specs.Tests.{mark}
 use Rattle.laws.specs.Lists.{anyOf}
+use Rattle.laws.proofs.Any.{or-right}
 use Rattle.text.specs.Characters.{isInadmissible}
 use Rattle.text.proofs.Admissible.{odd-asked}
 use Rattle.headings.specs.declared.Heading.{Heading}
@@ -19,7 +20,7 @@ use Rattle.fields.specs.declared.kinds.Kind.{Kind}
 use Rattle.fields.specs.declared.kinds.Kind.the-variants.{Field}
 use Rattle.fields.specs.declared.readings.Reading.{Reading}
 use Rattle.fields.specs.Kinds.{place, kindOf}
-use Rattle.fields.specs.Classes.{codeOf, classOf, claims}
+use Rattle.fields.specs.Classes.{codeOf, claims}
 use Rattle.fields.specs.Classes.{codeOf}
 use Rattle.fields.specs.Readings.{ifFits}
 use Rattle.fields.proofs.LineKinds.{field-is}
@@ -27,14 +28,10 @@ use Rattle.lines.specs.declared.Found.{Found}
 use Rattle.lines.specs.Reading.{span, IsNext}
 use Rattle.rules.specs.declared.Sums.{Sums}
 use Rattle.rules.specs.Terms.{Terms}
-use Rattle.rules.specs.Faults.{Fault}
 use Rattle.rules.specs.Rows.{Row}
 use Rattle.rules.specs.LineRules.{rule1}
 use Rattle.rules.specs.Said.{isUnreadable}
-use Rattle.rules.specs.Blocks.{closesAt}
-use Rattle.ledger.specs.declared.Ledger.{Ledger}
 use Rattle.ledger.specs.Marks.{marked}
-use Rattle.ledger.specs.Slices.{Entered}
 use Rattle.ledger.proofs.Marks.{marked-few}
 use Rattle.blocks.specs.declared.Basis.{Basis}
 use Rattle.blocks.specs.declared.Block.{Block}
@@ -97,10 +94,6 @@ module _ (since i : ℕ) (said : Reading) (c : Claims) (p : Pend) where
       let low : leb 5 (codeOf i) ≡ false = ap (λ (n : ℕ). leb 5 n) (sym ek) ∙ or-right (eqb k 1) (leb 5 k) e in
       (rw kc (same (eqb since 0) c), rw low (same (eqb since 0) p))
     where
-      or-right : (a b : Bool) → (a || b) ≡ false → b ≡ false
-      or-right true b q = absurd (true≢false q)
-      or-right false b q = q
-
       same : {A : Type 0} (b : Bool) (x : A) → x ≡ cond b x x
       same true x = refl
       same false x = refl

@@ -5,9 +5,9 @@ use mathlib.Core.Path.{_≡_, refl, sym, subst, _∙_}
 use mathlib.Core.Bool.{true, false, not}
 use mathlib.Core.List.{List, []}
 use lib.ListN.{replicate}
+use borrow.Author.Tests.{not-false}
 use Rattle.laws.specs.Refusals.{first}
 use Rattle.laws.specs.Lists.{anyOf}
-use Rattle.laws.proofs.Truth.{not-false}
 use Rattle.lines.specs.Lines.{hasMark, body}
 use Rattle.rules.specs.Terms.{input}
 use Rattle.going.specs.Reached.{Sound, Reached}

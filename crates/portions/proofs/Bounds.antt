@@ -6,7 +6,7 @@ use mathlib.Core.List.{List}
 use lib.Dec.{leb, ltb, eqb}
 use lib.ListN.{length}
 use borrow.Author.Tests.{leb-true, ltb-true, eqb-true, le-leb, lt-ltb, eq-eqb}
-use Rattle.laws.proofs.Truth.{both-left, both-right}
+use Rattle.laws.proofs.Truth.{both-left, both-right, both-hold}
 use Rattle.pass.specs.declared.Pass.{Pass}
 use Rattle.pass.specs.Standing.{Bounded}
 use Rattle.joining.specs.Short.{keptText}
@@ -19,10 +19,6 @@ use Rattle.handing.specs.Ready.{isReady}
 use Rattle.portions.specs.Usable.{isBounded, isSound, isOpen}
 use Rattle.portions.specs.Jobs.{shutOf}
 use Rattle.handing.proofs.Order.{ready-so, so-ready}
-
--- two tests that hold
-both : {a b : Bool} → a ≡ true → b ≡ true → (a && b) ≡ true
-both e f = rw (e, f)
 
 sound-so : (g : Going) (ls rs ps : List ℕ) → isSound g ls rs ps ≡ true → Sound g ls rs ps
 unfolding isSound
@@ -53,9 +49,9 @@ unfolding isSound
 so-sound g ls rs ps S =
     let p : Pass = g .pass in
     let B : Bounded (g .at) p ls rs ps = S .bounded in
-    both
-    (both (le-leb _ _ (B .few)) (both (le-leb _ _ (B .small)) (both (lt-ltb _ _ (B .calm)) (both (le-leb _ _ (B .tail-few)) (le-leb _ _ (B .top-few))))))
-    (both (eq-eqb _ _ (B .level)) (both (le-leb _ _ (S .came)) (so-ready (B .ready))))
+    both-hold _ _
+    (both-hold _ _ (le-leb _ _ (B .few)) (both-hold _ _ (le-leb _ _ (B .small)) (both-hold _ _ (lt-ltb _ _ (B .calm)) (both-hold _ _ (le-leb _ _ (B .tail-few)) (le-leb _ _ (B .top-few))))))
+    (both-hold _ _ (eq-eqb _ _ (B .level)) (both-hold _ _ (le-leb _ _ (S .came)) (so-ready (B .ready))))
 
 -- what an open state counts with
 pub record Usable (p : Portions) (ls rs ps : List ℕ) : Type 0 where
@@ -78,7 +74,7 @@ open-so p ls rs ps e =
 
 pub so-open : (p : Portions) (ls rs ps : List ℕ) → Usable p ls rs ps → isOpen p ls rs ps ≡ true
 unfolding isOpen
-so-open p ls rs ps U = both (U .takes) (both (both (le-leb _ _ (U .came)) (le-leb _ _ (U .few))) (so-sound _ _ _ _ (U .sound)))
+so-open p ls rs ps U = both-hold _ _ (U .takes) (both-hold _ _ (both-hold _ _ (le-leb _ _ (U .came)) (le-leb _ _ (U .few))) (so-sound _ _ _ _ (U .sound)))
 
 -- ---- the tests, as the code puts them together
 

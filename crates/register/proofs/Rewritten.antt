@@ -9,8 +9,8 @@ use lib.ListN.{length, take, drop, length-drop}
 use lib.Seq.{drop-drop, length-take-le}
 use borrow.Author.Tests.{eqb-true}
 use Rattle.laws.specs.Ascii.{ascii}
+use Rattle.laws.proofs.Truth.{and-parts}
 use Rattle.text.specs.Strings.{begins}
-use Rattle.figures.proofs.Tests.{and-parts}
 use Rattle.register.specs.Bytes.{big, bigAfter, bigAt, Small}
 use Rattle.register.specs.Register.{rangesBytes, bytesIn, rangesIn, countIn, registerOf, mostOf, isVersion, versionIn, sizeOf, hasLayout, wellFormed, isRegister}
 use Rattle.register.proofs.Widths.{written-read}

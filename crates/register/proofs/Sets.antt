@@ -1,49 +1,26 @@
 -- A register's ranges as a set: what is held with one number more, in what order the ranges stand, and that ranges which never touch are
 -- determined by what they hold. Each is said of ranges, and follows from the same of spans.
-use Prim.Native.Nat.{ℕ, zero, suc, _+_, _-_, _*_, _≤_, _<_}
+use Prim.Native.Nat.{ℕ, _+_, _-_, _*_, _≤_, _<_}
 use native.Mathlib.Omega.{arith}
 use mathlib.Core.Path.{_≡_, refl, sym, ap, _∙_, subst}
-use mathlib.Core.Bool.{Bool, true, false, cond, _&&_, _||_, or-false, or-assoc, true≢false, false≢true}
+use mathlib.Core.Bool.{Bool, true, false, cond, _&&_, _||_, or-false, or-assoc, false≢true}
 use mathlib.Core.List.{List, [], _∷_}
 use mathlib.Core.Logic.{_⊎_, inl, inr}
 use lib.Dec.{eqb, leb, ltb}
-use borrow.Author.Tests.{ltb-true, ltb-false, leb-true, leb-false, eqb-true, eqb-false, eq-eqb, ne-eqb, lt-ltb, le-ltb, le-leb, lt-leb}
-use Rattle.figures.proofs.Tests.{and-parts}
+use borrow.Author.Tests.{ltb-true, ltb-false, leb-true, eqb-true, eq-eqb, lt-ltb, le-leb}
+use Rattle.laws.proofs.Truth.{and-parts, both-hold, one-holds, first-holds, second-holds, both-ways}
 use Rattle.register.specs.Register.{Range, apart, inOrder}
 use Rattle.register.specs.Entering.{Use, holds, standsIn, join, add, addAll}
 use Rattle.register.specs.Spans.{Span, dayKey, useKey, spanOf, spansOf, useKeys, Has, Strung, joinSpan, addSpan, addKeys, Fit, Fits, Sound}
 use Rattle.register.proofs.Spans as spans
 
 -- ---- tests
--- two tests that follow from each other are one
-pub agree : (x y : Bool) → (x ≡ true → y ≡ true) → (y ≡ true → x ≡ true) → x ≡ y
-agree true true f g = refl
-agree true false f g = sym (f refl)
-agree false true f g = g refl
-agree false false f g = refl
-
-pub either : (x y : Bool) → (x || y) ≡ true → (x ≡ true) ⊎ (y ≡ true)
-either true y e = inl refl
-either false y e = inr e
-
-pub left : (x y : Bool) → x ≡ true → (x || y) ≡ true
-left true y e = refl
-left false y e = absurd (false≢true e)
-
-pub right : (x y : Bool) → y ≡ true → (x || y) ≡ true
-right true y e = refl
-right false y e = e
-
-pub pair : (x y : Bool) → x ≡ true → y ≡ true → (x && y) ≡ true
-pair true y p q = q
-pair false y p q = p
-
 -- by day and number, and by key
 before-key : (d m e n : ℕ) → m ≤ 9999999 → n ≤ 9999999 → (ltb d e || (eqb d e && ltb m n)) ≡ ltb (dayKey d m) (dayKey e n)
-before-key d m e n hm hn = agree _ _ to from
+before-key d m e n hm hn = both-ways _ _ to from
   where
     to : (ltb d e || (eqb d e && ltb m n)) ≡ true → ltb (dayKey d m) (dayKey e n) ≡ true
-    to p = go (either (ltb d e) (eqb d e && ltb m n) p)
+    to p = go (one-holds (ltb d e) (eqb d e && ltb m n) p)
       where
         go : (ltb d e ≡ true) ⊎ ((eqb d e && ltb m n) ≡ true) → ltb (dayKey d m) (dayKey e n) ≡ true
         go (inl q) = lt-ltb (dayKey d m) (dayKey e n) (let l = ltb-true d e q in omega arith)
@@ -53,29 +30,29 @@ before-key d m e n hm hn = agree _ _ to from
     from p = let l = ltb-true (dayKey d m) (dayKey e n) p in go (ltb d e) refl l
       where
         go : (x : Bool) → ltb d e ≡ x → dayKey d m < dayKey e n → (ltb d e || (eqb d e && ltb m n)) ≡ true
-        go true q l = left (ltb d e) (eqb d e && ltb m n) q
-        go false q l = let g = ltb-false d e q in right (ltb d e) (eqb d e && ltb m n) (pair _ _ (eq-eqb d e (omega arith)) (lt-ltb m n (omega arith)))
+        go true q l = first-holds (ltb d e) (eqb d e && ltb m n) q
+        go false q l = let g = ltb-false d e q in second-holds (ltb d e) (eqb d e && ltb m n) (both-hold _ _ (eq-eqb d e (omega arith)) (lt-ltb m n (omega arith)))
 
 touch-key : (d l e f : ℕ) → l ≤ 9999999 → 1 ≤ f → f ≤ 9999999 → (eqb d e && eqb (l + 1) f) ≡ eqb (dayKey d l + 1) (dayKey e f)
-touch-key d l e f hl h1 hf = agree _ _ to from
+touch-key d l e f hl h1 hf = both-ways _ _ to from
   where
     to : (eqb d e && eqb (l + 1) f) ≡ true → eqb (dayKey d l + 1) (dayKey e f) ≡ true
     to p = let b = and-parts (eqb d e) (eqb (l + 1) f) p in let x = eqb-true d e (b .0) in let y = eqb-true (l + 1) f (b .1) in eq-eqb (dayKey d l + 1) (dayKey e f) (omega arith)
 
     from : eqb (dayKey d l + 1) (dayKey e f) ≡ true → (eqb d e && eqb (l + 1) f) ≡ true
-    from p = let x = eqb-true (dayKey d l + 1) (dayKey e f) p in pair _ _ (eq-eqb d e (omega arith)) (eq-eqb (l + 1) f (omega arith))
+    from p = let x = eqb-true (dayKey d l + 1) (dayKey e f) p in both-hold _ _ (eq-eqb d e (omega arith)) (eq-eqb (l + 1) f (omega arith))
 
 turned : (d e : ℕ) → eqb d e ≡ eqb e d
-turned d e = agree _ _ (λ p. eq-eqb e d (sym (eqb-true d e p))) (λ p. eq-eqb d e (sym (eqb-true e d p)))
+turned d e = both-ways _ _ (λ p. eq-eqb e d (sym (eqb-true d e p))) (λ p. eq-eqb d e (sym (eqb-true e d p)))
 
 reach-key : (d m e n : ℕ) → m ≤ 9999999 → n ≤ 9999999 → e ≤ d → (eqb d e && leb m n) ≡ leb (dayKey d m) (dayKey e n)
-reach-key d m e n hm hn h = agree _ _ to from
+reach-key d m e n hm hn h = both-ways _ _ to from
   where
     to : (eqb d e && leb m n) ≡ true → leb (dayKey d m) (dayKey e n) ≡ true
     to p = let b = and-parts (eqb d e) (leb m n) p in let x = eqb-true d e (b .0) in let y = leb-true m n (b .1) in le-leb (dayKey d m) (dayKey e n) (omega arith)
 
     from : leb (dayKey d m) (dayKey e n) ≡ true → (eqb d e && leb m n) ≡ true
-    from p = let x = leb-true (dayKey d m) (dayKey e n) p in pair _ _ (eq-eqb d e (omega arith)) (le-leb m n (omega arith))
+    from p = let x = leb-true (dayKey d m) (dayKey e n) p in both-hold _ _ (eq-eqb d e (omega arith)) (le-leb m n (omega arith))
 
 -- ---- one number more
 join-spans : (r : Range) (qs : List Range) → r .last ≤ 9999999 → Sound qs → spansOf (join r qs) ≡ joinSpan (dayKey (r .day) (r .first)) (dayKey (r .day) (r .last)) (spansOf qs)
@@ -148,7 +125,7 @@ order-strung (r ∷ rs) S e = (omega arith, omega (arith, S .1), go rs (S .3) (a
   where
     go : (qs : List Range) → Sound qs → apart r qs ≡ true → Strung 0 (spansOf qs) → Strung (dayKey (r .day) (r .last) + 2) (spansOf qs)
     go [] Q p T = tt
-    go (q ∷ qs) Q p T = (part (either (ltb (r .day) (q .day)) (eqb (r .day) (q .day) && ltb (r .last + 1) (q .first)) p), T .1, T .2)
+    go (q ∷ qs) Q p T = (part (one-holds (ltb (r .day) (q .day)) (eqb (r .day) (q .day) && ltb (r .last + 1) (q .first)) p), T .1, T .2)
       where
         part : (ltb (r .day) (q .day) ≡ true) ⊎ ((eqb (r .day) (q .day) && ltb (r .last + 1) (q .first)) ≡ true) → dayKey (r .day) (r .last) + 2 ≤ dayKey (q .day) (q .first)
         part (inl h) = let l = ltb-true (r .day) (q .day) h in omega (arith, S .2, Q .0, l)
@@ -156,18 +133,18 @@ order-strung (r ∷ rs) S e = (omega arith, omega (arith, S .1), go rs (S .3) (a
 
 pub strung-order : (n : ℕ) (rs : List Range) → Sound rs → Strung n (spansOf rs) → inOrder rs ≡ true
 strung-order n [] S T = refl
-strung-order n (r ∷ rs) S T = pair (apart r rs) (inOrder rs) (go rs (S .3) (T .2)) (strung-order (dayKey (r .day) (r .last) + 2) rs (S .3) (T .2))
+strung-order n (r ∷ rs) S T = both-hold (apart r rs) (inOrder rs) (go rs (S .3) (T .2)) (strung-order (dayKey (r .day) (r .last) + 2) rs (S .3) (T .2))
   where
     go : (qs : List Range) → Sound qs → Strung (dayKey (r .day) (r .last) + 2) (spansOf qs) → apart r qs ≡ true
     go [] Q T = refl
     go (q ∷ qs) Q T = day (ltb (r .day) (q .day)) refl
       where
         day : (x : Bool) → ltb (r .day) (q .day) ≡ x → (ltb (r .day) (q .day) || (eqb (r .day) (q .day) && ltb (r .last + 1) (q .first))) ≡ true
-        day true h = left (ltb (r .day) (q .day)) (eqb (r .day) (q .day) && ltb (r .last + 1) (q .first)) h
+        day true h = first-holds (ltb (r .day) (q .day)) (eqb (r .day) (q .day) && ltb (r .last + 1) (q .first)) h
         day false h =
             let l = ltb-false (r .day) (q .day) h in
             let d : r .day ≡ q .day = omega (arith, l, T .0, Q .1, Q .2) in
-            right (ltb (r .day) (q .day)) (eqb (r .day) (q .day) && ltb (r .last + 1) (q .first)) (pair (eqb (r .day) (q .day)) (ltb (r .last + 1) (q .first)) (eq-eqb (r .day) (q .day) d) (lt-ltb (r .last + 1) (q .first) (omega (arith, d, T .0))))
+            second-holds (ltb (r .day) (q .day)) (eqb (r .day) (q .day) && ltb (r .last + 1) (q .first)) (both-hold (eqb (r .day) (q .day)) (ltb (r .last + 1) (q .first)) (eq-eqb (r .day) (q .day) d) (lt-ltb (r .last + 1) (q .first) (omega (arith, d, T .0))))
 
 -- ranges in order stay in order with one number more
 pub ordered : (u : Use) (rs : List Range) → Fit u → Sound rs → inOrder rs ≡ true → inOrder (add u rs) ≡ true
@@ -179,7 +156,7 @@ inRange r u = eqb (r .day) (u .day) && (leb (r .first) (u .number) && leb (u .nu
 
 pub holds-has : (rs : List Range) (u : Use) → holds rs u ≡ true → Has (spansOf rs) (useKey u)
 holds-has [] u e = absurd (false≢true e)
-holds-has (r ∷ rs) u e = go (either (inRange r u) (holds rs u) e) (λ q. holds-has rs u q)
+holds-has (r ∷ rs) u e = go (one-holds (inRange r u) (holds rs u) e) (λ q. holds-has rs u q)
   where
     go : (inRange r u ≡ true) ⊎ (holds rs u ≡ true) → (holds rs u ≡ true → Has (spansOf rs) (useKey u)) → Has (spansOf (r ∷ rs)) (useKey u)
     go (inl h) ih =
@@ -195,13 +172,13 @@ pub has-holds : (rs : List Range) (u : Use) → Sound rs → Fit u → Has (span
 has-holds [] u S F p = absurd p
 has-holds (r ∷ rs) u S F (inl i) =
     let d : r .day ≡ u .day = omega (arith, i .0, i .1, F .0, F .1, S .0, S .1, S .2) in
-    left (inRange r u) (holds rs u) (pair (eqb (r .day) (u .day)) (leb (r .first) (u .number) && leb (u .number) (r .last)) (eq-eqb (r .day) (u .day) d)
-    (pair (leb (r .first) (u .number)) (leb (u .number) (r .last)) (le-leb (r .first) (u .number) (omega (arith, d, i .0))) (le-leb (u .number) (r .last) (omega (arith, d, i .1)))))
-has-holds (r ∷ rs) u S F (inr i) = right (inRange r u) (holds rs u) (has-holds rs u (S .3) F i)
+    first-holds (inRange r u) (holds rs u) (both-hold (eqb (r .day) (u .day)) (leb (r .first) (u .number) && leb (u .number) (r .last)) (eq-eqb (r .day) (u .day) d)
+    (both-hold (leb (r .first) (u .number)) (leb (u .number) (r .last)) (le-leb (r .first) (u .number) (omega (arith, d, i .0))) (le-leb (u .number) (r .last) (omega (arith, d, i .1)))))
+has-holds (r ∷ rs) u S F (inr i) = second-holds (inRange r u) (holds rs u) (has-holds rs u (S .3) F i)
 
 -- held with one number more is that number and what was held before, and nothing else
 pub members : (u v : Use) (rs : List Range) → Fit u → Fit v → Sound rs → inOrder rs ≡ true → holds (add u rs) v ≡ (holds rs v || (eqb (u .day) (v .day) && eqb (u .number) (v .number)))
-members u v rs F G S e = agree (holds (add u rs) v) (holds rs v || same) to from
+members u v rs F G S e = both-ways (holds (add u rs) v) (holds rs v || same) to from
   where
     same : Bool
     same = eqb (u .day) (v .day) && eqb (u .number) (v .number)
@@ -213,11 +190,11 @@ members u v rs F G S e = agree (holds (add u rs) v) (holds rs v || same) to from
     to p = go (spans.members-to 0 (useKey u) (spansOf rs) O (useKey v) (subst (λ (l : List Span). Has l (useKey v)) (add-spans u rs F S) (holds-has (add u rs) v p)))
       where
         go : (useKey u ≡ useKey v) ⊎ Has (spansOf rs) (useKey v) → (holds rs v || (eqb (u .day) (v .day) && eqb (u .number) (v .number))) ≡ true
-        go (inl q) = right (holds rs v) (eqb (u .day) (v .day) && eqb (u .number) (v .number)) (pair (eqb (u .day) (v .day)) (eqb (u .number) (v .number)) (eq-eqb (u .day) (v .day) (omega (arith, q, F .0, F .1, G .0, G .1))) (eq-eqb (u .number) (v .number) (omega (arith, q, F .0, F .1, G .0, G .1))))
-        go (inr q) = left (holds rs v) (eqb (u .day) (v .day) && eqb (u .number) (v .number)) (has-holds rs v S G q)
+        go (inl q) = second-holds (holds rs v) (eqb (u .day) (v .day) && eqb (u .number) (v .number)) (both-hold (eqb (u .day) (v .day)) (eqb (u .number) (v .number)) (eq-eqb (u .day) (v .day) (omega (arith, q, F .0, F .1, G .0, G .1))) (eq-eqb (u .number) (v .number) (omega (arith, q, F .0, F .1, G .0, G .1))))
+        go (inr q) = first-holds (holds rs v) (eqb (u .day) (v .day) && eqb (u .number) (v .number)) (has-holds rs v S G q)
 
     from : (holds rs v || (eqb (u .day) (v .day) && eqb (u .number) (v .number))) ≡ true → holds (add u rs) v ≡ true
-    from p = has-holds (add u rs) v (add-sound u rs F S) G (rw (add-spans u rs F S) (go (either (holds rs v) (eqb (u .day) (v .day) && eqb (u .number) (v .number)) p)))
+    from p = has-holds (add u rs) v (add-sound u rs F S) G (rw (add-spans u rs F S) (go (one-holds (holds rs v) (eqb (u .day) (v .day) && eqb (u .number) (v .number)) p)))
       where
         go : (holds rs v ≡ true) ⊎ ((eqb (u .day) (v .day) && eqb (u .number) (v .number)) ≡ true) → Has (addSpan (useKey u) (spansOf rs)) (useKey v)
         go (inl q) = spans.members-from 0 (useKey u) (spansOf rs) O (useKey v) (holds-has rs v q)

@@ -8,13 +8,10 @@ use lib.ListN.{length, take, drop, replicate, length-replicate, length-append, t
 use lib.Seq.{take-at, drop-at, drop-drop}
 use lib.Dec.{ltb, eqb}
 use borrow.Author.Tests.{le-leb, lt-ltb, ltb-true, eq-eqb, eqb-true, not-true}
+use Rattle.laws.proofs.Truth.{and-parts}
 use Rattle.text.specs.Digits.{isDigit, allDigits, digits}
 use Rattle.text.specs.Forms.{Piece, fixed, padded, template, fitsByte, hasForm, partAt, numbers, numbersFit, formText}
 use Rattle.text.proofs.Widths.{length-digits, read-written, written-read, value-lt}
-
-and-parts : (a b : Bool) → (a && b) ≡ true → (a ≡ true) × (b ≡ true)
-and-parts true b e = (refl, e)
-and-parts false b e = absurd (false≢true e)
 
 -- a text with a form, taken apart and put together at its head
 uncons : (t b : ℕ) (ts bs : List ℕ) → hasForm (t ∷ ts) (b ∷ bs) ≡ true → (fitsByte t b ≡ true) × (hasForm ts bs ≡ true)

@@ -1,19 +1,16 @@
 -- The first step of deriving, in each case of the code.
-use mathlib.Core.Path.{_≡_, refl}
-use mathlib.Core.Bool.{Bool, true, false, _&&_, false≢true}
+use mathlib.Core.Path.{_≡_}
+use mathlib.Core.Bool.{Bool, true, false}
 use Prim.Native.Nat.{ℕ, _≤_}
 use lib.Dec.{leb}
 use borrow.Author.Tests.{leb-true}
 use Rattle.laws.specs.Refusals.{first}
+use Rattle.laws.proofs.Truth.{and-parts}
 use Rattle.headings.specs.declared.Heading.{Heading}
 use Rattle.headings.specs.ItemTypes.{isTrilateral}
 use Rattle.outcome_tables.specs.declared.Codes.{Codes}
 use Rattle.outcome_tables.specs.Outcomes.{outgoing, codes}
 use Rattle.turning.specs.Turning.{barredTo, isOutcome, isStanding, isMissing, coded, turned, turnRefusals}
-
-pub and-parts : (a b : Bool) → (a && b) ≡ true → (a ≡ true) × (b ≡ true)
-and-parts true b e = (refl, e)
-and-parts false b e = absurd (false≢true e)
 
 pub one-of-seven : (o : ℕ) → isOutcome o ≡ true → (1 ≤ o) × (o ≤ 7)
 one-of-seven o e = let v = and-parts (leb 1 o) (leb o 7) e in (leb-true 1 o (v .0), leb-true o 7 (v .1))

@@ -1,5 +1,5 @@
-use Rattle.laws.proofs.Truth.{not-true, not-false}
 use borrow.Author.Needs.{needs}
+use borrow.Author.Tests.{not-true, not-false}
 use Rattle.stored.proofs.shut_frame.Statement.{statement}
 use Rattle.stored.proofs.shut_frame.Tie as tie
 

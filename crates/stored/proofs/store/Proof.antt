@@ -1,4 +1,4 @@
-use Rattle.laws.proofs.Truth.{not-true, not-false}
+use borrow.Author.Tests.{not-true, not-false}
 use Rattle.stored.proofs.Back.{nothing-put, was-put}
 use borrow.Author.Needs.{needs}
 use Rattle.stored.proofs.store.Statement.{statement}

@@ -1,7 +1,7 @@
 use native.Mathlib.Omega.{arith}
 use borrow.Author.Needs.{needs}
 use borrow.Author.Tests.{leb-true}
-use Rattle.figures.proofs.Tests.{and-parts}
+use Rattle.laws.proofs.Truth.{and-parts}
 use Rattle.fields.proofs.Places.{group-in, group-out}
 use Rattle.fields.proofs.classes.sum_group.Statement.{statement}
 use Rattle.fields.proofs.classes.sum_group.Tie as tie

@@ -1,6 +1,6 @@
 use mathlib.Core.Path.{sym, ap, _∙_}
 use mathlib.Core.Bool.{not}
-use Rattle.laws.proofs.Truth.{not-true, not-false}
+use borrow.Author.Tests.{not-true, not-false}
 use Rattle.portions.proofs.Growing.{not-taken, was-taken}
 use borrow.Author.Needs.{needs}
 use Rattle.portions.proofs.adding.add.Statement.{statement}
