@@ -15,18 +15,17 @@ use Rattle.headings.specs.Reading.{layout, isHeading, headingOf}
 use Rattle.fields.specs.declared.classes.Class.{Class}
 use Rattle.fields.specs.Kinds.{kindOf}
 use Rattle.fields.specs.Readings.{textOf, readingOf}
-use Rattle.fields.proofs.LineKinds.{kind-take}
-use Rattle.fields.proofs.Reach.{text-take}
+use Rattle.fields.proofs.Reach.{first-64}
 use Rattle.joining.specs.Short.{short}
 use Rattle.joining.proofs.Short.{short-self, length-short, take-to, bad-to}
 
 -- its kind
 pub kind-short : (l : List ℕ) → kindOf (short l) ≡ kindOf l
-kind-short l = sym (kind-take 64 (short l) (omega arith)) ∙ ap kindOf (take-to 64 l) ∙ kind-take 64 l (omega arith)
+kind-short l = sym (first-64 (short l) .0) ∙ ap kindOf (take-to 64 l) ∙ first-64 l .0
 
 -- what it says as a field
 pub reading-short : (c : Class) (l : List ℕ) → readingOf c (textOf (short l)) ≡ readingOf c (textOf l)
-reading-short c l = sym (text-take c 64 (short l) (omega arith)) ∙ ap (λ (s : List ℕ). readingOf c (textOf s)) (take-to 64 l) ∙ text-take c 64 l (omega arith)
+reading-short c l = sym (first-64 (short l) .1 c) ∙ ap (λ (s : List ℕ). readingOf c (textOf s)) (take-to 64 l) ∙ first-64 l .1 c
 
 -- what it says as a heading: no longer line is one
 long : length (template layout) ≡ 54

@@ -1,5 +1,5 @@
 -- Laws of any fixed layout: a text in its form is the text of its numbers, and the text of numbers that fit has the form and those numbers.
-use mathlib.Core.Path.{_≡_, refl, ap, _∙_, sym}
+use mathlib.Core.Path.{_≡_, refl, ap, _∙_, sym, subst}
 use mathlib.Core.Bool.{Bool, true, false, not, _&&_, _||_, false≢true}
 use mathlib.Core.List.{List, [], _∷_, _++_}
 use Prim.Native.Nat.{ℕ, zero, suc, _+_, _/_, _%_, _^_, _≤_}
@@ -8,10 +8,10 @@ use lib.ListN.{length, take, drop, replicate, length-replicate, length-append, t
 use lib.Seq.{take-at, drop-at, drop-drop}
 use lib.Dec.{ltb, eqb}
 use borrow.Author.Tests.{le-leb, lt-ltb, ltb-true, eq-eqb, eqb-true, not-true}
-use Rattle.laws.proofs.Truth.{and-parts}
+use Rattle.laws.proofs.Truth.{and-parts, second-holds}
 use Rattle.text.specs.Digits.{isDigit, allDigits, digits}
 use Rattle.text.specs.Forms.{Piece, fixed, padded, template, fitsByte, hasForm, partAt, numbers, numbersFit, formText}
-use Rattle.text.proofs.Widths.{length-digits, read-written, written-read, value-lt}
+use Rattle.text.proofs.Widths.{length-digits, read-written, written-read, value-lt, digits-are}
 
 -- a text with a form, taken apart and put together at its head
 uncons : (t b : ℕ) (ts bs : List ℕ) → hasForm (t ∷ ts) (b ∷ bs) ≡ true → (fitsByte t b ≡ true) × (hasForm ts bs ≡ true)
@@ -56,11 +56,7 @@ zero-digit b e = go (eqb b 48) refl e
     go false p q = q
 
 digit-zero : (b : ℕ) → isDigit b ≡ true → fitsByte 48 b ≡ true
-digit-zero b e = go (eqb b 48)
-  where
-    go : (z : Bool) → (z || isDigit b) ≡ true
-    go true = refl
-    go false = e
+digit-zero b e = second-holds (eqb b 48) (isDigit b) e
 
 zeros : (n : ℕ) (s : List ℕ) → hasForm (replicate n 48) s ≡ true → allDigits s ≡ true
 unfolding hasForm allDigits
@@ -69,13 +65,15 @@ zeros zero (b ∷ bs) e = absurd (false≢true e)
 zeros (suc n) [] e = refl
 zeros (suc n) (b ∷ bs) e = let h = uncons 48 b (replicate n 48) bs e in rw (zero-digit b (h .0), zeros n bs (h .1))
 
+under-zeros : (s : List ℕ) → allDigits s ≡ true → hasForm (replicate (length s) 48) s ≡ true
+unfolding hasForm allDigits
+under-zeros [] e = refl
+under-zeros (b ∷ bs) e =
+    let h = and-parts (isDigit b) (allDigits bs) e in
+    cons 48 b (replicate (length bs) 48) bs (digit-zero b (h .0)) (under-zeros bs (h .1))
+
 zeros-digits : (n v : ℕ) → hasForm (replicate n 48) (digits n v) ≡ true
-unfolding hasForm digits
-zeros-digits zero v = refl
-zeros-digits (suc n) v =
-    cons 48 (48 + v / 10 ^ n % 10) (replicate n 48) (digits n v)
-    (digit-zero (48 + v / 10 ^ n % 10) (simp (le-leb 48 (48 + v / 10 ^ n % 10) (omega arith), le-leb (48 + v / 10 ^ n % 10) 57 (omega arith))))
-    (zeros-digits n v)
+zeros-digits n v = subst (λ (m : ℕ). hasForm (replicate m 48) (digits n v) ≡ true) (length-digits n v) (under-zeros (digits n v) (digits-are n v))
 
 -- bytes other than 0 stand for themselves
 abbrev other : List ℕ → Bool
