@@ -9,10 +9,10 @@ use lib.Dec.{leb, eqb, leb·zero}
 use borrow.Author.Tests.{le-leb, lt-leb, leb-true, leb-false, eq-eqb, ne-eqb, eqb-true, eqb-false}
 use Rattle.fields.specs.declared.classes.Class.{Class}
 use Rattle.fields.specs.declared.classes.Class.the-variants.{Money, Number, Range, Group, Account, Text, Free}
-use Rattle.fields.specs.declared.tails.Tail.{Tail}
 use Rattle.figures.specs.Layouts.{bytes, noMore, fits, part}
 use Rattle.fields.specs.Readings.{textOf, layoutOf, saidBy, ifFits, readingOf}
-use Rattle.fields.specs.Tails.{allFit, takes, reads, saysOf, isBroken, tailOf, tailMore, takesBy}
+use Rattle.fields.specs.Tails.{allFit, takes, reads, saysOf, isBroken}
+use Rattle.fields.specs.Kept.{Tail, tailOf, tailMore, takesBy}
 use Rattle.figures.proofs.Endings.{bytes-are}
 
 -- two comparisons that hold and fail together
@@ -37,10 +37,6 @@ same-tail x y = rw (x, y)
 pub tail-more : (l : List ℕ) (ls : List (List ℕ)) → tailMore (tailOf ls) (length l) ≡ tailOf (l ∷ ls)
 unfolding tailOf allFit
 tail-more l ls = same-tail (omega arith) (rw (line-fits l))
-
--- of a continuation's length only as much matters as tells 35 bytes from more
-pub more-cap : (a : Tail) (j n : ℕ) → 39 ≤ j → tailMore a (min j n) ≡ tailMore a n
-more-cap a j n h = rw (same-leb (min j n) 38 n 38 (λ k. omega arith) (λ k. omega arith))
 
 none-kept : (n : ℕ) → eqb (min 4 n) 0 ≡ eqb n 0
 none-kept n = go (eqb n 0) refl

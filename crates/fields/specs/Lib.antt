@@ -2,3 +2,4 @@ pub mod Kinds
 pub mod Classes
 pub mod Readings
 pub mod Tails
+pub mod Kept

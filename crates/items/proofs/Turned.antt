@@ -11,7 +11,8 @@ use Rattle.figures.specs.Layouts.{Part, fits}
 use Rattle.fields.specs.declared.readings.Reading.{Reading}
 use Rattle.fields.specs.Classes.{classOf}
 use Rattle.fields.specs.Readings.{textOf, readingOf, ifFits}
-use Rattle.fields.specs.Tails.{allFit, tailOf, takesBy}
+use Rattle.fields.specs.Tails.{allFit}
+use Rattle.fields.specs.Kept.{tailOf, takesBy}
 use Rattle.fields.proofs.Kept.{same-tail}
 use Rattle.fields.proofs.Kept.{says as said-with}
 use Rattle.rules.specs.Rows.{FieldRow, LowRow}

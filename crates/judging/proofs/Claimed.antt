@@ -12,7 +12,8 @@ use Rattle.fields.specs.declared.readings.Reading.the-variants.{Broken, Plain, 
 use Rattle.fields.specs.Kinds.{named, place}
 use Rattle.fields.specs.Classes.{groupFields, accountFields, textFields, classBy, classOf, codeBy, codeOf, sumGroup}
 use Rattle.fields.specs.Readings.{textOf, readingOf, ifFits}
-use Rattle.fields.specs.Tails.{isBroken, tailOf, takesBy}
+use Rattle.fields.specs.Tails.{isBroken}
+use Rattle.fields.specs.Kept.{tailOf, takesBy}
 use Rattle.fields.proofs.Places.{place-in}
 use Rattle.rules.specs.Terms.{Terms}
 use Rattle.rules.specs.Rows.{Row, FieldRow, LowRow, low, field}

@@ -15,11 +15,11 @@ use Rattle.fields.specs.declared.classes.Class.{Class}
 use Rattle.fields.specs.declared.classes.Class.the-variants.{Money, Number, Range, Group, Account, Text, Free}
 use Rattle.fields.specs.declared.readings.Reading.{Reading}
 use Rattle.fields.specs.declared.readings.Reading.the-variants.{Broken, Plain, Paid, Span, Stated, Party}
-use Rattle.fields.specs.declared.tails.Tail.{Tail}
 use Rattle.fields.specs.Kinds.{named}
 use Rattle.fields.specs.Classes.{classOf, codeBy, codeOf}
 use Rattle.fields.specs.Readings.{textOf, readingOf, ifFits}
-use Rattle.fields.specs.Tails.{isBroken, allFit, tailOf, tailMore, takesBy}
+use Rattle.fields.specs.Tails.{isBroken, allFit}
+use Rattle.fields.specs.Kept.{Tail, tailOf, tailMore, takesBy}
 use Rattle.fields.proofs.Kept.{broken, tail-more}
 use Rattle.rules.specs.Terms.{Terms}
 use Rattle.rules.specs.Faults.{Fault}

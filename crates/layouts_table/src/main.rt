@@ -3,15 +3,15 @@
 use fields::classes::Class;
 use fields::kinds::Kind;
 use fields::readings::Reading;
-use fields::tails::Tail;
 use figures::parts::Halves;
 use figures::parts::Number;
+use judging::opening;
+use judging::opening::Open;
 
-// The last field: its class, what its own text says, and its tail so far.
+// The last field: what its own text says, and the field as the pass keeps it open, with no marks but those of its tail so far.
 struct Owner {
-    class: Class,
     said: Reading,
-    tail: Tail,
+    open: Open,
 }
 
 fn word(w: &[u8]) {
@@ -117,20 +117,30 @@ fn show_field(ident: usize, line: &[u8]) -> Owner {
     word(b"field");
     show_class(class, ident);
     show_reading(said);
-    Owner {
-        class,
-        said,
-        tail: fields::tails::no_tail(),
+    let open = Open {
+        no: 1,
+        marks: 0,
+        class: code,
+        tail: 0,
+    };
+    Owner { said, open }
+}
+
+// One continuation more; data/lines has fewer than the test allows.
+fn continued(open: Open, length: usize) -> Open {
+    if open.tail < 16384 {
+        return opening::with_low(open, true, length);
     }
+    open
 }
 
 fn show_continuation(owner: Owner, line: &[u8]) -> Owner {
-    let class = owner.class;
     let said = owner.said;
-    let tail = fields::tails::more_tail(owner.tail, line.len());
+    let before = owner.open;
+    let open = continued(before, line.len());
     word(b"continuation");
-    show_reading(fields::tails::with_tail(class, said, tail));
-    Owner { class, said, tail }
+    show_reading(fields::readings::if_fits(open.marks == 0, said));
+    Owner { said, open }
 }
 
 fn show_line(owner: Owner, line: &[u8]) -> Owner {
@@ -149,10 +159,10 @@ fn show_line(owner: Owner, line: &[u8]) -> Owner {
 }
 
 fn show_all(s: &[u8]) {
+    let open = opening::none_open();
     let mut owner = Owner {
-        class: Class::Free,
         said: Reading::Plain,
-        tail: fields::tails::no_tail(),
+        open,
     };
     let mut at = 0;
     let mut n: u64 = 0;

@@ -10,8 +10,8 @@ Inv-loop s owner₀ at₀ n₀ t6 owner at n = (at ≤ length s + 1) × (n ≤ a
 abbrev μ-loop : tie.MeasureT-loop
 μ-loop s owner₀ at₀ n₀ t6 owner at n = length s + 1 - at
 
-no-tail-requires : tie.Need-no-tail-requires Inv-loop μ-loop
-no-tail-requires c κs = search needs
+none-open-requires : tie.Need-none-open-requires Inv-loop μ-loop
+none-open-requires c κs = search needs
 
 loop-holds : tie.Need-loop-holds Inv-loop μ-loop
 loop-holds c = search needs
@@ -61,7 +61,7 @@ show-all-spec =
     (tie.spec
     Inv-loop
     μ-loop
-    no-tail-requires
+    none-open-requires
     loop-holds
     find-requires
     add-n
