@@ -9,7 +9,8 @@ use Rattle.laws.proofs.Finite.{at}
 use Rattle.fields.specs.declared.classes.Class.{Class}
 use Rattle.fields.specs.declared.classes.Class.the-variants.{Money, Number, Range, Group, Account, Text, Free}
 use Rattle.fields.specs.Kinds.{place}
-use Rattle.fields.specs.Classes.{moneyFields, numberFields, rangeFields, groupFields, accountFields, textFields, classOf, codeBy, codeOf, claims}
+use Rattle.fields.specs.Classes.{moneyFields, numberFields, rangeFields, groupFields, accountFields, textFields, classOf}
+use Rattle.fields.specs.Codes.{codeBy, codeOf, claims}
 
 -- a list with v at each of some places
 abbrev fill : List ℕ → ℕ → List ℕ → List ℕ

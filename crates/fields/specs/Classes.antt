@@ -1,8 +1,7 @@
 -- The identifiers of each class (document 01, 'Layouts'), each set one list, and the groups of the S fields.
 use Prim.Native.Nat.{ℕ}
-use mathlib.Core.Bool.{Bool, cond, _||_}
+use mathlib.Core.Bool.{Bool, cond}
 use mathlib.Core.List.{List, [], _∷_}
-use lib.Dec.{eqb, leb}
 use Rattle.laws.specs.Tests.{among}
 use Rattle.fields.specs.declared.classes.Class.{Class}
 use Rattle.fields.specs.declared.classes.Class.the-variants.{Money, Number, Range, Group, Account, Text, Free}
@@ -38,21 +37,3 @@ classOf i = classBy (among i moneyFields) (among i numberFields) (among i rangeF
 -- the digit of a group's identifier, and the number of groups for any other identifier
 unfoldable pub sumGroup : ℕ → ℕ
 sumGroup i = place i groupFields
-
--- the classes as numbers, as the code has them: 1 takes any tail and claims at once; 5 and above claim when they close
-abbrev pub codeBy : Class → ℕ
-codeBy Free = 0
-codeBy Money = 1
-codeBy Number = 2
-codeBy Account = 3
-codeBy Text = 4
-codeBy Range = 5
-codeBy Group = 6
-
--- that of an identifier
-unfoldable pub codeOf : ℕ → ℕ
-codeOf i = codeBy (classOf i)
-
--- a KC, an IN, an S0 to S9: it says something that the item's heading needs
-abbrev pub claims : ℕ → Bool
-claims k = eqb k 1 || leb 5 k

@@ -2,7 +2,8 @@
 ghost use mathlib.Core.Path.{_≡_};
 ghost use Prim.Native.Nat.{ℕ, _<_};
 ghost use lib.ListN.{getD};
-ghost use Rattle.fields.specs.Classes.{codeOf, sumGroup};
+ghost use Rattle.fields.specs.Classes.{sumGroup};
+ghost use Rattle.fields.specs.Codes.{codeOf};
 
 // KC; EC, AK, ZK; IN; S0 to S9; UD, UK; DI, KI, ZP, AV; any other identifier.
 pub enum Class {

@@ -11,7 +11,7 @@ ghost use mathlib.Core.Bool.{true, false};
 ghost use Prim.Native.Nat.{_≤_};
 ghost use lib.ListN.{length, drop};
 ghost use Rattle.figures.specs.Layouts.{fits, noMore, maybeRest, maybeName};
-ghost use Rattle.fields.specs.Classes.{codeBy, claims};
+ghost use Rattle.fields.specs.Codes.{codeBy, claims};
 ghost use Rattle.fields.specs.Readings.{textOf, readingOf, ifFits};
 
 // `Broken` where the text has not its layout. An amount and its day; the first and the last number; a group's count and sum;

@@ -16,7 +16,8 @@ use Rattle.figures.specs.declared.parts.Halves.{Halves}
 use Rattle.fields.specs.declared.readings.Reading.{Reading}
 use Rattle.fields.specs.declared.readings.Reading.the-variants.{Broken, Plain, Paid, Span, Stated, Party}
 use Rattle.fields.specs.Kinds.{place, named}
-use Rattle.fields.specs.Classes.{classOf, codeOf, claims}
+use Rattle.fields.specs.Classes.{classOf}
+use Rattle.fields.specs.Codes.{codeOf, claims}
 use Rattle.rules.specs.declared.FirstKc.{FirstKc}
 use Rattle.rules.specs.declared.FirstIn.{FirstIn}
 use Rattle.rules.specs.HeadingRules.{noKc}

@@ -10,7 +10,8 @@ use Rattle.laws.specs.Tests.{among}
 use Rattle.fields.specs.declared.readings.Reading.{Reading}
 use Rattle.fields.specs.declared.readings.Reading.the-variants.{Broken, Plain, Paid, Span, Stated, Party}
 use Rattle.fields.specs.Kinds.{named, place}
-use Rattle.fields.specs.Classes.{groupFields, accountFields, textFields, classBy, classOf, codeBy, codeOf, sumGroup}
+use Rattle.fields.specs.Classes.{groupFields, accountFields, textFields, classBy, classOf, sumGroup}
+use Rattle.fields.specs.Codes.{codeBy, codeOf}
 use Rattle.fields.specs.Readings.{textOf, readingOf, ifFits}
 use Rattle.fields.specs.Tails.{isBroken}
 use Rattle.fields.specs.Kept.{tailOf, takesBy}

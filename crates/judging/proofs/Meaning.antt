@@ -15,7 +15,8 @@ use Rattle.headings.specs.declared.Read.the-variants.{Unreadable}
 use Rattle.headings.specs.Reading.{headingOf}
 use Rattle.fields.specs.declared.readings.Reading.{Reading}
 use Rattle.fields.specs.Kinds.{named}
-use Rattle.fields.specs.Classes.{classOf, codeOf}
+use Rattle.fields.specs.Classes.{classOf}
+use Rattle.fields.specs.Codes.{codeOf}
 use Rattle.fields.specs.Readings.{textOf, readingOf}
 use Rattle.rules.specs.Terms.{Terms}
 use Rattle.rules.specs.Faults.{Fault}

@@ -16,7 +16,8 @@ use Rattle.fields.specs.declared.classes.Class.the-variants.{Money, Number, Ran
 use Rattle.fields.specs.declared.readings.Reading.{Reading}
 use Rattle.fields.specs.declared.readings.Reading.the-variants.{Broken, Plain, Paid, Span, Stated, Party}
 use Rattle.fields.specs.Kinds.{named}
-use Rattle.fields.specs.Classes.{classOf, codeBy, codeOf}
+use Rattle.fields.specs.Classes.{classOf}
+use Rattle.fields.specs.Codes.{codeBy, codeOf}
 use Rattle.fields.specs.Readings.{textOf, readingOf, ifFits}
 use Rattle.fields.specs.Tails.{isBroken, allFit}
 use Rattle.fields.specs.Kept.{Tail, tailOf, tailMore, takesBy}

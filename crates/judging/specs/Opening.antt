@@ -11,7 +11,7 @@ use Rattle.figures.specs.declared.parts.Halves.{Halves}
 use Rattle.fields.specs.declared.readings.Reading.{Reading}
 use Rattle.fields.specs.declared.readings.Reading.the-variants.{Broken, Plain, Paid, Span, Stated, Party}
 use Rattle.fields.specs.Kinds.{named}
-use Rattle.fields.specs.Classes.{codeOf}
+use Rattle.fields.specs.Codes.{codeOf}
 use Rattle.fields.specs.Readings.{ifFits}
 use Rattle.fields.specs.Tails.{isBroken}
 use Rattle.rules.specs.declared.FirstKc.{FirstKc}

@@ -20,8 +20,8 @@ use Rattle.fields.specs.declared.kinds.Kind.{Kind}
 use Rattle.fields.specs.declared.kinds.Kind.the-variants.{Field}
 use Rattle.fields.specs.declared.readings.Reading.{Reading}
 use Rattle.fields.specs.Kinds.{place, kindOf}
-use Rattle.fields.specs.Classes.{codeOf, claims}
-use Rattle.fields.specs.Classes.{codeOf}
+use Rattle.fields.specs.Codes.{codeOf, claims}
+use Rattle.fields.specs.Codes.{codeOf}
 use Rattle.fields.specs.Readings.{ifFits}
 use Rattle.fields.proofs.LineKinds.{field-is}
 use Rattle.lines.specs.declared.Found.{Found}

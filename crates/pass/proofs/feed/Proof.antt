@@ -5,7 +5,8 @@ use mathlib.Core.List.{List, _++_}
 use Prim.Native.Nat.{suc, _+_, _-_, _≤_, _<_, _^_}
 use native.Mathlib.Omega.{arith}
 use lib.ListN.{length, getD}
-use Rattle.fields.specs.Classes.{classOf, codeOf}
+use Rattle.fields.specs.Classes.{classOf}
+use Rattle.fields.specs.Codes.{codeOf}
 use Rattle.fields.specs.Readings.{textOf, readingOf}
 use Rattle.lines.specs.Reading.{span, IsNext}
 use Rattle.lines.proofs.Reading.{is-next}

@@ -4,7 +4,7 @@ use mathlib.Core.Path.{_≡_, sym, ap, _∙_}
 use mathlib.Core.Bool.{false}
 use Rattle.fields.specs.declared.classes.Class.{Class}
 use Rattle.fields.specs.declared.readings.Reading.{Reading}
-use Rattle.fields.specs.Classes.{codeBy, claims}
+use Rattle.fields.specs.Codes.{codeBy, claims}
 use Rattle.fields.specs.Readings.{textOf, readingOf}
 use Rattle.judging.specs.Opening.{plainMarks}
 use borrow.Author.Needs.{needs}

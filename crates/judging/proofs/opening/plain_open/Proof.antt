@@ -1,6 +1,7 @@
 use mathlib.Core.Path.{sym}
 use borrow.Author.Tests.{eq-eqb, ne-eqb}
-use Rattle.fields.specs.Classes.{classOf, codeOf}
+use Rattle.fields.specs.Classes.{classOf}
+use Rattle.fields.specs.Codes.{codeOf}
 use Rattle.fields.specs.Readings.{textOf, readingOf}
 use Rattle.judging.proofs.Cases.{plain-opens}
 use borrow.Author.Needs.{needs}
