@@ -2,8 +2,7 @@
 // everything behind the pointers as it was: a total or an answer is stored where nothing is refused, and is never loaded. The promises
 // are those of the jobs below, said with numbers, and each function is one call of the crate that proves them: `checking_face`,
 // `heading_face`, `account_face`, `sheet_face`, `register_face`, `portions_face`, and `sheet` for a turnover's text.
-use sheet::showing;
-ghost use Rattle.sheet.specs.Shown.{Shows};
+ghost use Rattle.showing.specs.Shown.{Shows};
 ghost use Rattle.checking_face.specs.Face.{TotalAt, CheckedAt};
 ghost use Rattle.heading_face.specs.Face.{ToldAt, DerivedAt};
 ghost use Rattle.account_face.specs.Face.{AccountAt};

@@ -2,6 +2,4 @@ pub mod Answers
 pub mod Unique
 pub mod Conserving
 pub mod Whole
-pub mod Signs
-pub mod Written
 pub mod Examples

@@ -13,7 +13,7 @@ use Rattle.laws.proofs.Put.{put-is, length-put}
 use Rattle.text.specs.Decimals.{decimal}
 use Rattle.text.specs.Strings.{Wrote}
 use Rattle.text.proofs.Bare.{decimal-within}
-use Rattle.sheet.specs.Shown.{shown, signOf, Shows}
+use Rattle.showing.specs.Shown.{shown, signOf, Shows}
 
 size : (z : ℤ) → SFits w64 z → natAbs z ≤ 2 ^ 63
 size (pos a) f = omega (arith, f .sfits)

@@ -1,0 +1,4 @@
+pub mod Signs
+pub mod Written
+pub mod Unique
+pub mod Examples
