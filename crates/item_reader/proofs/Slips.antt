@@ -36,10 +36,11 @@ use Rattle.rules.specs.declared.FirstKc.the-variants.{NoKc}
 use Rattle.item_reader.specs.declared.Gap.{Gap}
 use Rattle.item_reader.specs.declared.Title.{Title}
 use Rattle.item_reader.specs.Slips.{amountOf, Headed, IsFirst, IsSlip}
-use Rattle.item_reader.specs.Search.{standsAt, Quiet, IsSign, IsGap, kcLine, readsTo, IsTitle}
+use Rattle.sign_finder.specs.Signs.{standsAt, Quiet, IsSign}
+use Rattle.item_reader.specs.Search.{IsGap, kcLine, readsTo, IsTitle}
 use Rattle.item_reader.proofs.Starts.{kind-told, heading-told, kc-told}
 use Rattle.item_reader.proofs.Passing.{slipsIn, kcIn, topIn, none-in, others, kc-small, item-here, kc-none, kc-here, top-heading, top-continuation, top-field, top-other, line-slips, line-kc, byte-slips, byte-kc}
-use Rattle.item_reader.proofs.Signs.{begins-size, sign-size}
+use Rattle.sign_finder.proofs.Signs.{begins-size, sign-size}
 
 -- ---- from a place to another, with no sign between
 module _ (s : List ℕ) (n : ℕ) where

@@ -7,7 +7,7 @@ use Rattle.lines.specs.Reading.{IsNext}
 use Rattle.lines.specs.declared.Found.{Found}
 use Rattle.lines.proofs.Reading.{is-next}
 use Rattle.fields.specs.Kinds.{kindOf}
-use Rattle.item_reader.proofs.Signs.{rest-all}
+use Rattle.sign_finder.proofs.Signs.{rest-all}
 use Rattle.item_reader.proofs.Passing.{topIn}
 use Rattle.item_reader.proofs.Slips.{top-at-heading, top-at-continuation, top-at-field, top-at-other, top-at-end}
 use borrow.Author.Needs.{needs}

@@ -8,7 +8,7 @@ use lib.ListN.{drop}
 use borrow.Author.Tests.{lt-ltb, le-ltb}
 use Rattle.laws.specs.Ascii.{ascii}
 use Rattle.text.specs.Strings.{begins}
-use Rattle.item_reader.proofs.Signs.{rest-all}
+use Rattle.sign_finder.proofs.Signs.{rest-all}
 use borrow.Author.Needs.{needs}
 use Rattle.item_reader.proofs.gap_from.Statement.{statement}
 use Rattle.item_reader.proofs.gap_from.Tie as tie

@@ -5,7 +5,7 @@ use mathlib.Core.List.{List}
 use lib.ListN.{drop}
 use Rattle.laws.specs.Ascii.{ascii}
 use Rattle.text.specs.Strings.{begins}
-use Rattle.item_reader.proofs.Signs.{rest-all, sign-size}
+use Rattle.sign_finder.proofs.Signs.{rest-all, sign-size}
 use Rattle.item_reader.proofs.Slips.{full, gap-ends, kc-line, kc-sign, kc-nowhere}
 use borrow.Author.Needs.{needs}
 use Rattle.item_reader.proofs.kc_within.Statement.{statement}

@@ -4,7 +4,7 @@ use mathlib.Core.List.{List, [], _∷_}
 use Prim.Native.Nat.{ℕ, _+_}
 use Rattle.laws.proofs.Truth.{both-left, both-right}
 use Rattle.text.specs.Strings.{begins}
-use Rattle.item_reader.proofs.Signs.{rest-all}
+use Rattle.sign_finder.proofs.Signs.{rest-all}
 use Rattle.item_reader.proofs.Slips.{title-short}
 use borrow.Author.Needs.{needs}
 use Rattle.item_reader.proofs.title_at.Statement.{statement}

@@ -1,10 +1,10 @@
 use Prim.Native.Nat.{_-_, _≤_}
 use native.Mathlib.Omega.{arith}
 use mathlib.Core.Path.{sym, _∙_}
-use Rattle.item_reader.proofs.Signs.{Quietly, quiet-start, quiet-more, quiet-there, quiet-last}
+use Rattle.sign_finder.proofs.Signs.{Quietly, quiet-start, quiet-more, quiet-there, quiet-last}
 use borrow.Author.Needs.{needs}
-use Rattle.item_reader.proofs.search.near.Statement.{statement}
-use Rattle.item_reader.proofs.search.near.Tie as tie
+use Rattle.sign_finder.proofs.near.Statement.{statement}
+use Rattle.sign_finder.proofs.near.Tie as tie
 
 abbrev Inv-loop : tie.InvT-loop
 Inv-loop s at stop a b i₀ i = Quietly s a b at stop i × (i ≤ stop)

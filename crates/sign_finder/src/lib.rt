@@ -1,11 +1,12 @@
 // The next line that begins with two letters and a colon, found without the ends of the lines between: its sign is CR LF, the two
-// letters, the colon. Each CR LF cuts, so a sign is always such a line.
+// letters, the colon. Each CR LF cuts, so a sign is always such a line. Promised by `sign_from`, for every text: the first place where a
+// sign stands (specs/Signs.antt). Stands on `text` for comparing.
 ghost use mathlib.Core.Path.{_≡_};
 ghost use mathlib.Core.Bool.{true, false};
 ghost use mathlib.Core.Logic.{_⊎_};
 ghost use Prim.Native.Nat.{_+_, _<_, _≤_};
 ghost use lib.ListN.{length};
-ghost use Rattle.item_reader.specs.Search.{standsAt, Quiet, Apart, IsSign};
+ghost use Rattle.sign_finder.specs.Signs.{standsAt, Quiet, Apart, IsSign};
 
 // Whether two bytes stand in s, one after the other. A loop that only sets a flag is compiled to wide compares; one that stops early
 // is not.

@@ -1,9 +1,9 @@
 use native.Mathlib.Omega.{arith}
 use mathlib.Core.Bool.{false≢true}
-use Rattle.item_reader.proofs.Signs.{block-quiet}
+use Rattle.sign_finder.proofs.Signs.{block-quiet}
 use borrow.Author.Needs.{needs}
-use Rattle.item_reader.proofs.search.is_quiet.Statement.{statement}
-use Rattle.item_reader.proofs.search.is_quiet.Tie as tie
+use Rattle.sign_finder.proofs.is_quiet.Statement.{statement}
+use Rattle.sign_finder.proofs.is_quiet.Tie as tie
 
 returns : tie.Need-returns
 returns c = λ e. absurd (false≢true e)

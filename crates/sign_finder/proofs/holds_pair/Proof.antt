@@ -4,11 +4,11 @@ use mathlib.Core.Path.{_≡_, sym, _∙_}
 use mathlib.Core.Bool.{false, true≢false}
 use mathlib.Core.Logic.{⊎-elim}
 use lib.ListN.{length}
-use Rattle.item_reader.specs.Search.{Apart}
-use Rattle.item_reader.proofs.Signs.{apart-start, apart-more, apart-end}
+use Rattle.sign_finder.specs.Signs.{Apart}
+use Rattle.sign_finder.proofs.Signs.{apart-start, apart-more, apart-end}
 use borrow.Author.Needs.{needs}
-use Rattle.item_reader.proofs.search.holds_pair.Statement.{statement}
-use Rattle.item_reader.proofs.search.holds_pair.Tie as tie
+use Rattle.sign_finder.proofs.holds_pair.Statement.{statement}
+use Rattle.sign_finder.proofs.holds_pair.Tie as tie
 
 abbrev Inv-loop : tie.InvT-loop
 Inv-loop s a b found₀ i₀ found i = (found ≡ false → Apart s a b i) × (1 ≤ i)

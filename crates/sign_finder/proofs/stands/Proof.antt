@@ -2,11 +2,11 @@ use mathlib.Core.Path.{sym, ap, _∙_}
 use mathlib.Core.List.{List}
 use Prim.Native.Nat.{ℕ}
 use Rattle.text.specs.Strings.{begins}
-use Rattle.item_reader.specs.Search.{sign}
-use Rattle.item_reader.proofs.Signs.{no-cr, rest-all}
+use Rattle.sign_finder.specs.Signs.{sign}
+use Rattle.sign_finder.proofs.Signs.{no-cr, rest-all}
 use borrow.Author.Needs.{needs}
-use Rattle.item_reader.proofs.search.stands.Statement.{statement}
-use Rattle.item_reader.proofs.search.stands.Tie as tie
+use Rattle.sign_finder.proofs.stands.Statement.{statement}
+use Rattle.sign_finder.proofs.stands.Tie as tie
 
 shared-slice-read-if1 : tie.Need-shared-slice-read-if1
 shared-slice-read-if1 c = search needs

@@ -2,10 +2,10 @@ use Prim.Native.Nat.{_-_}
 use native.Mathlib.Omega.{arith}
 use mathlib.Core.Logic.{⊎-elim}
 use lib.ListN.{length}
-use Rattle.item_reader.proofs.Signs.{Quietly, quiet-start, quiet-to, near-on, near-there, quiet-end}
+use Rattle.sign_finder.proofs.Signs.{Quietly, quiet-start, quiet-to, near-on, near-there, quiet-end}
 use borrow.Author.Needs.{needs}
-use Rattle.item_reader.proofs.search.sign_from.Statement.{statement}
-use Rattle.item_reader.proofs.search.sign_from.Tie as tie
+use Rattle.sign_finder.proofs.sign_from.Statement.{statement}
+use Rattle.sign_finder.proofs.sign_from.Tie as tie
 
 abbrev Inv-loop : tie.InvT-loop
 Inv-loop s at stop a b i₀ i = Quietly s a b at stop i

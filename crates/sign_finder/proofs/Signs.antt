@@ -10,7 +10,7 @@ use lib.Seq.{getD-drop, getD-take, take-all}
 use borrow.Author.Tests.{eqb-true, eq-eqb, ltb-true, ltb-false, not-true}
 use Rattle.laws.proofs.Truth.{never-true, both-left, both-right}
 use Rattle.text.specs.Strings.{begins}
-use Rattle.item_reader.specs.Search.{sign, standsAt, Quiet, Apart, IsSign}
+use Rattle.sign_finder.specs.Signs.{sign, standsAt, Quiet, Apart, IsSign}
 
 -- ---- the bytes of a text that begins with another
 pub begins-size : (x y : List ℕ) → begins x y ≡ true → length y ≤ length x
