@@ -1,36 +1,31 @@
--- A heading that is known to read: its numbers stand at their places, and the next one may be searched for from its 54 bytes on.
+-- A heading that is known to read: its numbers stand at their places, and the next one may be searched for from the line after it on.
 use Prim.Native.Nat.{ℕ, zero, suc, _+_, _-_, _≤_, _<_}
 use native.Mathlib.Omega.{arith}
 use mathlib.Core.Path.{_≡_, refl, sym, ap, subst, _∙_}
 use mathlib.Core.Bool.{Bool, true, false, cond}
 use mathlib.Core.List.{List, [], _∷_, _++_}
-use lib.Dec.{ltb}
+use mathlib.Core.Logic.{_⊎_, inl, inr}
 use lib.ListN.{length, take, drop, replicate, length-take, length-drop}
 use lib.Seq.{take-take, drop-drop}
-use borrow.Author.Tests.{ltb-true, ltb-false}
 use Rattle.laws.specs.Lists.{anyOf}
-use Rattle.text.specs.Strings.{begins}
 use Rattle.text.specs.Characters.{isOdd}
 use Rattle.text.specs.Digits.{allDigits, value}
 use Rattle.text.specs.Forms.{template, partAt, numbers}
 use Rattle.text.proofs.Pieces.{ready, placed}
 use Rattle.lines.specs.Lines.{isByte, Line, lines}
 use Rattle.lines.specs.Reading.{lineAt, span, after, IsNext}
+use Rattle.lines.specs.Words.{bytesOf}
 use Rattle.lines.specs.declared.Found.{Found}
-use Rattle.lines.proofs.Lines.{lines-past}
 use Rattle.lines.proofs.Reading.{is-next, line-block}
 use Rattle.headings.specs.declared.Heading.{Heading}
 use Rattle.headings.specs.declared.Read.the-variants.{Reads, Unreadable}
 use Rattle.headings.specs.Reading.{layout, headingFrom, isHeading, headingOf}
 use Rattle.headings.proofs.Places.{found}
 use Rattle.headings.proofs.RoundTrips.{read-size}
-use Rattle.fields.specs.declared.kinds.Kind.the-variants.{Heading as HeadingKind}
-use Rattle.fields.specs.Kinds.{kindOf}
 use Rattle.item_reader.specs.Slips.{slipsFrom, Headed, IsFirst, IsHead}
-use Rattle.item_reader.specs.Search.{readsTo}
+use Rattle.item_reader.specs.Search.{readsTo, IsPast}
 use Rattle.item_reader.specs.Accepted.{Each, Readable, IsNumbered}
-use Rattle.item_reader.proofs.Starts.{heading-not}
-use Rattle.item_reader.proofs.Passing.{slipsIn, kcIn, topIn, kc-alike, top-alike, kc-small, item-here, slips-past}
+use Rattle.item_reader.proofs.Passing.{slipsIn, kcIn, topIn, kc-alike, top-alike, kc-small, item-here}
 use Rattle.item_reader.proofs.Slips.{read-plain}
 
 -- a part of a front
@@ -47,10 +42,6 @@ reads-form x h e = go (isHeading x) refl e
     go : (t : Bool) → isHeading x ≡ t → cond t (Reads (headingFrom (numbers layout x))) Unreadable ≡ Reads h → isHeading x ≡ true
     go true q w = q
     go false q w = let z : _≡_ {A = ℕ} 0 1 = cc in absurd (omega arith)
-
-no-heading : kindOf [] ≡ HeadingKind → ⊥
-unfolding begins
-no-heading = heading-not [] refl
 
 module _ (s : List ℕ) (at : ℕ) (l : at < length s) (H : Headed s at) (R : Each Readable (slipsFrom 1 (drop at s))) where
   N : IsNext s at (lineAt s at)
@@ -106,7 +97,7 @@ module _ (s : List ℕ) (at : ℕ) (l : at < length s) (H : Headed s at) (R : Ea
   reads : headingOf text ≡ Reads said
   reads = sym (found text form .1)
 
-  -- ---- what stands behind its 54 bytes
+  -- ---- the line after it
   abbrev odd : Bool
   odd = anyOf isOdd (take (at + 54 - at) (drop at s))
 
@@ -114,29 +105,29 @@ module _ (s : List ℕ) (at : ℕ) (l : at < length s) (H : Headed s at) (R : Ea
   same =
       line-block s at 54 false odd room (subst (λ (x : List ℕ). anyOf (isByte 0x0d) x ≡ false) text-is (read-plain text (ap readsTo reads))) refl
 
-  ends-there : lineAt s (at + 54) .end ≡ at + 54
-  ends-there = sym (ap (λ (f : Found). f .end) same) ∙ end-at
+  -- where a byte stands behind the 54, CR LF does
+  goes-on : at + 54 < length s → at + 54 < lineAt s at .next
+  goes-on h =
+      let e : lineAt s at .next ≡ lineAt s (at + 54) .next = ap (λ (f : Found). f .next) same in
+      omega (arith, e, is-next s (at + 54) (lineAt s (at + 54)) refl h .moves)
 
-  nothing-there : kindOf (span (at + 54) (lineAt s (at + 54) .end) s) ≡ HeadingKind → ⊥
-  nothing-there q =
-      let k : lineAt s (at + 54) .end - (at + 54) ≡ 0 = omega (arith, ends-there) in
-      no-heading (sym (ap (λ (k : ℕ). kindOf (take k (drop (at + 54) s))) k) ∙ q)
-
-  past : (n : ℕ) → slipsFrom n (drop (at + 54) s) ≡ slipsIn n below
-  past n = go (ltb (at + 54) (length s)) refl
+  next-at : {p : ℕ} → IsPast (length s) at p → p ≡ lineAt s at .next
+  next-at {p} = go (lineAt s at .ended) (N .follows)
     where
-      go : (t : Bool) → ltb (at + 54) (length s) ≡ t → slipsFrom n (drop (at + 54) s) ≡ slipsIn n below
-      go true e =
-          let M = is-next s (at + 54) (lineAt s (at + 54)) refl (ltb-true (at + 54) (length s) e) in
-          ap (slipsIn n) (M .cut)
-          ∙ slips-past (record { bytes = span (at + 54) (lineAt s (at + 54) .end) s; ended = lineAt s (at + 54) .ended }) (lines (drop (lineAt s (at + 54) .next) s)) n nothing-there
-          ∙ ap (λ (p : ℕ). slipsIn n (lines (drop p s))) (sym (ap (λ (f : Found). f .next) same))
-      go false e =
-          let h = ltb-false (at + 54) (length s) e in
-          ap (slipsIn n) (lines-past s (at + 54) h ∙ sym (lines-past s (lineAt s at .next) (omega (arith, h, end-at, N .closes))))
+      go : (t : Bool) → lineAt s at .next ≡ lineAt s at .end + cond t 2 0 → IsPast (length s) at p → p ≡ lineAt s at .next
+      go true e (inl (h, q)) = absurd (omega (arith, e, h, end-at, N .within))
+      go true e (inr (h, q)) = omega (arith, e, q, end-at)
+      go false e (inl (h, q)) = omega (arith, e, q, end-at)
+      go false e (inr (h, q)) = absurd (omega (arith, e, end-at, goes-on (omega (arith, h))))
+
+  pub past-within : {p : ℕ} → IsPast (length s) at p → p ≤ length s
+  past-within P = omega (arith, next-at P, N .within)
 
   -- ---- the item
-  module _ {next : ℕ} (F : IsFirst s (at + 54) next) where
+  module _ {p next : ℕ} (P : IsPast (length s) at p) (F : IsFirst s p next) where
+    on : at + 54 ≤ next
+    on = omega (arith, next-at P, F .from, N .closes, end-at)
+
     head-known : IsHead s at (record { head = Reads said; next = next })
     head-known = record {
       kc = kcIn 0 below;
@@ -145,19 +136,21 @@ module _ (s : List ℕ) (at : ℕ) (l : at < length s) (H : Headed s at) (R : Ea
         cut = λ n.
             let t : topIn n below ≡ false = top-alike below n 1 ∙ told .0 in
             let k = kc-alike below n 0 in
-            let f = sym (past n) ∙ F .after n in
+            let f = ap (λ (q : ℕ). slipsFrom n (drop q s)) (sym (next-at P)) ∙ F .after n in
             item-at n ∙ (λ i. record { head = cond (t i) Unreadable (reads i); kc = k i } ∷ f i);
-        long = λ h w. F .from;
-        moves = omega (arith, F .from);
+        long = λ h w. on;
+        moves = omega (arith, on);
         within = F .within;
         headed = F .headed;
       };
     }
 
-    pub numbered : {day number : ℕ} → day ≡ partAt s (at + 6) 8 → number ≡ partAt s (at + 23) 7 → IsNumbered s at (record { day = day; number = number; next = next })
-    numbered d n = record {
+    pub numbered : {day word number : ℕ} → day ≡ partAt s (at + 6) 8 → bytesOf 8 word ≡ take 8 (drop (at + 6) s) → number ≡ partAt s (at + 23) 7
+        → IsNumbered s at (record { day = day; word = word; number = number; next = next })
+    numbered d w n = record {
       heading = said;
       head = head-known;
       day = d ∙ sym (ap value (part-at 6 8 (omega arith)));
       number = n ∙ sym (ap value (part-at 23 7 (omega arith)));
+      word = ap value w ∙ sym d;
     }

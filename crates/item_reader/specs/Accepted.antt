@@ -4,6 +4,8 @@ use Prim.Native.Nat.{ℕ}
 use mathlib.Core.Path.{_≡_}
 use mathlib.Core.Bool.{true, false}
 use mathlib.Core.List.{List, [], _∷_}
+use Rattle.text.specs.Digits.{value}
+use Rattle.lines.specs.Words.{bytesOf}
 use Rattle.headings.specs.declared.Heading.{Heading}
 use Rattle.headings.specs.declared.Amount.{Amount}
 use Rattle.headings.specs.declared.Read.the-variants.{Reads}
@@ -35,9 +37,11 @@ Each P (s ∷ ss) = P s × Each P ss
 abbrev pub Readable : Slip → Type 0
 Readable s = (h : Heading) × (s .head ≡ Reads h)
 
--- the day and the number that the heading at a place says, where it is known to read, and the place of the next
+-- the day and the number that the heading at a place says, where it is known to read, bytes that stand for that day, and the place of the
+-- next
 pub record IsNumbered (s : List ℕ) (at : ℕ) (r : Numbered) : Type 0 where
   pub heading : Heading
   pub head : IsHead s at (record { head = Reads heading; next = r .next })
   pub day : r .day ≡ heading .day
   pub number : r .number ≡ heading .number .0
+  pub word : value (bytesOf 8 (r .word)) ≡ r .day

@@ -1,5 +1,5 @@
 -- Model of the code, not part of the statement: the next heading, found by its sign, and what is read of a line.
-use Prim.Native.Nat.{ℕ, _+_}
+use Prim.Native.Nat.{ℕ, _+_, _≤_, _<_}
 use mathlib.Core.Path.{_≡_}
 use mathlib.Core.Bool.{Bool, true, false, cond}
 use mathlib.Core.List.{List}
@@ -39,3 +39,7 @@ readsTo Unreadable = false
 pub record IsTitle (s : List ℕ) (at : ℕ) (r : Title) : Type 0 where
   pub head : r .head ≡ headingOf (span at (lineAt s at .end) s)
   pub next : r .next ≡ lineAt s at .next
+
+-- two bytes behind the 54 of a heading, or no byte where there are not as many
+abbrev pub IsPast : ℕ → ℕ → ℕ → Type 0
+IsPast size at r = ((size < at + 56) × (r ≡ at + 54)) ⊎ ((at + 56 ≤ size) × (r ≡ at + 56))

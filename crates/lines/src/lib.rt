@@ -141,7 +141,7 @@ fn wide(b: u8) -> u64
 }
 
 // The eight bytes from a place on as one word, the first one lowest: compiled to one load.
-fn word(s: &[u8], i: usize) -> u64
+pub fn word(s: &[u8], i: usize) -> u64
     requires { ⌜ i + 8 ≤ length (now s) ⌝ }
     ensures { λ r. ⌜ bytesOf 8 r ≡ take 8 (drop i (now (s .entry))) ⌝ }
 {

@@ -6,7 +6,14 @@ ghost use lib.ListN.{length};
 ghost use Rattle.laws.specs.Lists.{put};
 ghost use Rattle.text.specs.Digits.{allDigits, value as valueOf, digits};
 
-// The number that bytes stand for which are known to be digits.
+fn wide(b: u8) -> u32
+    ensures { λ r. ⌜ r ≡ b ⌝ }
+{
+    b as u32
+}
+
+// The number that bytes stand for which are known to be digits. A byte is widened before 48 is taken off: so compiled code adds a digit in
+// three instructions.
 pub fn value(s: &[u8]) -> u32
     requires { ⌜ (length (now s) ≤ 9) × (allDigits (now s) ≡ true) ⌝ }
     ensures { λ r. ⌜ r ≡ valueOf (now (s .entry)) ⌝ }
@@ -14,7 +21,7 @@ pub fn value(s: &[u8]) -> u32
     let mut v: u32 = 0;
     let mut i = 0;
     while i < s.len() {
-        v = v * 10 + (s[i] - 48) as u32;
+        v = v * 10 + (wide(s[i]) - 48);
         i += 1;
     }
     v

@@ -1,5 +1,5 @@
-use Prim.Native.Nat.{ℕ, _+_, _-_, _^_, _≤_, _<_}
-use mathlib.Core.Path.{_≡_, refl}
+use Prim.Native.Nat.{ℕ, _+_, _-_, _*_, _^_, _≤_, _<_}
+use mathlib.Core.Path.{_≡_, refl, sym, ap, _∙_}
 use mathlib.Core.Bool.{true}
 use mathlib.Core.List.{List}
 use native.Mathlib.Omega.{arith}
@@ -17,14 +17,14 @@ abbrev μ-loop : tie.MeasureT-loop
 μ-loop s v₀ i₀ v i = length s - i
 
 abbrev S : tie.At-loop Inv-loop μ-loop → List ℕ
-S l = l .before .args .s .now
+S l = l .before .before .args .s .now
 
 -- the number so far is small while there is a digit to come
 fits : (l : tie.At-loop Inv-loop μ-loop) → l .loop .i < length (S l) → l .loop .v < 10 ^ 8
-fits l h = small 8 (l .loop .v) (l .loop .i) (l .loop .inv .3) (omega (arith, l .before .pre .0))
+fits l h = small 8 (l .loop .v) (l .loop .i) (l .loop .inv .3) (omega (arith, l .before .before .pre .0))
 
 loop-holds : tie.Need-loop-holds Inv-loop μ-loop
-loop-holds c = (omega arith, c .pre .1, refl, omega arith)
+loop-holds c = (omega arith, c .before .pre .1, refl, omega arith)
 
 digit : (l : tie.At-loop Inv-loop μ-loop) → l .loop .i < length (S l) → (48 ≤ getD (S l) (l .loop .i) 0) × (getD (S l) (l .loop .i) 0 ≤ 57) × (allDigits (drop (l .loop .i + 1) (S l)) ≡ true)
 digit l h = digit-next (S l) (l .loop .i) h (l .loop .inv .1)
@@ -32,17 +32,20 @@ digit l h = digit-next (S l) (l .loop .i) h (l .loop .inv .1)
 mul-v : tie.Need-mul-v Inv-loop μ-loop
 mul-v c = omega (arith, fits (c .before) (c .loop-test .taken))
 
-shared-slice-read-v : tie.Need-shared-slice-read-v Inv-loop μ-loop
-shared-slice-read-v c = search needs
+shared-slice-read-wide : tie.Need-shared-slice-read-wide Inv-loop μ-loop
+shared-slice-read-wide c = search needs
+
+wide-requires : tie.Need-wide-requires Inv-loop μ-loop
+wide-requires c κs = search needs
 
 sub-v : tie.Need-sub-v Inv-loop μ-loop
-sub-v c = omega (arith, digit (c .before .before) (c .before .loop-test .taken) .0)
-
-cast-v : tie.Need-cast-v Inv-loop μ-loop
-cast-v c = omega (arith, digit (c .before .before) (c .before .loop-test .taken) .1)
+sub-v c = omega (arith, c .wide .ensures, digit (c .before .before .before) (c .before .before .loop-test .taken) .0)
 
 add-v : tie.Need-add-v Inv-loop μ-loop
-add-v c = omega (arith, fits (c .before .before) (c .before .loop-test .taken), digit (c .before .before) (c .before .loop-test .taken) .1)
+add-v c =
+    let l = c .before .before .before in
+    let h = c .before .before .loop-test .taken in
+    omega (arith, c .wide .ensures, fits l h, digit l h .1)
 
 add-i : tie.Need-add-i Inv-loop μ-loop
 add-i c = search needs
@@ -52,13 +55,14 @@ loop-less c = search needs
 
 loop-again : tie.Need-loop-again Inv-loop μ-loop
 loop-again c =
-    let l = c .before .before in
-    let h = c .before .loop-test .taken in
+    let l = c .before .before .before in
+    let h = c .before .before .loop-test .taken in
     let d = digit l h in (
       omega arith,
       d .2,
-      value-next (S l) (l .loop .i) h (l .loop .v) (l .loop .inv .2),
-      grows (l .loop .v) (l .loop .i) _ (l .loop .inv .3) (omega (arith, d .1)),
+      value-next (S l) (l .loop .i) h (l .loop .v) (l .loop .inv .2)
+          ∙ ap (λ (b : ℕ). valueAfter (l .loop .v * 10 + (b - 48)) (drop (l .loop .i + 1) (S l))) (sym (c .wide .ensures)),
+      grows (l .loop .v) (l .loop .i) _ (l .loop .inv .3) (omega (arith, c .wide .ensures, d .1)),
     )
 
 returns : tie.Need-returns Inv-loop μ-loop
@@ -72,9 +76,9 @@ value-spec =
     μ-loop
     loop-holds
     mul-v
-    shared-slice-read-v
+    shared-slice-read-wide
+    wide-requires
     sub-v
-    cast-v
     add-v
     add-i
     loop-less
