@@ -27,13 +27,18 @@ pub fn gather(s: &[u8], keys: &mut [u64]) -> usize
     ensures { λ r. ⌜ Gathered (length (now (s .entry))) (used (slipsFrom 1 (now (s .entry)))) r (now (keys .exit)) ⌝ }
 {
     let mut n = 0;
+    // A day, and bytes that stand for it: no heading has these.
+    let mut word: u64 = 0;
+    let mut day: u32 = 0;
     let mut at = item_reader::heading_from(s, 0);
     while at < s.len() {
-        let x = item_reader::number_at(s, at);
+        let x = item_reader::number_at(s, at, word, day);
         let number = x.number;
+        word = x.word;
+        day = x.day;
         at = x.next;
         if number != 0 {
-            keys[n] = day_key(x.day, number);
+            keys[n] = day_key(day, number);
             n += 1;
         }
     }
