@@ -58,7 +58,7 @@ run-take f (suc h) (suc k) [] l = refl
 run-take f (suc h) (suc k) (b ∷ s) l = rw (run-take f h k s (le-of-suc-le-suc l))
 
 -- a run of digits
-all-digits : (s : List ℕ) → allDigits s ≡ allOf isDigit s
+pub all-digits : (s : List ℕ) → allDigits s ≡ allOf isDigit s
 unfolding allDigits allOf
 all-digits [] = refl
 all-digits (b ∷ s) = rw (all-digits s)

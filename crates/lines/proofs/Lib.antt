@@ -6,3 +6,4 @@ pub mod Words
 pub mod Joining
 pub mod Searching
 pub mod Offsets
+pub mod Texts

@@ -8,7 +8,7 @@ use native.Mathlib.Numerals.{add-one}
 use native.Mathlib.Nat.{add-zero}
 use native.Mathlib.Omega.{arith}
 use lib.ListN.{length, take, drop, getD, length-drop}
-use lib.Seq.{drop-cons, drop-drop}
+use lib.Seq.{length-take-le, drop-cons, drop-drop}
 use borrow.Author.Tests.{eq-eqb}
 use Rattle.laws.specs.Lists.{anyOf}
 use Rattle.laws.proofs.Any.{or-left, or-right}
@@ -132,3 +132,7 @@ of-cut s at C =
 pub is-next : (s : List ℕ) (at : ℕ) (f : Found) → f ≡ lineAt s at → at < length s → IsNext s at f
 is-next s at f e h =
     subst (IsNext s at) (sym e) (of-cut s at (subst Cut (sym (drop-cons s at 0 h)) (cut (getD s at 0) (drop (suc at) s))))
+
+-- what `&s[at..end]` has
+pub span-long : {s : List ℕ} {at : ℕ} {f : Found} → IsNext s at f → f .end - at ≡ length (span at (f .end) s)
+span-long {s} {at} {f} N = sym (length-take-le (f .end - at) (drop at s) (omega (arith, length-drop at s, N .starts, N .closes, N .within)))

@@ -1,7 +1,7 @@
 // How a file is cut into lines: the bytes before the first 1A, cut at each CR LF. `body_len` says how far a file is read;
 // `line_from` gives the line at a place, and by the same look whether it holds a byte that is not plain, by a reader that carries
 // the lent file and that place; `line_near` gives the same, byte by byte. Promised, for every file and place: they give what `body` and
-// `lines` of specs/Lines.antt say. It stands on crates `laws` and `text`.
+// `lines` of specs/Lines.antt say. `word` gives eight bytes as one number, which callers compare. It stands on crates `laws` and `text`.
 ghost use mathlib.Core.Path.{_≡_};
 ghost use Prim.Native.Nat.{_+_, _-_, _<_, _≤_};
 ghost use lib.ListN.{length, take, drop, getD};

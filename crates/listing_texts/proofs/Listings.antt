@@ -8,17 +8,11 @@ use native.Mathlib.Omega.{arith}
 use lib.ListN.{length, getD}
 use lib.Seq.{length-take-le}
 use Rattle.laws.proofs.Put.{put-is, put-none}
-use Rattle.text.specs.Decimals.{decimal}
 use Rattle.text.specs.Strings.{Wrote}
-use Rattle.text.proofs.Bare.{decimal-length}
 use Rattle.text.proofs.Wrote.{then, same-length}
 use Rattle.rules.specs.Faults.{fault}
 use Rattle.ledger.specs.Slices.{held}
 use Rattle.listing_texts.specs.Printing.{rowText, rowTexts, Begins}
-
--- a number has 20 digits at most
-pub room-for : (v at n : ℕ) → at + 20 ≤ n → at + length (decimal v) ≤ n
-room-for v at n h = omega (arith, h, decimal-length v)
 
 pub rows-none : (before : List ℕ) (at : ℕ) → at ≤ length before → Wrote before at (rowTexts []) before at
 unfolding rowTexts

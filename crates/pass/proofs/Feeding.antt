@@ -46,7 +46,8 @@ use Rattle.judging.proofs.Sets.{lineMarks}
 use Rattle.pass.specs.declared.Pass.{Pass}
 use Rattle.shutting.specs.Starts.{Stands, WaitsAt}
 use Rattle.pass.specs.Standing.{Bounded, Standing, Alike, InPlace, Fed}
-use Rattle.pass.proofs.Walk.{close-few, span-long, ident-few, reads-on, own-few}
+use Rattle.lines.proofs.Reading.{span-long}
+use Rattle.pass.proofs.Walk.{close-few, ident-few, reads-on, own-few}
 use Rattle.pass.proofs.Standing.{afterLow, afterField, afterHead, stand-low, stand-field, stand-head}
 
 -- ---- lines that are judged in their own place

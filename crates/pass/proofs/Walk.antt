@@ -5,8 +5,7 @@ use mathlib.Core.List.{List, _++_}
 use Prim.Native.Nat.{ℕ, zero, suc, _+_, _-_, _≤_, _<_}
 use native.Mathlib.Omega.{arith}
 use lib.Dec.{eqb, leb}
-use lib.ListN.{length, drop, getD, replicate, length-append, length-drop}
-use lib.Seq.{length-take-le}
+use lib.ListN.{length, getD, replicate, length-append}
 use borrow.Author.Tests.{le-leb, lt-leb, eq-eqb, ne-eqb}
 use Rattle.laws.specs.Tests.{mark}
 use Rattle.laws.specs.Lists.{anyOf}
@@ -150,10 +149,6 @@ module _ (j : Basis) (b : Block) (w : Wait) (n m : ℕ) (r : Read) {c : Course} 
 
   pub end-faults : byFaults j c w n m r (cl .kc) (cl .span) gm ≡ closeFaults j b w n m r cl₀
   end-faults = shut-faults j c (b .counts) (b .sums) w n m r ec eg ∙ (λ i. closeFaults j (account-is i) w n m r cl₀)
-
--- what `&s[at..end]` has
-pub span-long : {s : List ℕ} {at : ℕ} {f : Found} → IsNext s at f → f .end - at ≡ length (span at (f .end) s)
-span-long {s} {at} {f} N = sym (length-take-le (f .end - at) (drop at s) (omega (arith, length-drop at s, N .starts, N .closes, N .within)))
 
 -- a field's identifier
 pub ident-few : (s : List ℕ) {x : Kind} → x ≡ kindOf s → (i : ℕ) → x ≡ Field i → i < 1296

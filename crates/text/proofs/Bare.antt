@@ -67,6 +67,10 @@ pub decimal-length : (v : ℕ) → length (decimal v) ≤ 20
 unfolding decimal
 decimal-length v = omega (arith, bare-length (digits 20 v), length-digits 20 v)
 
+-- .. so 20 bytes have room for it
+pub room-for : (v at n : ℕ) → at + 20 ≤ n → at + length (decimal v) ≤ n
+room-for v at n h = omega (arith, h, decimal-length v)
+
 -- .. no longer than a width that holds the number
 pub decimal-within : (n v : ℕ) → n ≤ 19 → v < 10 ^ suc n → length (decimal v) ≤ suc n
 decimal-within n v l h = omega (arith, ap length (width-free n v l h), bare-length (digits (suc n) v), length-digits (suc n) v)

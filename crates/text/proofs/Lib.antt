@@ -8,3 +8,4 @@ pub mod Wrote
 pub mod Pieces
 pub mod Matching
 pub mod Bare
+pub mod Shortest

@@ -9,7 +9,7 @@ use Rattle.fields.specs.Classes.{classOf}
 use Rattle.fields.specs.Codes.{codeOf}
 use Rattle.fields.specs.Readings.{textOf, readingOf}
 use Rattle.lines.specs.Reading.{span, IsNext}
-use Rattle.lines.proofs.Reading.{is-next}
+use Rattle.lines.proofs.Reading.{is-next, span-long}
 use Rattle.rules.specs.Faults.{Fault}
 use Rattle.ledger.specs.Marks.{marked}
 use Rattle.blocks.specs.Model.{blockOf}
@@ -17,7 +17,7 @@ use Rattle.account.specs.Model.{groupsOn}
 use Rattle.judging.specs.Opening.{lowOpen, readAs, closeClaims}
 use Rattle.judging.proofs.Sets.{lineMarks}
 use Rattle.shutting.proofs.Waiting.{entered-list}
-use Rattle.pass.proofs.Walk.{own-at, claims-closed, claims-kept, groups-took, groups-left, shut-block, shut-wait, shut-faults, own-above, own-inside, own-plain, span-long, ident-few}
+use Rattle.pass.proofs.Walk.{own-at, claims-closed, claims-kept, groups-took, groups-left, shut-block, shut-wait, shut-faults, own-above, own-inside, own-plain, ident-few}
 use Rattle.pass.proofs.Feeding.{Feeding, bounded-room, bounded-tail, feed-start, feed-close, feed-end, feed-other, feed-more, feed-field, feed-head}
 use borrow.Author.Needs.{needs}
 use Rattle.pass.proofs.feed.Statement.{statement}

@@ -1,6 +1,7 @@
 use Rattle.text.proofs.Wrote.{then}
 use Rattle.listing_texts.specs.Printing.{refusedText}
-use Rattle.listing_texts.proofs.Listings.{room-for, at-start}
+use Rattle.text.proofs.Bare.{room-for}
+use Rattle.listing_texts.proofs.Listings.{at-start}
 use Rattle.listing_texts.proofs.printing.put_refused.Statement.{statement}
 use borrow.Author.Needs.{needs}
 use Rattle.listing_texts.proofs.printing.put_refused.Tie as tie
