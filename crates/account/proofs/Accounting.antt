@@ -38,11 +38,11 @@ use Rattle.account.specs.Model.{plusAt, countsAfter, sumsAfter, kcBlock,
 use Rattle.account.specs.Summary.{priorityFirst, dayFirst, numberFirst, numberLast, ten, summary, marksBy}
 use Rattle.account.proofs.Ten.{cap-cap, get-ten, set-ten, same-ten}
 
--- ---- the accounting day, reckoned once; `same-eight` is what `breaks_eight` says
+-- ---- the accounting day, reckoned once: what `breaks_eleven` and `breaks_eight` say
 not-past : (n days : ℕ) → ltb (n + days) n ≡ false
 not-past n days = le-ltb (n + days) n (omega arith)
 
-same-eleven : (terms : Terms) (h : Heading) → breaks11 (basisOf terms) (h .day) ≡ rule11 terms h
+pub same-eleven : (terms : Terms) (h : Heading) → breaks11 (basisOf terms) (h .day) ≡ rule11 terms h
 unfolding breaks11 basisOf
 same-eleven terms h = go (eqb (h .day) (terms .today)) refl
   where

@@ -1,3 +1,3 @@
-mod Ten
+pub mod Ten
 pub mod Accounting
 pub mod Parts

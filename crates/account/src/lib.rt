@@ -52,7 +52,7 @@ pub fn closes_block(head: Read) -> bool
 }
 
 // One amount more in the group of a type.
-fn add_amount(counts: &mut [u64; 10], sums: &mut [u64; 10], kind: u32, amount: u64)
+pub fn add_amount(counts: &mut [u64; 10], sums: &mut [u64; 10], kind: u32, amount: u64)
     ensures { λ _. ⌜ now (counts .exit) ≡ plusAt countCap (now (counts .entry)) (groupOf kind) 1 ⌝ }
     ensures { λ _. ⌜ now (sums .exit) ≡ plusAt sumCap (now (sums .entry)) (groupOf kind) amount ⌝ }
 {

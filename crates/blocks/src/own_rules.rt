@@ -90,7 +90,7 @@ pub fn breaks_nine(kind: u32, amount: Amount) -> bool
     (kind == 32) & (100000000000 < amount.0)
 }
 
-fn breaks_eleven(basis: Basis, day: u32) -> bool
+pub fn breaks_eleven(basis: Basis, day: u32) -> bool
     ensures { λ r. ⌜ r ≡ breaks11 basis day ⌝ }
 {
     if day == basis.day {
@@ -119,7 +119,7 @@ pub fn has_no_kc(kc: FirstKc) -> bool
     }
 }
 
-fn breaks_fifteen(kind: u32, kc: FirstKc) -> bool
+pub fn breaks_fifteen(kind: u32, kc: FirstKc) -> bool
     ensures { λ r. ⌜ r ≡ breaks15 kind kc ⌝ }
 {
     let none = has_no_kc(kc);

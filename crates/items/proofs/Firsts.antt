@@ -24,7 +24,7 @@ use Rattle.items.specs.Claims.{kcKept, noClaims, spanKept, statedKept, g
 use Rattle.items.proofs.Turned.{firstUp}
 
 -- ---- the first KC
-kc-first : (r : Reading) (k : FirstKc) → kcKept (kcBy r) k ≡ kcBy r
+pub kc-first : (r : Reading) (k : FirstKc) → kcKept (kcBy r) k ≡ kcBy r
 kc-first Broken k = refl
 kc-first Plain k = refl
 kc-first (Paid a d) k = refl

@@ -69,7 +69,7 @@ pub fn no_pend() -> Pend
 }
 
 // Whether a field of a class may not go on with so many continuations, the last of so many bytes.
-fn breaks_tail(class: u8, tail: u32, length: usize) -> bool
+pub fn breaks_tail(class: u8, tail: u32, length: usize) -> bool
     ensures { λ r. ⌜ r ≡ breaksTail class tail length ⌝ }
 {
     (((class == 2) | (class == 3)) | ((class == 5) | (class == 6)))
@@ -140,7 +140,7 @@ fn halves_marks(h: Halves) -> u64
 }
 
 // 6 to 9, 23 and 24; 8 and 9 only where it is the item's first KC, and the heading reads.
-fn said_marks(basis: Basis, first: bool, reads: bool, h: Heading, said: Reading) -> u64
+pub fn said_marks(basis: Basis, first: bool, reads: bool, h: Heading, said: Reading) -> u64
     ensures { λ r. ⌜ (r ≡ saidMarks basis first (readAs reads h) said) × (r ≤ 2 ^ 25) ⌝ }
 {
     match said {
