@@ -49,7 +49,7 @@ small-of n l₁ g₁ l₂ g₂ l₃ g₃ x p e u v w = go x p e
     go false true q = below l₂ g₂ v q
     go false false q = below l₁ g₁ u q
 
-small-number : (kind n : ℕ) → inClass kind n ≡ true → n < 10000000
+pub small-number : (kind n : ℕ) → inClass kind n ≡ true → n < 10000000
 unfolding inClass
 small-number kind n e = small-of n _ _ _ _ _ _ (eqb kind 44) (isPriority kind) e (omega arith) (omega arith) (omega arith)
 
