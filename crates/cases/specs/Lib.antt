@@ -1,3 +1,4 @@
 pub mod Cases
 pub mod EachRule
 pub mod Requested
+pub mod Deliveries

@@ -1,7 +1,7 @@
 // The C face: numbers and bytes only. Each function answers 0, or the number of the refusal by document 01 or 02, and a refusal leaves
 // everything behind the pointers as it was: a total or an answer is stored where nothing is refused, and is never loaded. The promises
 // are those of the jobs below, said with numbers, and each function is one call of the crate that proves them: `checking_face`,
-// `heading_face`, `account_face`, `sheet_face`, `register_face`, `portions_face`, and `sheet` for a turnover's text.
+// `heading_face`, `account_face`, `sheet_face`, `register_face`, `portions_face`, and `showing` for a turnover's text.
 ghost use Rattle.showing.specs.Shown.{Shows};
 ghost use Rattle.checking_face.specs.Face.{TotalAt, CheckedAt};
 ghost use Rattle.heading_face.specs.Face.{ToldAt, DerivedAt};
