@@ -1,6 +1,8 @@
 //! The proved library behind its C face (include/certis.h): safe wrappers, and
 //! the only unsafe code here. Both runners include this file.
 
+use second::deliver::Delivery;
+
 mod raw {
     #[link(name = "certis", kind = "static")]
     unsafe extern "C" {
@@ -124,6 +126,21 @@ mod raw {
             target: *mut u8,
             target_len: usize,
             written: *mut usize,
+        ) -> u32;
+
+        pub fn certis_deliver(
+            items: *const u8,
+            items_len: usize,
+            outcomes: *const u32,
+            outcomes_len: usize,
+            standings: *const u32,
+            standings_len: usize,
+            certis: u32,
+            day: u32,
+            start: u32,
+            target: *mut u8,
+            target_len: usize,
+            written: *mut u64,
         ) -> u32;
     }
 }
@@ -324,6 +341,27 @@ pub fn register_enter(
             file.len(),
             code,
             day,
+            target.as_mut_ptr(),
+            target_len,
+            written,
+        )
+    }
+}
+
+pub fn deliver(delivery: &Delivery, target: &mut [u8], written: &mut u64) -> u32 {
+    let Delivery { items, outcomes, standings, certis, day, start } = *delivery;
+    let target_len = target.len();
+    unsafe {
+        raw::certis_deliver(
+            items.as_ptr(),
+            items.len(),
+            outcomes.as_ptr(),
+            outcomes.len(),
+            standings.as_ptr(),
+            standings.len(),
+            certis,
+            day,
+            start,
             target.as_mut_ptr(),
             target_len,
             written,

@@ -12,6 +12,7 @@ pub mod account;
 pub mod characters;
 pub mod check;
 pub mod days;
+pub mod deliver;
 pub mod derive;
 pub mod fields;
 pub mod heading;

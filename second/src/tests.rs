@@ -1,5 +1,7 @@
-//! Whole files: document 01's marked cases here, the decisions of docs/DECISIONS.md in readings.rs.
+//! Whole files: document 01's marked cases here, the decisions of docs/DECISIONS.md in readings.rs,
+//! output files in delivering.rs.
 
+mod delivering;
 mod readings;
 
 use crate::check::{self, check};

@@ -63,6 +63,14 @@ fn of_size_by(mut author: Author, bytes: usize) -> Draft {
     }
 }
 
+/// The lines of one item under this heading, with an amount up to `most`.
+pub fn item(dice: &mut Dice, day: u32, heading: Heading, most: u64) -> Vec<Vec<u8>> {
+    let mut author = Author::new(dice);
+    (author.draft.day, author.most) = (day, most);
+    author.payment(heading, &mut (0, 0));
+    author.draft.lines
+}
+
 struct Author<'d> {
     dice: &'d mut Dice,
     draft: Draft,
@@ -120,6 +128,11 @@ impl<'d> Author<'d> {
         if heading.third != 0 {
             heading.third = self.code();
         }
+        self.payment(heading, total);
+    }
+
+    fn payment(&mut self, heading: Heading, total: &mut (u64, u64)) {
+        let kind = heading.kind;
         let amount = self.amount(kind, LARGEST_SUM - total.1);
         *total = (total.0 + 1, total.1 + amount);
         let mut fields = vec![self.amount_field(kind, amount)];

@@ -82,13 +82,23 @@ impl Draft {
         Sample { code: self.code, day: self.day, file: self.bytes() }
     }
 
+    /// The lines alone. An end mark stands there only before a leftover.
+    pub fn slice(&self) -> Vec<u8> {
+        if self.leftover.is_empty() { self.text() } else { self.bytes() }
+    }
+
     fn bytes(&self) -> Vec<u8> {
-        let mut bytes = self.lines.join(&b"\r\n"[..]);
-        if self.ended && !self.lines.is_empty() {
-            bytes.extend(b"\r\n");
-        }
+        let mut bytes = self.text();
         bytes.push(END_MARK);
         bytes.extend(&self.leftover);
         bytes
+    }
+
+    fn text(&self) -> Vec<u8> {
+        let mut text = self.lines.join(&b"\r\n"[..]);
+        if self.ended && !self.lines.is_empty() {
+            text.extend(b"\r\n");
+        }
+        text
     }
 }

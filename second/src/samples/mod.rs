@@ -3,6 +3,7 @@
 
 pub mod calendar;
 pub mod clean;
+pub mod deliveries;
 pub mod dice;
 pub mod draft;
 pub mod edges;

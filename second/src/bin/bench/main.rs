@@ -7,6 +7,7 @@
 #![deny(unsafe_code)]
 
 mod clock;
+mod deliver;
 mod ends;
 #[path = "../../face.rs"]
 #[allow(unsafe_code)]
@@ -47,6 +48,7 @@ fn main() {
     missed += portions::portions(rounds);
     missed += sheet::posting(rounds);
     missed += register::entering(rounds);
+    missed += deliver::delivering(rounds);
     println!("\ngoals missed: {missed}");
 }
 

@@ -6,12 +6,12 @@ use second::samples::dice::Dice;
 use crate::group::Group;
 use crate::judge::Judge;
 
-const OUTCOMES: [u32; 16] = [0, 1, 2, 3, 4, 5, 6, 7, 8, 9, 10, 255, 257, 263, 65_537, u32::MAX];
+pub const OUTCOMES: [u32; 16] = [0, 1, 2, 3, 4, 5, 6, 7, 8, 9, 10, 255, 257, 263, 65_537, u32::MAX];
 
-const STANDINGS: [u32; 6] = [0, 1, 2, 3, 257, u32::MAX];
+pub const STANDINGS: [u32; 6] = [0, 1, 2, 3, 257, u32::MAX];
 
 /// The ends of the three classes and beyond.
-const NUMBERS: [u32; 17] = [
+pub const NUMBERS: [u32; 17] = [
     0,
     1,
     2,

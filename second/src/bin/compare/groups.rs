@@ -9,6 +9,7 @@ use second::samples::mutations::ALL as MUTATIONS;
 use second::samples::soup;
 
 use crate::calls;
+use crate::deliveries;
 use crate::group::Group;
 use crate::judge::Judge;
 use crate::options::Options;
@@ -28,6 +29,7 @@ pub fn all(options: &Options) -> Vec<Group> {
     groups.extend(portions::all(options.files, options.large));
     groups.extend(sheets::all(options.files));
     groups.extend(registers::all(options.files));
+    groups.extend(deliveries::all(options.files));
     groups.extend(random_files(options.files));
     groups.push(large_files(options.large));
     groups
@@ -119,7 +121,7 @@ fn changed_bytes(judge: &mut Judge, dice: &mut Dice, _: u64) {
 fn changed_file(dice: &mut Dice) -> Sample {
     let mut sample = clean::small(dice).sample();
     for _ in 0..dice.range(1, 4) {
-        change_byte(&mut sample, dice);
+        change_byte(&mut sample.file, dice);
     }
     sample
 }
@@ -141,14 +143,14 @@ pub fn any_file(dice: &mut Dice) -> Sample {
     }
 }
 
-fn change_byte(sample: &mut Sample, dice: &mut Dice) {
-    let place = dice.place(sample.file.len());
+pub fn change_byte(bytes: &mut Vec<u8>, dice: &mut Dice) {
+    let place = dice.place(bytes.len());
     let byte = if dice.once_in(4) { dice.byte() } else { dice.pick(b"\r\n\x1a 0159:HDKCSAx\x7f") };
     match dice.below(3) {
-        0 => sample.file[place] = byte,
-        1 => sample.file.insert(place, byte),
+        0 => bytes[place] = byte,
+        1 => bytes.insert(place, byte),
         // A file of one byte is left alone: the next change needs a place.
-        _ if sample.file.len() > 1 => drop(sample.file.remove(place)),
+        _ if bytes.len() > 1 => drop(bytes.remove(place)),
         _ => {}
     }
 }

@@ -3,6 +3,7 @@
 
 use second::account::{self, Halves};
 use second::check;
+use second::deliver::{self, Delivery};
 use second::derive;
 use second::heading;
 use second::register::{self, Register};
@@ -262,6 +263,47 @@ impl Judge {
         }
     }
 
+    /// Delivers from slices with other bytes and numbers around them, into targets
+    /// of just the length, one byte less, and more.
+    pub fn parcel(&mut self, delivery: &Delivery, dice: &mut Dice) {
+        let (before, behind) = (dice.pick(&AROUND), dice.pick(&AROUND));
+        let memory = [before, delivery.items, behind].concat();
+        let around = |numbers: &[u32]| [&[1][..], numbers, &[1]].concat();
+        let (outcomes, standings) = (around(delivery.outcomes), around(delivery.standings));
+        let delivery = Delivery {
+            items: &memory[before.len()..memory.len() - behind.len()],
+            outcomes: &outcomes[1..outcomes.len() - 1],
+            standings: &standings[1..standings.len() - 1],
+            ..*delivery
+        };
+        let length = deliver::deliver(&delivery, usize::MAX).map_or(40, |file| file.len());
+        for room in [length + dice.place(60), length, length - 1, dice.place(length)] {
+            self.deliver(&delivery, room);
+        }
+    }
+
+    /// Delivers into a target of this length: the number, the length, the bytes
+    /// written and all others of the target.
+    pub fn deliver(&mut self, delivery: &Delivery, room: usize) {
+        const BEFORE: u64 = 0xC5C5_C5C5_C5C5_C5C5;
+        self.comparisons += 1;
+        let answer = deliver::deliver(delivery, room);
+        let number = answer.as_ref().err().copied().unwrap_or(0);
+        self.tally.delivery_answer(number);
+        let file = answer.as_deref().unwrap_or(&[]);
+        let length = answer.as_ref().map_or(BEFORE, |file| file.len() as u64);
+        if file.len() > delivery_most(delivery) {
+            self.fail(|| format!("{} bytes are not always enough", delivery_most(delivery)));
+        }
+        let mut target = Lent::new(room, 0xA5);
+        let mut written = BEFORE;
+        let found = face::deliver(delivery, target.lend(), &mut written);
+        if (found, written) != (number, length) || !target.holds(file.iter().copied()) {
+            let found = (found, written, &*target.lend());
+            self.fail(|| report::delivered(delivery, (number, length, file), found));
+        }
+    }
+
     pub fn show(&mut self, turnover: i64) {
         self.comparisons += 1;
         let expected = sheet::show(turnover);
@@ -271,6 +313,11 @@ impl Judge {
             self.fail(|| report::shown_turnover(turnover, &expected, found, text.lend()));
         }
     }
+}
+
+/// What the header says is always enough for an output file.
+fn delivery_most(delivery: &Delivery) -> usize {
+    delivery.items.len() + 9 * delivery.outcomes.len() + 400
 }
 
 fn verdict(Job { code, day, file }: Job) -> Verdict {

@@ -7,6 +7,7 @@
 #![deny(unsafe_code)]
 
 mod calls;
+mod deliveries;
 #[path = "../../face.rs"]
 #[allow(unsafe_code)]
 mod face;
@@ -161,7 +162,7 @@ fn finish(entries: &[Entry], is_whole: bool) -> ExitCode {
     let mut failed = entries.iter().filter(|entry| entry.judge.failed > 0).count();
     let mut groups = entries.len();
     if is_whole {
-        groups += 5;
+        groups += 6;
         failed += usize::from(is_missing("rules", &all.tally.missing_rules()));
         failed += usize::from(is_missing("refusals", &all.tally.missing_refusals()));
         let missing = all.tally.missing_portion_answers();
@@ -170,6 +171,8 @@ fn finish(entries: &[Entry], is_whole: bool) -> ExitCode {
         failed += usize::from(is_missing("answers of the sheet", &missing));
         let missing = all.tally.missing_register_answers();
         failed += usize::from(is_missing("answers of the register", &missing));
+        let missing = all.tally.missing_delivery_answers();
+        failed += usize::from(is_missing("answers of delivering", &missing));
     }
     println!("{} comparisons in {groups} groups", all.comparisons);
     println!("{} passed, {failed} failed", groups - failed);

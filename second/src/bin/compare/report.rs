@@ -3,6 +3,7 @@
 
 use second::account::Halves;
 use second::check::Record;
+use second::deliver::Delivery;
 use second::samples::{Job, Sample};
 
 use crate::state::Call;
@@ -161,6 +162,36 @@ pub fn register(call: &str, expected: (u32, &[u8]), found: (u32, &[u8])) -> Stri
         shown(expected.1),
         found.0,
         shown(found.1)
+    )
+}
+
+/// Number, length and bytes, from shortly before the place where they part.
+pub fn delivered(
+    delivery: &Delivery,
+    expected: (u32, u64, &[u8]),
+    found: (u32, u64, &[u8]),
+) -> String {
+    let Delivery { items, outcomes, standings, certis, day, start } = *delivery;
+    let few = |numbers: &[u32]| format!("{:?}", &numbers[..numbers.len().min(40)]);
+    let same = expected.2.iter().zip(found.2).take_while(|(one, other)| one == other).count();
+    let from = |bytes: &[u8]| shown(&bytes[same.saturating_sub(60)..]);
+    format!(
+        "certis_deliver for {certis}, day {day}, start {start}, target of {} bytes\n  \
+         {} outcomes {}\n  {} standings {}\n  {} bytes of items {}\n  \
+         expected {} {} {}\n  found {} {} {}",
+        found.2.len(),
+        outcomes.len(),
+        few(outcomes),
+        standings.len(),
+        few(standings),
+        items.len(),
+        shown(items),
+        expected.0,
+        expected.1,
+        from(expected.2),
+        found.0,
+        found.1,
+        from(found.2),
     )
 }
 

@@ -13,6 +13,8 @@ pub struct Tally {
     sheet_answers: [u64; 23],
     /// Answers of a new register and of entering, 0 where one was written.
     register_answers: [u64; 30],
+    /// Answers of delivering, 0 where an output file was written.
+    delivery_answers: [u64; 35],
 }
 
 /// Every rule and every refusal that the C face can give.
@@ -23,6 +25,7 @@ const PORTION_ANSWERS: [std::ops::RangeInclusive<usize>; 4] = [0..=3, 5..=6, 9..
 /// Checking's own among them; no rooms are lent, so 4 cannot be.
 const SHEET_ANSWERS: [std::ops::RangeInclusive<usize>; 4] = [0..=3, 5..=6, 9..=9, 19..=22];
 const REGISTER_ANSWERS: [std::ops::RangeInclusive<usize>; 4] = [0..=3, 5..=6, 9..=9, 23..=29];
+const DELIVERY_ANSWERS: [std::ops::RangeInclusive<usize>; 2] = [0..=2, 30..=34];
 
 impl Tally {
     pub fn new() -> Self {
@@ -32,6 +35,7 @@ impl Tally {
             portion_answers: [0; 19],
             sheet_answers: [0; 23],
             register_answers: [0; 30],
+            delivery_answers: [0; 35],
         }
     }
 
@@ -57,6 +61,10 @@ impl Tally {
         self.register_answers[number as usize] += 1;
     }
 
+    pub fn delivery_answer(&mut self, number: u32) {
+        self.delivery_answers[number as usize] += 1;
+    }
+
     pub fn add(&mut self, other: &Tally) {
         for (sum, more) in self.rules.iter_mut().zip(other.rules) {
             *sum += more;
@@ -71,6 +79,9 @@ impl Tally {
             *sum += more;
         }
         for (sum, more) in self.register_answers.iter_mut().zip(other.register_answers) {
+            *sum += more;
+        }
+        for (sum, more) in self.delivery_answers.iter_mut().zip(other.delivery_answers) {
             *sum += more;
         }
     }
@@ -103,6 +114,12 @@ impl Tally {
         numbers.filter(|&number| self.register_answers[number] == 0).collect()
     }
 
+    /// The answers of delivering that were never given.
+    pub fn missing_delivery_answers(&self) -> Vec<usize> {
+        let numbers = DELIVERY_ANSWERS.into_iter().flatten();
+        numbers.filter(|&number| self.delivery_answers[number] == 0).collect()
+    }
+
     pub fn print(&self) {
         println!("\nhow often the reference met each rule:");
         print_table(RULES.into_iter().flatten().map(|rule| (rule, self.rules[rule])));
@@ -117,6 +134,9 @@ impl Tally {
         println!("and each answer of the register, 0 where one was written:");
         let numbers = REGISTER_ANSWERS.into_iter().flatten();
         print_table(numbers.map(|number| (number, self.register_answers[number])));
+        println!("and each answer of delivering, 0 where a file was written:");
+        let numbers = DELIVERY_ANSWERS.into_iter().flatten();
+        print_table(numbers.map(|number| (number, self.delivery_answers[number])));
     }
 }
 
