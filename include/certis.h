@@ -28,7 +28,7 @@
 
 /* The first number changes where a host that was written for an older header
  * must change its calls. */
-#define CERTIS_VERSION "3.1"
+#define CERTIS_VERSION "3.2"
 
 /* The most bytes of a file that is checked, and the bytes of a heading. */
 #define CERTIS_FILE_MOST 10000000
@@ -62,7 +62,12 @@ enum certis_refusal {
     CERTIS_FAULTS_ENTERED = 26, /* the file that is to be entered has faults */
     CERTIS_USED_ALREADY = 27,  /* a number is used already, in the register or twice in the file */
     CERTIS_MANY_RANGES = 28,   /* more than CERTIS_RANGES ranges would remain */
-    CERTIS_SHORT_REGISTER = 29 /* the target is too short for the register */
+    CERTIS_SHORT_REGISTER = 29, /* the target is too short for the register */
+    CERTIS_BAD_COUNT = 30,     /* no items, more than CERTIS_ITEMS_MOST, or not an outcome and a standing each */
+    CERTIS_BAD_ITEM = 31,      /* an item breaks a rule, cannot be derived, or goes to nobody or to another */
+    CERTIS_MIXED = 32,         /* priority or 44 and 84 are mixed with others */
+    CERTIS_LARGE_DELIVERY = 33, /* a sum is 10^17 or more, or the output file too long */
+    CERTIS_SHORT_DELIVERY = 34 /* the target is too short for the output file */
 };
 
 /* The rules of documents 01 and 02, as checking lists them. */
@@ -452,6 +457,50 @@ uint32_t certis_register_enter(const uint8_t *reg, size_t reg_len,
                                uint32_t code, uint32_t day,
                                uint8_t *target, size_t target_len,
                                size_t *written);
+
+/* Writing an output file.
+ *
+ * Takes a slice of input items that all go to one participant, an outcome and
+ * the sender's standing for each of them, and writes one output file of one
+ * block: of each item the heading that certis_derive would write, with the
+ * output numbers start, start + 1 and so on, and its other lines unaltered; then
+ * a 51 of the accounting day with the CERTIS code first and the recipient
+ * second, an IN over the output numbers, an S line for each group of output
+ * types that is not empty, and the byte 1A. Sets *written to the length of the
+ * file; a longer target keeps its bytes behind it.
+ *
+ * The slice is cut into lines as a file is, but it has no end mark: its last
+ * line too ends in CR LF. outcomes[i] and standings[i] are those of the item of
+ * the slice's heading i, counted from 0. They are certis_tell's, and there is one
+ * outcome more, CERTIS_CHECKLIST, a refusal by the checklist: it derives as 6
+ * does, and the item's EC, if it has one, becomes EC:9999999999.
+ *
+ * Refusals, the first that applies:
+ *   1   the CERTIS code is not 1 to 9999
+ *   2   the day is not a real day from 20000101 to 20991231
+ *   30  the slice has no heading, or more than CERTIS_ITEMS_MOST; or there are
+ *       not as many outcomes as headings, or not as many standings
+ *   31  a line breaks a rule from 1 to 15 other than 12, or 23 or 24, by the
+ *       accounting day; or certis_derive would refuse an item with 11 to 15; or
+ *       an item's recipient is not 1 to 9999, or is not the first item's
+ *   32  the type of an item is one of priority (01, 21, 44, 45) and the first's
+ *       is not, or the other way round; or its output type is 44 or 84 and the
+ *       first's is not, or the other way round
+ *   33  the sum of a group is 10^17 or more, or the file would have more than
+ *       4,000,000,000 bytes
+ *   34  the target is too short; CERTIS_DELIVERY_MOST(items_len, outcomes_len)
+ *       bytes always are enough
+ */
+#define CERTIS_CHECKLIST 8
+#define CERTIS_ITEMS_MOST 30000
+#define CERTIS_DELIVERY_MOST(items_len, items) ((items_len) + 9 * (size_t)(items) + 400)
+
+uint32_t certis_deliver(const uint8_t *items, size_t items_len,
+                        const uint32_t *outcomes, size_t outcomes_len,
+                        const uint32_t *standings, size_t standings_len,
+                        uint32_t certis, uint32_t day, uint32_t start,
+                        uint8_t *target, size_t target_len,
+                        uint64_t *written);
 
 #ifdef __cplusplus
 }

@@ -8,7 +8,7 @@
 
 int printf(const char *format, ...);
 
-enum { ROUNDS = 50000, PORTIONS = 5000, SHEETS = 5000, REGISTERS = 5000, ROOM = 32, HEADING = 54, ONE_RANGE = 25 };
+enum { ROUNDS = 50000, PORTIONS = 5000, SHEETS = 5000, REGISTERS = 5000, DELIVERIES = 20000, ROOM = 32, HEADING = 54, ONE_RANGE = 25 };
 
 #define L(text) text "\r\n"
 
@@ -30,6 +30,15 @@ static const char FILE_TEXT[] =
     "\x1A";
 
 enum { FILE_LENGTH = sizeof FILE_TEXT - 1 };
+
+static const char ITEMS_TEXT[] =
+    L("HD:12 20240304 0000300 0000017 0000710 0000000 0000000")
+    L("KC:12500 20240304")
+    L("EC:5")
+    L("HD:35 20240304 0000990 0000009 0000820 0000000 0000300")
+    L("KC:7 20240304");
+
+enum { ITEMS_LENGTH = sizeof ITEMS_TEXT - 1, DELIVERED = 280 };
 
 static uint64_t state = 20240304;
 
@@ -208,6 +217,31 @@ static void enter_one(struct tally *tally)
     }
 }
 
+/* Delivers two items; the second goes to the first's recipient but where it was changed. */
+static void deliver_one(struct tally *tally)
+{
+    uint8_t items[ITEMS_LENGTH];
+    uint32_t outcomes[2];
+    uint32_t standings[2];
+    uint8_t target[DELIVERED] = { 0 };
+    uint64_t written = 0;
+    vary(items, ITEMS_TEXT, ITEMS_LENGTH);
+    outcomes[0] = 6 + below(3);
+    outcomes[1] = 1 + below(8) / 7;
+    standings[0] = 1 + below(16) / 15;
+    standings[1] = 1 + below(2);
+    uint32_t day = 20240300 + below(16);
+    uint32_t start = below(5000100);
+    size_t room = DELIVERED - below(50);
+    uint32_t refusal = certis_deliver(items, ITEMS_LENGTH, outcomes, 2, standings, 2, 999, day, start, target, room, &written);
+    tally->answered += refusal == 0;
+    fold(tally, refusal);
+    fold(tally, written);
+    for (size_t i = 0; i < DELIVERED; i++) {
+        fold(tally, target[i]);
+    }
+}
+
 int main(void)
 {
     struct tally files = { 0 };
@@ -216,6 +250,7 @@ int main(void)
     struct tally accounts = { 0 };
     struct tally sheets = { 0 };
     struct tally registers = { 0 };
+    struct tally deliveries = { 0 };
     for (int round = 0; round < ROUNDS; round++) {
         check_one(&files);
         derive_one(&headings);
@@ -230,11 +265,15 @@ int main(void)
     for (int round = 0; round < REGISTERS; round++) {
         enter_one(&registers);
     }
+    for (int round = 0; round < DELIVERIES; round++) {
+        deliver_one(&deliveries);
+    }
     show("files", files);
     show("portions", portions);
     show("headings", headings);
     show("accounts", accounts);
     show("sheets", sheets);
     show("registers", registers);
+    show("deliveries", deliveries);
     return 0;
 }

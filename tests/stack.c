@@ -117,6 +117,18 @@ static void *enter(void *ignored)
     return ignored;
 }
 
+static void *deliver(void *ignored)
+{
+    static const char items[] = "HD:12 20240304 0000300 0000017 0000710 0000000 0000000\r\nKC:12500 20240304\r\nEC:5\r\n"
+                                "HD:35 20240304 0000990 0000009 0000820 0000000 0000300\r\nKC:7 20240304\r\n";
+    static const uint32_t outcomes[] = { CERTIS_CHECKLIST, 1 };
+    static const uint32_t standings[] = { 1, 2 };
+    static uint8_t target[CERTIS_DELIVERY_MOST(sizeof items, 2)];
+    uint64_t written = 0;
+    certis_deliver((const uint8_t *)items, sizeof items - 1, outcomes, 2, standings, 2, 999, 20240304, 42, target, sizeof target, &written);
+    return ignored;
+}
+
 /* The bytes of stack that a thread with this job uses; ROOM if it cannot run. */
 static size_t used_by(void *(*job)(void *))
 {
@@ -163,7 +175,7 @@ int main(int count, char **words)
         { "certis_portions_close", close_portions, 16 << 10 },
         { "certis_tell", tell, 16 << 10 },       { "certis_derive", derive, 16 << 10 },
         { "certis_account", account, 16 << 10 }, { "certis_sheet_post", post, 16 << 10 },
-        { "certis_register_enter", enter, 2 << 20 },
+        { "certis_register_enter", enter, 2 << 20 }, { "certis_deliver", deliver, 16 << 10 },
     };
     unsigned passed = 0;
     unsigned failed = 0;

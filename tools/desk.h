@@ -38,6 +38,7 @@ static inline int worse(int status, int other)
 
 /* The subcommands. */
 int desk_account(int count, char **words);
+int desk_deliver(int count, char **words);
 int desk_derive(int count, char **words);
 int desk_list(int count, char **words);
 int desk_register(int count, char **words);

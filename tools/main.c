@@ -22,6 +22,7 @@ struct command {
 
 static const struct command COMMANDS[] = {
     { "account", desk_account, "checks account numbers" },
+    { "deliver", desk_deliver, "writes an output file from input items and what became of them" },
     { "derive", desk_derive, "writes the heading that an outcome makes of an input heading" },
     { "list", desk_list, "lists the faults of input files" },
     { "register", desk_register, "keeps the numbers that a participant has used" },

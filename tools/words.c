@@ -68,6 +68,11 @@ static const char *const REFUSALS[] = {
     [27] = "A number of the file is used already, in the register or twice in the file.",
     [28] = "The register would have more than 1,024 ranges.",
     [29] = "The room for the register is too short.",
+    [30] = "There are no items, more than 30,000, or not one outcome and one standing for each.",
+    [31] = "An item breaks a rule, cannot be derived as asked, or does not go where the first one goes.",
+    [32] = "Items of priority, or items that go out as 44 or 84, are mixed with others.",
+    [33] = "A sum is over 999999999999999.99, or the output file would have more than 4,000,000,000 bytes.",
+    [34] = "The room for the output file is too short.",
 };
 
 static const char *const OUTCOMES[] = {
