@@ -3,14 +3,15 @@
 use Prim.Native.Nat.{ℕ, _+_, _-_, _*_, _≤_, _<_}
 use native.Mathlib.Omega.{arith}
 use mathlib.Core.Path.{_≡_, refl, sym, ap, _∙_, subst}
-use mathlib.Core.Bool.{Bool, true, false, cond, _&&_, _||_, or-false, or-assoc, false≢true}
+use mathlib.Core.Bool.{Bool, true, false, cond, not, _&&_, _||_, and-false, or-false, or-assoc, false≢true}
 use mathlib.Core.List.{List, [], _∷_}
 use mathlib.Core.Logic.{_⊎_, inl, inr}
 use lib.Dec.{eqb, leb, ltb}
 use borrow.Author.Tests.{ltb-true, ltb-false, leb-true, eqb-true, eq-eqb, lt-ltb, le-leb}
+use Rattle.days.specs.Days.{later}
 use Rattle.laws.proofs.Truth.{and-parts, both-hold, one-holds, first-holds, second-holds, both-ways}
 use Rattle.register.specs.Register.{Range, apart, inOrder}
-use Rattle.register.specs.Entering.{Use, holds, standsIn, join, add, addAll}
+use Rattle.register.specs.Entering.{Use, kept, holds, standsIn, join, add, addAll}
 use Rattle.register.specs.Spans.{Span, dayKey, useKey, spanOf, spansOf, useKeys, Has, Strung, joinSpan, addSpan, addKeys, Fit, Fits, Sound}
 use Rattle.register.proofs.Spans as spans
 
@@ -42,7 +43,7 @@ touch-key d l e f hl h1 hf = both-ways _ _ to from
     from : eqb (dayKey d l + 1) (dayKey e f) ≡ true → (eqb d e && eqb (l + 1) f) ≡ true
     from p = let x = eqb-true (dayKey d l + 1) (dayKey e f) p in both-hold _ _ (eq-eqb d e (omega arith)) (eq-eqb (l + 1) f (omega arith))
 
-turned : (d e : ℕ) → eqb d e ≡ eqb e d
+pub turned : (d e : ℕ) → eqb d e ≡ eqb e d
 turned d e = both-ways _ _ (λ p. eq-eqb e d (sym (eqb-true d e p))) (λ p. eq-eqb d e (sym (eqb-true e d p)))
 
 reach-key : (d m e n : ℕ) → m ≤ 9999999 → n ≤ 9999999 → e ≤ d → (eqb d e && leb m n) ≡ leb (dayKey d m) (dayKey e n)
@@ -176,9 +177,22 @@ has-holds (r ∷ rs) u S F (inl i) =
     (both-hold (leb (r .first) (u .number)) (leb (u .number) (r .last)) (le-leb (r .first) (u .number) (omega (arith, d, i .0))) (le-leb (u .number) (r .last) (omega (arith, d, i .1)))))
 has-holds (r ∷ rs) u S F (inr i) = second-holds (inRange r u) (holds rs u) (has-holds rs u (S .3) F i)
 
--- held with one number more is that number and what was held before, and nothing else
-pub members : (u v : Use) (rs : List Range) → Fit u → Fit v → Sound rs → inOrder rs ≡ true → holds (add u rs) v ≡ (holds rs v || (eqb (u .day) (v .day) && eqb (u .number) (v .number)))
-members u v rs F G S e = both-ways (holds (add u rs) v) (holds rs v || same) to from
+-- no other numbers are held
+held-fits : (rs : List Range) (v : Use) → Sound rs → holds rs v ≡ true → Fit v
+held-fits [] v S e = absurd (false≢true e)
+held-fits (r ∷ rs) v S e = go (one-holds (inRange r v) (holds rs v) e) (λ q. held-fits rs v (S .3) q)
+  where
+    go : (inRange r v ≡ true) ⊎ (holds rs v ≡ true) → (holds rs v ≡ true → Fit v) → Fit v
+    go (inl h) ih =
+        let a = and-parts (eqb (r .day) (v .day)) (leb (r .first) (v .number) && leb (v .number) (r .last)) h in
+        let b = and-parts (leb (r .first) (v .number)) (leb (v .number) (r .last)) (a .1) in
+        let f = leb-true (r .first) (v .number) (b .0) in
+        let l = leb-true (v .number) (r .last) (b .1) in
+        (omega (arith, f, S .0), omega (arith, l, S .2))
+    go (inr h) ih = ih h
+
+members-fit : (u v : Use) (rs : List Range) → Fit u → Fit v → Sound rs → inOrder rs ≡ true → holds (add u rs) v ≡ (holds rs v || (eqb (u .day) (v .day) && eqb (u .number) (v .number)))
+members-fit u v rs F G S e = both-ways (holds (add u rs) v) (holds rs v || same) to from
   where
     same : Bool
     same = eqb (u .day) (v .day) && eqb (u .number) (v .number)
@@ -204,6 +218,35 @@ members u v rs F G S e = both-ways (holds (add u rs) v) (holds rs v || same) to 
             let n = eqb-true (u .number) (v .number) (b .1) in
             let k : useKey u ≡ useKey v = omega arith in
             subst (λ (j : ℕ). Has (addSpan (useKey u) (spansOf rs)) j) k (spans.member-own 0 (useKey u) (spansOf rs) O)
+
+-- held with one number more is that number and what was held before, and nothing else
+pub members : (u v : Use) (rs : List Range) → Fit u → Sound rs → inOrder rs ≡ true → holds (add u rs) v ≡ (holds rs v || (eqb (u .day) (v .day) && eqb (u .number) (v .number)))
+members u v rs F S e =
+    both-ways (holds (add u rs) v) (holds rs v || (eqb (u .day) (v .day) && eqb (u .number) (v .number)))
+    (λ p. sym (members-fit u v rs F (held-fits (add u rs) v (add-sound u rs F S) p) S e) ∙ p)
+    (λ p. members-fit u v rs F (fit (one-holds (holds rs v) (eqb (u .day) (v .day) && eqb (u .number) (v .number)) p)) S e ∙ p)
+  where
+    fit : (holds rs v ≡ true) ⊎ ((eqb (u .day) (v .day) && eqb (u .number) (v .number)) ≡ true) → Fit v
+    fit (inl q) = held-fits rs v S q
+    fit (inr q) = let n = eqb-true (u .number) (v .number) (and-parts (eqb (u .day) (v .day)) (eqb (u .number) (v .number)) q .1) in (omega (arith, n, F .0), omega (arith, n, F .1))
+
+-- of the ranges that stay: what was held of the days that are not dropped
+pub kept-members : (today : ℕ) (rs : List Range) (v : Use) → holds (kept today rs) v ≡ (holds rs v && not (later today (v .day) 10))
+kept-members today [] v = refl
+kept-members today (r ∷ rs) v = go (inRange r v) refl (later today (r .day) 10) refl (kept-members today rs v)
+  where
+    same-day : inRange r v ≡ true → (x : Bool) → later today (r .day) 10 ≡ x → later today (v .day) 10 ≡ x
+    same-day p x q = let d = eqb-true (r .day) (v .day) (and-parts (eqb (r .day) (v .day)) (leb (r .first) (v .number) && leb (v .number) (r .last)) p .0) in ap (λ (d : ℕ). later today d 10) (sym d) ∙ q
+
+    go : (y : Bool) → inRange r v ≡ y → (x : Bool) → later today (r .day) 10 ≡ x → holds (kept today rs) v ≡ (holds rs v && not (later today (v .day) 10))
+        → holds (cond x (kept today rs) (r ∷ kept today rs)) v ≡ ((inRange r v || holds rs v) && not (later today (v .day) 10))
+    go true p true q ih =
+        let l = same-day p true q in
+        ih ∙ ap (λ (b : Bool). holds rs v && not b) l ∙ and-false (holds rs v)
+        ∙ sym (ap (λ (b : Bool). (inRange r v || holds rs v) && not b) l ∙ and-false (inRange r v || holds rs v))
+    go true p false q ih = let l = same-day p false q in rw (p, l)
+    go false p true q ih = ih ∙ sym (ap (λ (b : Bool). (b || holds rs v) && not (later today (v .day) 10)) p)
+    go false p false q ih = ap (λ (b : Bool). b || holds (kept today rs) v) p ∙ ih ∙ sym (ap (λ (b : Bool). (b || holds rs v) && not (later today (v .day) 10)) p)
 
 -- ---- determined by their members
 -- a number that spans of ranges hold is the key of a day and a number
@@ -268,8 +311,8 @@ pub all-spans : (us : List Use) (rs : List Range) → Fits us → Sound rs → s
 all-spans [] rs F S = refl
 all-spans (u ∷ us) rs F S = all-spans us (add u rs) (F .1) (add-sound u rs (F .0) S) ∙ ap (addKeys (useKeys us)) (add-spans u rs (F .0) S)
 
-pub all-members : (us : List Use) (v : Use) (rs : List Range) → Fits us → Fit v → Sound rs → inOrder rs ≡ true → holds (addAll us rs) v ≡ (holds rs v || standsIn v us)
-all-members [] v rs F G S e = sym (or-false (holds rs v))
-all-members (u ∷ us) v rs F G S e =
-    all-members us v (add u rs) (F .1) G (add-sound u rs (F .0) S) (ordered u rs (F .0) S e)
-    ∙ rw (members u v rs (F .0) G S e, turned (u .day) (v .day), turned (u .number) (v .number)) (or-assoc (holds rs v) (eqb (v .day) (u .day) && eqb (v .number) (u .number)) (standsIn v us))
+pub all-members : (us : List Use) (v : Use) (rs : List Range) → Fits us → Sound rs → inOrder rs ≡ true → holds (addAll us rs) v ≡ (holds rs v || standsIn v us)
+all-members [] v rs F S e = sym (or-false (holds rs v))
+all-members (u ∷ us) v rs F S e =
+    all-members us v (add u rs) (F .1) (add-sound u rs (F .0) S) (ordered u rs (F .0) S e)
+    ∙ rw (members u v rs (F .0) S e, turned (u .day) (v .day), turned (u .number) (v .number)) (or-assoc (holds rs v) (eqb (v .day) (u .day) && eqb (v .number) (u .number)) (standsIn v us))
