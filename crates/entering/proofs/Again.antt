@@ -5,11 +5,11 @@ use mathlib.Core.Path.{_≡_, refl, sym, ap, _∙_, subst}
 use mathlib.Core.Bool.{Bool, true, false, cond, not, _&&_, _||_, false≢true}
 use mathlib.Core.List.{List, [], _∷_, _++_}
 use mathlib.Core.Logic.{_⊎_, inl, inr}
-use lib.Dec.{eqb, leb, ltb}
+use lib.Dec.{T, eqb, leb, ltb}
 use lib.ListN.{length, take, drop}
 use lib.Seq.{take-at}
 use borrow.Author.Tests.{eqb-true, eq-eqb, ltb-true, ltb-false, le-leb, le-ltb, not-true, not-false}
-use Rattle.laws.specs.Refusals.{first}
+use Rattle.laws.specs.Refusals.{Refusal, _if_, first}
 use Rattle.laws.proofs.Truth.{and-parts, one-holds, first-holds, second-holds, both-hold}
 use Rattle.days.specs.Days.{isReal, later, dayNumber}
 use Rattle.days.proofs.Order.{real-parts, later-number}
@@ -25,29 +25,32 @@ use Rattle.item_reader.specs.declared.Slip.{Slip}
 use Rattle.item_reader.specs.Slips.{slipsFrom}
 use Rattle.item_reader.specs.Accepted.{Fine, Each, Readable}
 use Rattle.item_reader.proofs.Accepted.{accepted}
-use Rattle.listing.specs.Checking.{isCode, isAccountingDay}
+use Rattle.listing.specs.Checking.{isCode, isAccountingDay, checkRefusals}
 use Rattle.register.specs.Register.{Range, Register, version, mostOf, sizeOf, registerBytes, registerOf, rangeStands, allStand, inOrder, latestStands, wellFormed, isRegister}
-use Rattle.register.specs.Entering.{Use, usedAt, used, kept, join, add, addAll, entered}
+use Rattle.register.specs.Entering.{Use, usedAt, used, kept, clash, join, add, addAll, entered}
 use Rattle.register.specs.Spans.{Fits, Sound}
 use Rattle.register.proofs.Sets.{order-strung, strung-order, all-sound, all-ordered}
 use Rattle.register.proofs.RoundTrip.{length-register}
-use Rattle.register.proofs.Formed.{Formed, formed, stand-sound, stands-again}
-use Rattle.adding.specs.declared.Entered.the-variants.{Written}
+use Rattle.register.proofs.Formed.{Formed, formed, stand-sound, stands-again, read-again}
+use Rattle.adding.specs.declared.Entered.the-variants.{Written, NotRegister}
+use Rattle.adding.specs.Answers.{usesRefusals}
+use Rattle.entering.specs.declared.blanking.Blanked.the-variants.{Done}
 use Rattle.gathering.specs.Keys.{Dated}
-use Rattle.entering.specs.Jobs.{usesOf, enterRefusals, Enters, newRegister}
+use Rattle.entering.specs.Jobs.{usesOf, enterRefusals, Enters, newRegister, blankRefusals, Blanks}
 use Rattle.adding.proofs.Uses.{uses-fit, kept-strung, kept-sound}
-use Rattle.laws.proofs.Refusals.{none-applies}
+use Rattle.laws.proofs.Refusals.{NoneOf, none-applies}
+use Rattle.laws.proofs.Entries.{and-right}
 use Rattle.adding.proofs.Lengths.{is-formed}
 
 -- ---- days that a register of a latest day may have
-abbrev DayStands : ℕ → ℕ → Type 0
+abbrev pub DayStands : ℕ → ℕ → Type 0
 DayStands latest day = (isReal day ≡ true) × (later day latest 0 ≡ false) × (later latest day 10 ≡ false)
 
 abbrev AllDays : ℕ → List Range → Type 0
 AllDays latest [] = Unit {0}
 AllDays latest (r ∷ rs) = DayStands latest (r .day) × AllDays latest rs
 
-abbrev UseDays : ℕ → List Use → Type 0
+abbrev pub UseDays : ℕ → List Use → Type 0
 UseDays latest [] = Unit {0}
 UseDays latest (u ∷ us) = DayStands latest (u .day) × UseDays latest us
 
@@ -99,7 +102,7 @@ body-read file k e R = subst (λ (s : List ℕ). Each Readable (slipsFrom 1 s)) 
 
 -- ---- the days of the ranges that stay
 module _ (old today : ℕ) (ro : isReal old ≡ true) (rt : isReal today ≡ true) (h : old ≤ today) where
-  number-le : dayNumber old ≤ dayNumber today
+  pub number-le : dayNumber old ≤ dayNumber today
   number-le = go (ltb old today) refl
     where
       go : (x : Bool) → ltb old today ≡ x → dayNumber old ≤ dayNumber today
@@ -186,32 +189,104 @@ module _ (g : Register) (w : wellFormed g ≡ true) (us : List Use) (F : Fits us
       (all-stand today (addAll us (kept today (g .ranges))) (all-sound us (kept today (g .ranges)) F S) (all-days today us (kept today (g .ranges)) U D))
       (all-ordered us (kept today (g .ranges)) F S O)))
 
--- what entering writes is a register
-pub entered-stands : (register file : List ℕ) (code day room : ℕ) → first (enterRefusals register file code day room) ≡ 0 → isRegister (registerBytes (entered (registerOf register) day (usesOf file))) ≡ true
-entered-stands register file code day room e =
-    let N = none-applies (enterRefusals register file code day room) tt e in
-    let a : isRegister register ≡ true = not-false (isRegister register) (N .1 .1 .1 .1 .1 .1 .1 .0) in
-    let r : isAccountingDay day ≡ true = not-false (isAccountingDay day) (N .1 .0) in
-    let l : registerOf register .latest ≤ day = ltb-false day (registerOf register .latest) (N .1 .1 .1 .1 .1 .1 .1 .1 .1 .0) in
-    let z : length (faults (input code day) file) ≡ 0 = eqb-true (length (faults (input code day) file)) 0 (not-false _ (N .1 .1 .1 .1 .1 .1 .1 .1 .1 .1 .0)) in
-    let k : length (entered (registerOf register) day (usesOf file) .ranges) ≤ mostOf version = ltb-false (mostOf version) (length (entered (registerOf register) day (usesOf file) .ranges)) (N .1 .1 .1 .1 .1 .1 .1 .1 .1 .1 .1 .1 .0) in
-    stands-again (entered (registerOf register) day (usesOf file)) k
-    (entered-formed (registerOf register) (is-formed register a) (usesOf file) (uses-fit 1 (body file)) day (fine-days (input code day) (slipsFrom 1 (body file)) (accepted (input code day) file z)) (real-day day r) l)
-  where
-    real-day : (day : ℕ) → isAccountingDay day ≡ true → isReal day ≡ true
-    real-day day r = and-parts (isReal day) (leb 20000101 day && leb day 20991231) r .0
+-- ---- where nothing is refused
+module _ (register file : List ℕ) (code day room : ℕ) (e : first (enterRefusals register file code day room) ≡ 0) where
+  abbrev new : Register
+  new = entered (registerOf register) day (usesOf file)
+
+  N : NoneOf (enterRefusals register file code day room)
+  N = none-applies (enterRefusals register file code day room) tt e
+
+  pub was-register : isRegister register ≡ true
+  was-register = not-false (isRegister register) (N .1 .1 .1 .1 .1 .1 .1 .0)
+
+  pub day-real : isReal day ≡ true
+  day-real = and-parts (isReal day) (leb 20000101 day && leb day 20991231) (not-false (isAccountingDay day) (N .1 .0)) .0
+
+  pub day-from : registerOf register .latest ≤ day
+  day-from = ltb-false day (registerOf register .latest) (N .1 .1 .1 .1 .1 .1 .1 .1 .1 .0)
+
+  pub uses-days : UseDays day (usesOf file)
+  uses-days =
+      let z : length (faults (input code day) file) ≡ 0 = eqb-true (length (faults (input code day) file)) 0 (not-false _ (N .1 .1 .1 .1 .1 .1 .1 .1 .1 .1 .0)) in
+      fine-days (input code day) (slipsFrom 1 (body file)) (accepted (input code day) file z)
+
+  pub unused : clash (kept day (registerOf register .ranges)) (usesOf file) ≡ false
+  unused = N .1 .1 .1 .1 .1 .1 .1 .1 .1 .1 .1 .0
+
+  few : length (new .ranges) ≤ mostOf version
+  few = ltb-false (mostOf version) (length (new .ranges)) (N .1 .1 .1 .1 .1 .1 .1 .1 .1 .1 .1 .1 .0)
+
+  new-formed : wellFormed new ≡ true
+  new-formed = entered-formed (registerOf register) (is-formed register was-register) (usesOf file) (uses-fit 1 (body file)) day uses-days day-real day-from
+
+  -- what entering writes is a register
+  pub entered-stands : isRegister (registerBytes new) ≡ true
+  entered-stands = stands-again new few new-formed
+
+  -- .. and is read as the one that was written
+  pub read-back : registerOf (registerBytes new) ≡ new
+  read-back = read-again new few new-formed
+
+-- they are those of the register with the file's numbers
+pub enter-writes : (register file : List ℕ) (code day : ℕ) (before : List ℕ) (n : ℕ) (after : List ℕ) → Enters register file code day before (Written n) after
+    → take n after ≡ registerBytes (entered (registerOf register) day (usesOf file))
+enter-writes register file code day before n after E =
+    let g : Register = entered (registerOf register) day (usesOf file) in
+    let z = eq-eqb (first (enterRefusals register file code day (length before))) 0 (sym (E .number)) in
+    let s : n ≡ sizeOf (length (g .ranges)) = E .written 0 ∙ ap (λ (b : Bool). cond b (sizeOf (length (g .ranges))) 0) z in
+    let t : after ≡ registerBytes g ++ drop (sizeOf (length (g .ranges))) before =
+    E .target ∙ ap (λ (b : Bool). cond b (registerBytes g ++ drop (sizeOf (length (g .ranges))) before) before) z in
+    ap (take n) t ∙ take-at (registerBytes g) (drop (sizeOf (length (g .ranges))) before) n (length-register g ∙ sym s)
 
 -- so the bytes that an answer says were written can be entered in again
 pub enter-again : (register file : List ℕ) (code day : ℕ) (before : List ℕ) (n : ℕ) (after : List ℕ) → Enters register file code day before (Written n) after → isRegister (take n after) ≡ true
 enter-again register file code day before n after E =
-    let g : Register = entered (registerOf register) day (usesOf file) in
-    let e : first (enterRefusals register file code day (length before)) ≡ 0 = sym (E .number) in
-    let z = eq-eqb (first (enterRefusals register file code day (length before))) 0 e in
-    let s : n ≡ sizeOf (length (g .ranges)) = E .written 0 ∙ ap (λ (b : Bool). cond b (sizeOf (length (g .ranges))) 0) z in
-    let t : after ≡ registerBytes g ++ drop (sizeOf (length (g .ranges))) before =
-    E .target ∙ ap (λ (b : Bool). cond b (registerBytes g ++ drop (sizeOf (length (g .ranges))) before) before) z in
-    rw (t, take-at (registerBytes g) (drop (sizeOf (length (g .ranges))) before) n (length-register g ∙ sym s)) (entered-stands register file code day (length before) e)
+    ap isRegister (enter-writes register file code day before n after E) ∙ entered-stands register file code day (length before) (sym (E .number))
 
 -- and so can a new one
 pub blank-stands : (code : ℕ) → isCode code ≡ true → isRegister (registerBytes (newRegister code)) ≡ true
 blank-stands code e = stands-again (newRegister code) (omega arith) (both-hold (leb 1 code && leb code 9999) ((isReal 0 || true) && true) e (both-hold (isReal 0 || true) true (second-holds (isReal 0) true refl) refl))
+
+pub blank-again : (code : ℕ) (before after : List ℕ) → Blanks code before Done after → isRegister (take 13 after) ≡ true
+blank-again code before after B =
+    let e : first (blankRefusals code (length before)) ≡ 0 = sym (B .number) in
+    let z = eq-eqb (first (blankRefusals code (length before))) 0 e in
+    let N = none-applies (blankRefusals code (length before)) tt e in
+    let t : after ≡ registerBytes (newRegister code) ++ drop 13 before = B .target ∙ ap (λ (b : Bool). cond b (registerBytes (newRegister code) ++ drop 13 before) before) z in
+    ap (λ (l : List ℕ). isRegister (take 13 l)) t
+    ∙ ap isRegister (take-at (registerBytes (newRegister code)) (drop 13 before) 13 (length-register (newRegister code)))
+    ∙ blank-stands code (not-false (isCode code) (N .0))
+
+-- ---- 23 is never the answer for a register
+-- a number that none of the refusals has
+abbrev absent : ℕ → List Refusal → Bool
+absent k [] = true
+absent k ((j if t) ∷ rs) = not (eqb j k) && absent k rs
+
+absent-first : (k : ℕ) (rs : List Refusal) → 1 ≤ k → T (absent k rs) → first rs ≡ k → ⊥
+absent-first k [] h n e = omega (arith, h, e)
+absent-first k ((j if true) ∷ rs) h n e = other (eqb j k) refl n
+  where
+    other : (x : Bool) → eqb j k ≡ x → T (not x && absent k rs) → ⊥
+    other true q m = m
+    other false q m = false≢true (sym q ∙ eq-eqb j k e)
+absent-first k ((j if false) ∷ rs) h n e = absent-first k rs h (and-right (not (eqb j k)) (absent k rs) n) e
+
+-- one that does not apply, taken out
+first-without : (rs : List Refusal) (k : ℕ) (ss : List Refusal) → first (rs ++ ((k if false) ∷ ss)) ≡ first (rs ++ ss)
+first-without [] k ss = refl
+first-without ((j if true) ∷ rs) k ss = refl
+first-without ((j if false) ∷ rs) k ss = first-without rs k ss
+
+pub never-23 : (register file : List ℕ) (code day : ℕ) (before : List ℕ) (after : List ℕ) → isRegister register ≡ true → Enters register file code day before NotRegister after → ⊥
+never-23 register file code day before after e E =
+    absent-first 23 (checkRefusals file (input code day) 0 0 0 ++ rest) (omega arith) tt
+    (sym (first-without (checkRefusals file (input code day) 0 0 0) 23 rest) ∙ ap (λ (b : Bool). first (checkRefusals file (input code day) 0 0 0 ++ ((23 if not b) ∷ rest))) (sym e) ∙ sym (E .number))
+  where
+    rest : List Refusal
+    rest =
+        (24 if not (eqb (registerOf register .code) code)) ∷
+        (25 if ltb day (registerOf register .latest)) ∷
+        (26 if not (eqb (length (faults (input code day) file)) 0)) ∷
+        usesRefusals (registerOf register) (usesOf file) day (length before)
