@@ -107,13 +107,30 @@ static void *post(void *ignored)
     return ignored;
 }
 
-static void *enter(void *ignored)
+static void enter_in_new(const uint8_t *file, size_t length)
 {
     static uint8_t fresh[CERTIS_REGISTER_LEAST];
     static uint8_t target[CERTIS_REGISTER_MOST];
     size_t written = 0;
     certis_register_new(300, fresh, sizeof fresh);
-    certis_register_enter(fresh, sizeof fresh, clean.bytes, clean.length, 300, 20240304, target, sizeof target, &written);
+    certis_register_enter(fresh, sizeof fresh, file, length, 300, 20240304, target, sizeof target, &written);
+}
+
+static void *enter(void *ignored)
+{
+    enter_in_new(clean.bytes, clean.length);
+    return ignored;
+}
+
+/* Numbers that have to be put in order: two neighbours, which are told apart
+ * only by the last halving. */
+static void *enter_backwards(void *ignored)
+{
+    static const char file[] = "HD:11 20240304 0000300 0000002 0000710 0000000 0000000\r\nKC:1 20240304\r\n"
+                               "HD:51 20240304 0000300 0000000 0000999 0000000 0000000\r\nIN:2 2\r\nS1:1 1\r\n"
+                               "HD:11 20240304 0000300 0000001 0000710 0000000 0000000\r\nKC:1 20240304\r\n"
+                               "HD:51 20240304 0000300 0000000 0000999 0000000 0000000\r\nIN:1 1\r\nS1:1 1\r\n\x1A";
+    enter_in_new((const uint8_t *)file, sizeof file - 1);
     return ignored;
 }
 
@@ -175,7 +192,8 @@ int main(int count, char **words)
         { "certis_portions_close", close_portions, 16 << 10 },
         { "certis_tell", tell, 16 << 10 },       { "certis_derive", derive, 16 << 10 },
         { "certis_account", account, 16 << 10 }, { "certis_sheet_post", post, 16 << 10 },
-        { "certis_register_enter", enter, 2 << 20 }, { "certis_deliver", deliver, 16 << 10 },
+        { "certis_register_enter", enter, 2 << 20 }, { "certis_register_enter, numbers backwards,", enter_backwards, 2 << 20 },
+        { "certis_deliver", deliver, 16 << 10 },
     };
     unsigned passed = 0;
     unsigned failed = 0;
