@@ -1,6 +1,9 @@
 //! Groups about the register of numbers used: new ones, and entering.
 
-use second::register::{HEAD, OLD_RANGES, RANGE, RANGES, Range, Register};
+use std::collections::BTreeSet;
+
+use second::check;
+use second::register::{HEAD, OLD_RANGES, RANGE, RANGES, Range, Register, uses};
 use second::samples::calendar::{TRICKY, next, shift};
 use second::samples::dice::Dice;
 use second::samples::draft::Draft;
@@ -264,6 +267,30 @@ fn tenth_day(judge: &mut Judge, _: &mut Dice, case: u64) {
 
 // Rows of files.
 
+/// A register, and the days and numbers of the files entered in it: "each pair
+/// of day and input number unique".
+struct Kept {
+    bytes: Vec<u8>,
+    taken: BTreeSet<(u32, u32)>,
+}
+
+impl Kept {
+    fn new(bytes: Vec<u8>) -> Self {
+        Kept { bytes, taken: BTreeSet::new() }
+    }
+
+    fn enter(&mut self, judge: &mut Judge, dice: &mut Dice, sample: &Sample) {
+        let room = room(dice, &self.bytes);
+        let Some(bytes) = judge.enter(&self.bytes, sample.job(), room) else { return };
+        self.bytes = bytes;
+        for taken in uses(&check::parse(&sample.file)) {
+            if !self.taken.insert(taken) {
+                judge.fail(|| format!("taken twice: {taken:?}"));
+            }
+        }
+    }
+}
+
 /// Files of one day on one register, of either version.
 fn row(judge: &mut Judge, dice: &mut Dice, _: u64) {
     let bytes = new().write_as(dice.range(1, 2) as u16);
@@ -276,21 +303,22 @@ fn full_row(judge: &mut Judge, dice: &mut Dice, _: u64) {
     files_on(judge, dice, bytes);
 }
 
-fn files_on(judge: &mut Judge, dice: &mut Dice, mut bytes: Vec<u8>) {
+fn files_on(judge: &mut Judge, dice: &mut Dice, bytes: Vec<u8>) {
+    let mut kept = Kept::new(bytes);
     for _ in 0..dice.range(1, 12) {
         let sample = file_of_row(dice, DAY);
-        bytes = judge.enter(&bytes, sample.job(), room(dice, &bytes)).unwrap_or(bytes);
+        kept.enter(judge, dice, &sample);
     }
 }
 
 /// A participant's register over a month, with days on which nothing comes.
 fn thirty_days(judge: &mut Judge, dice: &mut Dice, _: u64) {
-    let mut bytes = new().write();
+    let mut kept = Kept::new(new().write());
     let mut day = dice.pick(&TRICKY[..8]);
     for _ in 0..30 {
         for _ in 0..dice.below(4) {
             let sample = file_of_row(dice, day);
-            bytes = judge.enter(&bytes, sample.job(), room(dice, &bytes)).unwrap_or(bytes);
+            kept.enter(judge, dice, &sample);
         }
         day = next(day);
         if dice.once_in(12) {
