@@ -142,13 +142,17 @@ module _ (s : List ℕ) (h : Handed) (e : refusalOf s h ≡ 0) where
       (clear-append rs us vs (own us us-reach (clash-clear (kept (h .day) rs) us (unused s (h .file) (h .code) (h .day) (h .room) e))) (further vs Q C) (off vs C))
 
 -- ---- a row of files
+-- the register after a file, by whether it is entered
+abbrev next : Bool → List ℕ → Handed → List ℕ
+next x s h = cond x (registerBytes (entered (registerOf s) (h .day) (usesOf (h .file)))) s
+
 reach : (s : List ℕ) (hs : List Handed) → isReal (registerOf s .latest) ≡ true → InReach (registerOf s .latest) (taken s hs)
 reach s [] r = tt
 reach s (h ∷ hs) r = go (eqb (refusalOf s h) 0) refl (λ q. reach (after s h) hs q)
   where
     go : (x : Bool) → eqb (refusalOf s h) 0 ≡ x
-        → (isReal (registerOf (cond x (registerBytes (entered (registerOf s) (h .day) (usesOf (h .file)))) s) .latest) ≡ true → InReach (registerOf (cond x (registerBytes (entered (registerOf s) (h .day) (usesOf (h .file)))) s) .latest) (taken (cond x (registerBytes (entered (registerOf s) (h .day) (usesOf (h .file)))) s) hs))
-        → InReach (registerOf s .latest) (cond x (usesOf (h .file)) [] ++ taken (cond x (registerBytes (entered (registerOf s) (h .day) (usesOf (h .file)))) s) hs)
+        → (isReal (registerOf (next x s h) .latest) ≡ true → InReach (registerOf (next x s h) .latest) (taken (next x s h) hs))
+        → InReach (registerOf s .latest) (cond x (usesOf (h .file)) [] ++ taken (next x s h) hs)
     go true q ih = let e = eqb-true (refusalOf s h) 0 q in reach-on s h e r (taken (new s h e) hs) (ih (new-real s h e))
     go false q ih = ih r
 
@@ -157,8 +161,8 @@ never-twice s [] = refl
 never-twice s (h ∷ hs) = go (eqb (refusalOf s h) 0) refl (never-twice (after s h) hs)
   where
     go : (x : Bool) → eqb (refusalOf s h) 0 ≡ x
-        → clash (registerOf (cond x (registerBytes (entered (registerOf s) (h .day) (usesOf (h .file)))) s) .ranges) (taken (cond x (registerBytes (entered (registerOf s) (h .day) (usesOf (h .file)))) s) hs) ≡ false
-        → clash (registerOf s .ranges) (cond x (usesOf (h .file)) [] ++ taken (cond x (registerBytes (entered (registerOf s) (h .day) (usesOf (h .file)))) s) hs) ≡ false
+        → clash (registerOf (next x s h) .ranges) (taken (next x s h) hs) ≡ false
+        → clash (registerOf s .ranges) (cond x (usesOf (h .file)) [] ++ taken (next x s h) hs) ≡ false
     go true q ih = let e = eqb-true (refusalOf s h) 0 q in clear-on s h e (taken (new s h e) hs) (reach (new s h e) hs (new-real s h e)) ih
     go false q ih = ih
 
@@ -166,6 +170,6 @@ pub row-stands : (s : List ℕ) (hs : List Handed) → isRegister s ≡ true →
 row-stands s [] r = r
 row-stands s (h ∷ hs) r = row-stands (after s h) hs (go (eqb (refusalOf s h) 0) refl)
   where
-    go : (x : Bool) → eqb (refusalOf s h) 0 ≡ x → isRegister (cond x (registerBytes (entered (registerOf s) (h .day) (usesOf (h .file)))) s) ≡ true
+    go : (x : Bool) → eqb (refusalOf s h) 0 ≡ x → isRegister (next x s h) ≡ true
     go true q = entered-stands s (h .file) (h .code) (h .day) (h .room) (eqb-true (refusalOf s h) 0 q)
     go false q = r
