@@ -2,13 +2,10 @@
 // Promised, for every number: the definitions of specs/Days.antt, which count years and months by the two rows of month lengths. The
 // laws say that real days and their numbers have one order, and that the next day has the next number. Stands on `laws` alone.
 ghost use mathlib.Core.Path.{_≡_};
-ghost use lib.ListN.{getD};
+ghost use Prim.Native.Nat.{_-_, _≤_};
+ghost use lib.ListN.{take};
+ghost use Rattle.laws.specs.Lists.{sum};
 ghost use Rattle.days.specs.Days.{isLeap, row, isReal, dayNumber};
-
-// The lengths of the twelve months of a plain year and of a leap year.
-const PLAIN: [u32; 12] = [31, 28, 31, 30, 31, 30, 31, 31, 30, 31, 30, 31];
-
-const LEAP: [u32; 12] = [31, 29, 31, 30, 31, 30, 31, 31, 30, 31, 30, 31];
 
 fn is_leap(year: u32) -> bool
     ensures { λ r. ⌜ r ≡ isLeap year ⌝ }
@@ -16,17 +13,22 @@ fn is_leap(year: u32) -> bool
     ((year % 4 == 0) & !(year % 100 == 0)) | (year % 400 == 0)
 }
 
-// The length of the month at a place of its row, counted from 0; 0 past the twelfth.
-fn month_length(leap: bool, place: usize) -> u32
-    ensures { λ r. ⌜ r ≡ getD (row leap) place 0 ⌝ }
+// The days of a year before one of its months; past the twelfth, all of them. From March on, five months have 153 days.
+fn days_before(leap: bool, month: u32) -> u32
+    ensures { λ r. ⌜ (r ≡ sum (take (month - 1) (row leap))) × (r ≤ 366) ⌝ }
 {
-    if 12 <= place {
+    if month < 3 {
+        if month == 2 {
+            return 31;
+        }
         return 0;
     }
+    let m = if 13 < month { 13 } else { month };
+    let n = (153 * m - 162) / 5;
     if leap {
-        return LEAP[place];
+        return n + 1;
     }
-    PLAIN[place]
+    n
 }
 
 pub fn is_real(day: u32) -> bool
@@ -50,7 +52,8 @@ pub fn is_real(day: u32) -> bool
     if date < 1 {
         return false;
     }
-    date <= month_length(is_leap(year), (month - 1) as usize)
+    let leap = is_leap(year);
+    days_before(leap, month) + date <= days_before(leap, month + 1)
 }
 
 // Real days are as many days apart as their numbers are.
@@ -58,13 +61,10 @@ pub fn day_number(day: u32) -> u32
     ensures { λ r. ⌜ r ≡ dayNumber day ⌝ }
 {
     let year = day / 10000;
-    let month = (day / 100 % 100) as usize;
+    let month = day / 100 % 100;
     let leap = is_leap(year);
-    let mut n = 365 * year + (year + 3) / 4 - (year + 99) / 100 + (year + 399) / 400 + day % 100;
-    let mut k: usize = 0;
-    while k + 1 < month {
-        n += month_length(leap, k);
-        k += 1;
-    }
-    n
+    365 * year + (year + 3) / 4 - (year + 99) / 100
+        + (year + 399) / 400
+        + days_before(leap, month)
+        + day % 100
 }
