@@ -1,6 +1,6 @@
 // Admissible bytes (document 01; 000, 2.1): one test, the table of all answers, and the look over a part of a slice.
 ghost use mathlib.Core.Path.{_≡_};
-ghost use mathlib.Core.Bool.{_&&_};
+ghost use mathlib.Core.Bool.{not, _&&_};
 ghost use Prim.Native.Nat.{_+_, _≤_};
 ghost use lib.ListN.{length, take, drop};
 ghost use Rattle.laws.specs.Lists.{anyOf};
@@ -40,24 +40,26 @@ pub fn table() -> [bool; 256]
     t
 }
 
-fn is_bad(t: &[bool; 256], b: u8) -> bool
+fn is_good(t: &[bool; 256], b: u8) -> bool
     requires { ⌜ now t ≡ answers ⌝ }
-    ensures { λ r. ⌜ r ≡ isInadmissible b ⌝ }
+    ensures { λ r. ⌜ r ≡ not (isInadmissible b) ⌝ }
 {
-    !t[b as usize]
+    t[b as usize]
 }
 
 // The eight bytes from a place on.
-fn bad_at(t: &[bool; 256], s: &[u8], i: usize) -> bool
+fn good_at(t: &[bool; 256], s: &[u8], i: usize) -> bool
     requires { ⌜ (now t ≡ answers) × (i + 8 ≤ length (now s)) ⌝ }
-    ensures { λ r. ⌜ r ≡ anyOf isInadmissible (take 8 (drop i (now (s .entry)))) ⌝ }
+    ensures { λ r. ⌜ r ≡ not (anyOf isInadmissible (take 8 (drop i (now (s .entry))))) ⌝ }
 {
-    is_bad(t, s[i])
-        | (is_bad(t, s[i + 1])
-            | (is_bad(t, s[i + 2])
-                | (is_bad(t, s[i + 3])
-                    | (is_bad(t, s[i + 4])
-                        | (is_bad(t, s[i + 5]) | (is_bad(t, s[i + 6]) | is_bad(t, s[i + 7])))))))
+    is_good(t, s[i])
+        & is_good(t, s[i + 1])
+        & is_good(t, s[i + 2])
+        & is_good(t, s[i + 3])
+        & is_good(t, s[i + 4])
+        & is_good(t, s[i + 5])
+        & is_good(t, s[i + 6])
+        & is_good(t, s[i + 7])
 }
 
 // A short text, byte by byte.
@@ -65,15 +67,13 @@ fn few_bad(t: &[bool; 256], s: &[u8]) -> bool
     requires { ⌜ now t ≡ answers ⌝ }
     ensures { λ r. ⌜ r ≡ anyOf isInadmissible (now (s .entry)) ⌝ }
 {
-    let mut bad = false;
+    let mut good = true;
     let mut i = 0;
     while i < s.len() {
-        if is_bad(t, s[i]) {
-            bad = true;
-        }
+        good = good & is_good(t, s[i]);
         i += 1;
     }
-    bad
+    !good
 }
 
 // By eights; the last eight may have been looked at in part.
@@ -86,13 +86,13 @@ fn holds_bad(t: &[bool; 256], s: &[u8]) -> bool
         return few_bad(t, s);
     }
     let last = n - 8;
-    let mut bad = false;
+    let mut good = true;
     let mut i = 0;
     while i < last {
-        bad = bad | bad_at(t, s, i);
+        good = good & good_at(t, s, i);
         i += 8;
     }
-    bad | bad_at(t, s, last)
+    !(good & good_at(t, s, last))
 }
 
 // Whether a text holds an inadmissible byte (rule 1): where none is odd, that is not plain, the table is not asked.

@@ -1,29 +1,30 @@
-use Prim.Native.Nat.{_-_, _+_}
-use mathlib.Core.Path.{_≡_, refl, ap, _∙_, sym}
-use mathlib.Core.Bool.{Bool, _||_}
-use mathlib.Core.Logic.{⊎-elim}
-use lib.ListN.{length, drop}
+use Prim.Native.Nat.{_-_}
+use mathlib.Core.Path.{_≡_, refl}
+use mathlib.Core.Bool.{not}
+use native.Mathlib.Numerals.{add-one}
+use lib.ListN.{length, take}
 use Rattle.laws.specs.Lists.{anyOf}
-use Rattle.laws.proofs.Any.{flag-set, flag-kept, flag-is}
 use Rattle.text.specs.Characters.{isInadmissible}
+use Rattle.text.proofs.Eights.{none-more, none-all}
 use borrow.Author.Needs.{needs}
 use Rattle.text.proofs.characters.few_bad.Statement.{statement}
 use Rattle.text.proofs.characters.few_bad.Tie as tie
 
 abbrev Inv-loop : tie.InvT-loop
-Inv-loop t s bad₀ i₀ bad i = (bad || anyOf isInadmissible (drop i s)) ≡ anyOf isInadmissible s
+Inv-loop t s good₀ i₀ good i = good ≡ not (anyOf isInadmissible (take i s))
 
 abbrev μ-loop : tie.MeasureT-loop
-μ-loop t s bad₀ i₀ bad i = length s - i
+μ-loop t s good₀ i₀ good i = length s - i
 
 loop-holds : tie.Need-loop-holds Inv-loop μ-loop
+unfolding anyOf
 loop-holds c = refl
 
-shared-slice-read-is-bad : tie.Need-shared-slice-read-is-bad Inv-loop μ-loop
-shared-slice-read-is-bad c = search needs
+shared-slice-read-is-good : tie.Need-shared-slice-read-is-good Inv-loop μ-loop
+shared-slice-read-is-good c = search needs
 
-is-bad-requires : tie.Need-is-bad-requires Inv-loop μ-loop
-is-bad-requires c κs = search needs
+is-good-requires : tie.Need-is-good-requires Inv-loop μ-loop
+is-good-requires c κs = search needs
 
 add-i : tie.Need-add-i Inv-loop μ-loop
 add-i c = search needs
@@ -33,20 +34,11 @@ loop-less c = search needs
 
 loop-again : tie.Need-loop-again Inv-loop μ-loop
 loop-again c =
-    let l = c .before .before .before .before in
-    let s = l .before .before .args .s .now in
-    let i = l .loop .i in
-    let inside = c .before .before .before .loop-test .taken in
-    let with-flag : Bool → Bool = λ (b : Bool). b || anyOf isInadmissible (drop (i + 1) s) in
-    ⊎-elim
-    (λ w. ap with-flag (w .1) ∙ flag-set isInadmissible s i (l .loop .bad) (l .loop .inv) inside (sym (c .before .is-bad .ensures) ∙ w .0 .taken))
-    (λ w. ap with-flag (w .1) ∙ flag-kept isInadmissible s i (l .loop .bad) (l .loop .inv) inside (sym (c .before .is-bad .ensures) ∙ w .0 .left))
-    (c .if1 .came)
+    let l = c .before .before .before in
+    rw add-one (none-more isInadmissible _ (l .loop .i) (c .before .before .loop-test .taken) (l .loop .inv) (c .is-good .ensures))
 
 returns : tie.Need-returns Inv-loop μ-loop
-returns c =
-    let l = c .before in
-    flag-is isInadmissible (l .before .before .args .s .now) (l .loop .i) (l .loop .bad) (l .loop .inv) (c .loop-test .left)
+returns c = let l = c .before in none-all isInadmissible _ (l .loop .i) (c .loop-test .left) (l .loop .inv)
 
 pub few-bad-spec : {M : Type 1} → statement M
 few-bad-spec =
@@ -55,8 +47,8 @@ few-bad-spec =
     Inv-loop
     μ-loop
     loop-holds
-    shared-slice-read-is-bad
-    is-bad-requires
+    shared-slice-read-is-good
+    is-good-requires
     add-i
     loop-less
     loop-again

@@ -1,18 +1,19 @@
 use mathlib.Core.Path.{_≡_, refl}
+use mathlib.Core.Bool.{not}
 use Prim.Native.Nat.{_-_, _≤_}
 use lib.ListN.{length, take}
 use Rattle.laws.specs.Lists.{anyOf}
 use Rattle.text.specs.Characters.{isInadmissible}
-use Rattle.text.proofs.Eights.{any-add, any-overlap}
+use Rattle.text.proofs.Eights.{none-add, none-overlap}
 use borrow.Author.Needs.{needs}
 use Rattle.text.proofs.characters.holds_bad.Statement.{statement}
 use Rattle.text.proofs.characters.holds_bad.Tie as tie
 
 abbrev Inv-loop : tie.InvT-loop
-Inv-loop t s n last bad₀ i₀ bad i = (i ≤ length s) × (bad ≡ anyOf isInadmissible (take i s))
+Inv-loop t s n last good₀ i₀ good i = (i ≤ length s) × (good ≡ not (anyOf isInadmissible (take i s)))
 
 abbrev μ-loop : tie.MeasureT-loop
-μ-loop t s n last bad₀ i₀ bad i = length s - i
+μ-loop t s n last good₀ i₀ good i = length s - i
 
 few-bad-requires : tie.Need-few-bad-requires Inv-loop μ-loop
 few-bad-requires c κs = search needs
@@ -24,8 +25,8 @@ loop-holds : tie.Need-loop-holds Inv-loop μ-loop
 unfolding anyOf
 loop-holds c = (search needs, refl)
 
-bad-at-requires : tie.Need-bad-at-requires Inv-loop μ-loop
-bad-at-requires c κs = search needs
+good-at-requires : tie.Need-good-at-requires Inv-loop μ-loop
+good-at-requires c κs = search needs
 
 add-i : tie.Need-add-i Inv-loop μ-loop
 add-i c = search needs
@@ -36,15 +37,15 @@ loop-less c = search needs
 loop-again : tie.Need-loop-again Inv-loop μ-loop
 loop-again c =
     let l = c .before .before in
-    (search needs, any-add isInadmissible _ (l .loop .i) 8 (l .loop .inv .1) (c .bad-at .ensures))
+    (search needs, none-add isInadmissible _ (l .loop .i) 8 (l .loop .inv .1) (c .good-at .ensures))
 
-bad-at-requires-2 : tie.Need-bad-at-requires-2 Inv-loop μ-loop
-bad-at-requires-2 c κs = search needs
+good-at-requires-2 : tie.Need-good-at-requires-2 Inv-loop μ-loop
+good-at-requires-2 c κs = search needs
 
 returns-2 : tie.Need-returns-2 Inv-loop μ-loop
 returns-2 c =
     let l = c .before .before in
-    any-overlap isInadmissible _ (l .loop .i) _ 8 (c .before .loop-test .left) (search needs) (l .loop .inv .1) (c .bad-at2 .ensures)
+    none-overlap isInadmissible _ (l .loop .i) _ 8 (c .before .loop-test .left) (search needs) (l .loop .inv .1) (c .good-at2 .ensures)
 
 pub holds-bad-spec : {M : Type 1} → statement M
 holds-bad-spec =
@@ -55,9 +56,9 @@ holds-bad-spec =
     few-bad-requires
     returns
     loop-holds
-    bad-at-requires
+    good-at-requires
     add-i
     loop-less
     loop-again
-    bad-at-requires-2
+    good-at-requires-2
     returns-2)
