@@ -6,8 +6,8 @@ use Prim.Native.Nat.{ℕ, zero, suc, _+_, _-_, _*_, _≤_, _<_}
 use mathlib.Core.Logic.{⊎-elim}
 use native.Mathlib.Nat.{eq-or-lt-of-le}
 use native.Mathlib.Omega.{arith}
-use lib.ListN.{length, getD}
-use lib.Dec.{leb, ltb, eqb, eqb→eq, leb·suc-suc}
+use lib.ListN.{length, getD, set, replicate}
+use lib.Dec.{leb, ltb, eqb, eqb→eq, ltb→lt, leb·suc-suc}
 use borrow.Author.Tests.{ne-eqb, le-leb, lt-ltb, leb-true, ltb-true, eqb-true, eqb-false}
 use Rattle.laws.specs.Tests.{among}
 use Rattle.laws.proofs.Finite.{at}
@@ -26,6 +26,15 @@ place-in x (y ∷ ys) = go (eqb x y) (place-in x ys)
     go : (t : Bool) → ltb (place x ys) (length ys) ≡ among x ys → ltb (cond t 0 (suc (place x ys))) (suc (length ys)) ≡ (t || among x ys)
     go true e = lt-ltb 0 (suc (length ys)) (omega arith)
     go false e = simp leb·suc-suc e
+
+pub place-most : (x : ℕ) (ys : List ℕ) → place x ys ≤ length ys
+unfolding place
+place-most x [] = omega arith
+place-most x (y ∷ ys) = go (eqb x y) (place-most x ys)
+  where
+    go : (t : Bool) → place x ys ≤ length ys → cond t 0 (suc (place x ys)) ≤ suc (length ys)
+    go true h = omega arith
+    go false h = omega (arith, h)
 
 -- what stands at the place of a number that is in a list is that number
 at-place : (x : ℕ) (ys : List ℕ) → among x ys ≡ true → getD ys (place x ys) 0 ≡ x
@@ -60,6 +69,18 @@ found b = cond (leb 48 b && leb b 57) (b - 48) (cond (leb 65 b && leb b 90) (b -
 pub symbol-at : (b : ℕ) → b < 256 → found b ≡ place b symbols
 unfolding place
 symbol-at b h = eqb→eq _ _ (at (λ c. eqb (found c) (place c symbols)) 256 tt b h)
+
+-- the table of places, as the code fills it, symbol by symbol
+abbrev pub filled : ℕ → List ℕ
+filled zero = replicate 256 36
+filled (suc k) = set (filled k) (getD symbols k 0) k
+
+pub filled-is : (b : ℕ) → b < 256 → getD (filled 36) b 0 ≡ place b symbols
+unfolding place
+filled-is b h = eqb→eq _ _ (at (λ c. eqb (getD (filled 36) c 0) (place c symbols)) 256 tt b h)
+
+pub symbol-few : (k : ℕ) → k < 36 → getD symbols k 0 < 256
+symbol-few k h = ltb→lt _ _ (at (λ i. ltb (getD symbols i 0) 256) 36 tt k h)
 
 -- n numbers from a on
 abbrev row : ℕ → ℕ → List ℕ

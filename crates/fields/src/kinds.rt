@@ -1,7 +1,9 @@
 // Kinds of lines, and the number of a field's identifier.
+use crate::classes::HD;
 ghost use mathlib.Core.Path.{_≡_};
-ghost use Prim.Native.Nat.{_≤_};
-ghost use Rattle.fields.specs.Kinds.{symbols, place, kindBy, kindOf};
+ghost use Prim.Native.Nat.{ℕ, _≤_, _<_};
+ghost use lib.ListN.{length, getD};
+ghost use Rattle.fields.specs.Kinds.{symbols, place, kindOf};
 
 // What a line is; a field with its identifier's number, which is below 1296.
 pub enum Kind {
@@ -25,17 +27,42 @@ fn place_of(b: u8) -> usize
     36
 }
 
-fn kind_by(heading: bool, continuation: bool, field: bool, ident: usize) -> Kind
-    ensures { λ r. ⌜ r ≡ kindBy heading continuation field ident ⌝ }
+// The place of each byte. A caller that looks at many lines makes it once and lends it.
+pub fn places() -> [u8; 256]
+    ensures { λ r. ⌜ ((b : ℕ) → b < 256 → getD r b 0 ≡ place b symbols) ⌝ }
 {
-    if heading {
-        return Kind::Heading;
+    let symbols = b"0123456789ABCDEFGHIJKLMNOPQRSTUVWXYZ";
+    let mut t = [36u8; 256];
+    let mut k: usize = 0;
+    while k < 36 {
+        t[symbols[k] as usize] = k as u8;
+        k += 1;
     }
-    if continuation {
-        return Kind::Continuation;
-    }
-    if field {
+    t
+}
+
+fn place_at(places: &[u8; 256], b: u8) -> usize
+    requires { ⌜ ((b : ℕ) → b < 256 → getD (now places) b 0 ≡ place b symbols) ⌝ }
+    ensures { λ r. ⌜ r ≡ place b symbols ⌝ }
+{
+    places[b as usize] as usize
+}
+
+// The kind of a line of three bytes or more, by the places of its first two. A heading is a field whose identifier is HD.
+fn kind_by(line: &[u8], a: usize, b: usize) -> Kind
+    requires { ⌜ 3 ≤ length (now line) ⌝ }
+    requires { ⌜ (a ≡ place (getD (now line) 0 0) symbols) × (b ≡ place (getD (now line) 1 0) symbols) ⌝ }
+    ensures { λ r. ⌜ r ≡ kindOf (now (line .entry)) ⌝ }
+{
+    if ((a < 36) & (b < 36)) & (line[2] == b':') {
+        let ident = a * 36 + b;
+        if ident == HD {
+            return Kind::Heading;
+        }
         return Kind::Field(ident);
+    }
+    if text::strings::starts(line, b"   ") {
+        return Kind::Continuation;
     }
     Kind::Other
 }
@@ -46,12 +73,16 @@ pub fn kind_of(line: &[u8]) -> Kind
     if line.len() < 3 {
         return Kind::Other;
     }
-    let a = place_of(line[0]);
-    let b = place_of(line[1]);
-    kind_by(
-        text::strings::starts(line, b"HD:"),
-        text::strings::starts(line, b"   "),
-        ((a < 36) & (b < 36)) & (line[2] == b':'),
-        a * 36 + b,
-    )
+    kind_by(line, place_of(line[0]), place_of(line[1]))
+}
+
+// The same, by the lent table of places.
+pub fn kind_from(places: &[u8; 256], line: &[u8]) -> Kind
+    requires { ⌜ ((b : ℕ) → b < 256 → getD (now places) b 0 ≡ place b symbols) ⌝ }
+    ensures { λ r. ⌜ r ≡ kindOf (now (line .entry)) ⌝ }
+{
+    if line.len() < 3 {
+        return Kind::Other;
+    }
+    kind_by(line, place_at(places, line[0]), place_at(places, line[1]))
 }

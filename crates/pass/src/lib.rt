@@ -124,6 +124,7 @@ pub fn feed(
     ensures { λ r. ⌜ Bounded (base + length (now (s .entry))) r (now (lines .exit)) (now (rules .exit)) (now (offsets .exit)) ⌝ }
     ensures { λ r. ⌜ Fed (now (s .entry)) base basis (now (lines .entry)) (now (rules .entry)) (now (offsets .entry)) (now (stood .entry)) p (now (lines .exit)) (now (rules .exit)) (now (offsets .exit)) (now (stood .exit)) r ⌝ }
 {
+    let places = kinds::places();
     let table = text::characters::table();
     let codes = classes::codes();
     let mut g = p.ledger;
@@ -150,7 +151,7 @@ pub fn feed(
         n += 1;
         let bad = text::characters::holds_inadmissible(&table, &s[from..end], f.odd);
         let own = marking::line_marks(bad, f.ended);
-        let x = kinds::kind_of(&s[from..end]);
+        let x = kinds::kind_from(&places, &s[from..end]);
         at = f.next;
         match x {
             Kind::Heading => {

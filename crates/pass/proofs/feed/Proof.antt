@@ -24,49 +24,52 @@ use Rattle.pass.proofs.feed.Statement.{statement}
 use Rattle.pass.proofs.feed.Tie as tie
 
 abbrev Inv-loop : tie.InvT-loop
-Inv-loop s base basis lines₀ rules₀ offsets₀ stood₀ table codes g₀ open₀ pend₀ since₀ top₀ reads₀ h₀ claims₀ course₀ counts₀ sums₀ wait₀ starts₀ at₀ n₀ lines rules offsets stood g «open» pend since top reads h claims course counts sums wait starts at n =
+Inv-loop s base basis lines₀ rules₀ offsets₀ stood₀ places table codes g₀ open₀ pend₀ since₀ top₀ reads₀ h₀ claims₀ course₀ counts₀ sums₀ wait₀ starts₀ at₀ n₀ lines rules offsets stood g «open» pend since top reads h claims course counts sums wait starts at n =
     Feeding s base basis lines₀ rules₀ offsets₀ stood₀ (record { ledger = g₀; field = open₀; pend = pend₀; since = since₀; top = top₀; reads = reads₀; heading = h₀; claims = claims₀; block = blockOf course₀ counts₀ sums₀; wait = wait₀; starts = starts₀; n = n₀ })
     lines rules offsets stood (record { ledger = g; field = «open»; pend = pend; since = since; top = top; reads = reads; heading = h; claims = claims; block = blockOf course counts sums; wait = wait; starts = starts; n = n }) at
 
 abbrev μ-loop : tie.MeasureT-loop
-μ-loop s base basis lines₀ rules₀ offsets₀ stood₀ table codes g₀ open₀ pend₀ since₀ top₀ reads₀ h₀ claims₀ course₀ counts₀ sums₀ wait₀ starts₀ at₀ n₀ lines rules offsets stood g «open» pend since top reads h claims course counts sums wait starts at n =
+μ-loop s base basis lines₀ rules₀ offsets₀ stood₀ places table codes g₀ open₀ pend₀ since₀ top₀ reads₀ h₀ claims₀ course₀ counts₀ sums₀ wait₀ starts₀ at₀ n₀ lines rules offsets stood g «open» pend since top reads h claims course counts sums wait starts at n =
     length s - at
 
 -- the line that was found
-next : (c : tie.After-line-from Inv-loop μ-loop) → IsNext (c .before .before .before .before .before .before .before .before .before .before .before .before .before .before .before .before .before .before .before .before .args .s .now) (c .before .before .loop .at) (c .line-from .result)
+next : (c : tie.After-line-from Inv-loop μ-loop) → IsNext (c .before .before .before .before .before .before .before .before .before .before .before .before .before .before .before .before .before .before .before .before .before .args .s .now) (c .before .before .loop .at) (c .line-from .result)
 next c = is-next _ _ _ (c .line-from .ensures) (c .before .loop-test .taken)
 
 -- the text, and what is counted with, are within their bounds
-within : (c : tie.After-line-from Inv-loop μ-loop) → c .before .before .before .before .before .before .before .before .before .before .before .before .before .before .before .before .before .before .before .before .args .base + c .before .before .loop .at ≤ 10000000
-within c = omega (arith, c .before .before .loop .inv .to, c .before .before .before .before .before .before .before .before .before .before .before .before .before .before .before .before .before .before .before .before .pre .0)
+within : (c : tie.After-line-from Inv-loop μ-loop) → c .before .before .before .before .before .before .before .before .before .before .before .before .before .before .before .before .before .before .before .before .before .args .base + c .before .before .loop .at ≤ 10000000
+within c = omega (arith, c .before .before .loop .inv .to, c .before .before .before .before .before .before .before .before .before .before .before .before .before .before .before .before .before .before .before .before .before .pre .0)
 
 -- marks 1 and 4 of it
 own-is : (c : tie.After-line-marks Inv-loop μ-loop)
-    → c .line-marks .result ≡ lineMarks (record { no = suc (c .before .before .before .before .before .before .loop .n); bytes = span (c .before .before .before .before .before .before .loop .at) (c .before .before .before .before .line-from .result .end) (c .before .before .before .before .before .before .before .before .before .before .before .before .before .before .before .before .before .before .before .before .before .before .before .before .args .s .now); ended = c .before .before .before .before .line-from .result .ended })
+    → c .line-marks .result ≡ lineMarks (record { no = suc (c .before .before .before .before .before .before .loop .n); bytes = span (c .before .before .before .before .before .before .loop .at) (c .before .before .before .before .line-from .result .end) (c .before .before .before .before .before .before .before .before .before .before .before .before .before .before .before .before .before .before .before .before .before .before .before .before .before .args .s .now); ended = c .before .before .before .before .line-from .result .ended })
 own-is c = own-at (next (c .before .before .before .before)) _ (c .before .holds-inadmissible .ensures) (c .line-marks .ensures .0)
 
 -- the claims are touched only where the open field makes one
-claims-at-heading : (c : tie.Joined1 Inv-loop μ-loop) → let at-loop = c .before .before .before .before .before .before .before .before .before .before .before .before in c .if1 .claims ≡ closeClaims (at-loop .loop .claims) (at-loop .loop .«open») (at-loop .loop .pend)
+claims-at-heading : (c : tie.Joined1 Inv-loop μ-loop) → let at-loop = c .before .before .before .before .before .before .before .before .before .before .before .before .before in c .if1 .claims ≡ closeClaims (at-loop .loop .claims) (at-loop .loop .«open») (at-loop .loop .pend)
 claims-at-heading c =
-    let at-loop = c .before .before .before .before .before .before .before .before .before .before .before .before in
+    let at-loop = c .before .before .before .before .before .before .before .before .before .before .before .before .before in
     ⊎-elim (λ w. w .2 ∙ w .1 .ensures ∙ claims-closed (at-loop .loop .«open») (at-loop .loop .pend) (at-loop .loop .claims) (w .0 .taken))
     (λ w. w .1 ∙ claims-kept (at-loop .loop .«open») (at-loop .loop .pend) (at-loop .loop .claims) (w .0 .left)) (c .if1 .came)
 
-claims-at-field : (c : tie.Joined3 Inv-loop μ-loop) → let at-loop = c .before .before .before .before .before .before .before .before .before .before .before .before .before .before .before .before .before .before .before .before .before .before .before in c .if3 .claims ≡ closeClaims (at-loop .loop .claims) (at-loop .loop .«open») (at-loop .loop .pend)
+claims-at-field : (c : tie.Joined3 Inv-loop μ-loop) → let at-loop = c .before .before .before .before .before .before .before .before .before .before .before .before .before .before .before .before .before .before .before .before .before .before .before .before in c .if3 .claims ≡ closeClaims (at-loop .loop .claims) (at-loop .loop .«open») (at-loop .loop .pend)
 claims-at-field c =
-    let at-loop = c .before .before .before .before .before .before .before .before .before .before .before .before .before .before .before .before .before .before .before .before .before .before .before in
+    let at-loop = c .before .before .before .before .before .before .before .before .before .before .before .before .before .before .before .before .before .before .before .before .before .before .before .before in
     ⊎-elim (λ w. w .2 ∙ w .1 .ensures ∙ claims-closed (at-loop .loop .«open») (at-loop .loop .pend) (at-loop .loop .claims) (w .0 .taken))
     (λ w. w .1 ∙ claims-kept (at-loop .loop .«open») (at-loop .loop .pend) (at-loop .loop .claims) (w .0 .left)) (c .if3 .came)
 
 -- 30 to 39 of the item that closes, and how many they are at most
 groups-are : (c : tie.Joined2 Inv-loop μ-loop)
-    → (c .if2 .groups ≡ groupsOn (c .before .before .before .before .before .before .before .before .before .before .before .before .before .before .loop .counts) (c .before .before .before .before .before .before .before .before .before .before .before .before .before .before .loop .sums) (c .before .before .if1 .claims .sums) (readAs (c .before .before .before .before .before .before .before .before .before .before .before .before .before .before .loop .reads) (c .before .before .before .before .before .before .before .before .before .before .before .before .before .before .loop .h)))
+    → (c .if2 .groups ≡ groupsOn (c .before .before .before .before .before .before .before .before .before .before .before .before .before .before .before .loop .counts) (c .before .before .before .before .before .before .before .before .before .before .before .before .before .before .before .loop .sums) (c .before .before .if1 .claims .sums) (readAs (c .before .before .before .before .before .before .before .before .before .before .before .before .before .before .before .loop .reads) (c .before .before .before .before .before .before .before .before .before .before .before .before .before .before .before .loop .h)))
     × (c .if2 .groups ≤ 2 ^ 40 - 2 ^ 30)
 groups-are c =
-    let at-loop = c .before .before .before .before .before .before .before .before .before .before .before .before .before .before in
+    let at-loop = c .before .before .before .before .before .before .before .before .before .before .before .before .before .before .before in
     let stated = c .before .before .if1 .claims .sums in
     ⊎-elim (λ w. (groups-took (at-loop .loop .counts) (at-loop .loop .sums) stated (at-loop .loop .reads) (at-loop .loop .h) (w .0 .taken) (w .2 ∙ w .1 .ensures .0), omega (arith, w .2, w .1 .ensures .1)))
     (λ w. (groups-left (at-loop .loop .counts) (at-loop .loop .sums) stated (at-loop .loop .reads) (at-loop .loop .h) (w .0 .left) (w .1), omega (arith, w .1))) (c .if2 .came)
+
+places-requires : tie.Need-places-requires Inv-loop μ-loop
+places-requires c κs = search needs
 
 table-requires : tie.Need-table-requires Inv-loop μ-loop
 table-requires c κs = search needs
@@ -79,7 +82,7 @@ course-of-requires c κs = search needs
 
 loop-holds : tie.Need-loop-holds Inv-loop μ-loop
 loop-holds c =
-    feed-start (c .before .before .before .before .before .before .before .before .before .before .before .before .before .before .before .before .before .pre .1)
+    feed-start (c .before .before .before .before .before .before .before .before .before .before .before .before .before .before .before .before .before .before .pre .1)
 
 line-from-requires : tie.Need-line-from-requires Inv-loop μ-loop
 line-from-requires c κs = search needs
@@ -118,23 +121,24 @@ holds-inadmissible-requires c κs =
 line-marks-requires : tie.Need-line-marks-requires Inv-loop μ-loop
 line-marks-requires c κs = search needs
 
-sub-kind-of : tie.Need-sub-kind-of Inv-loop μ-loop
-sub-kind-of c =
-    let found = next (c .before .before .before .before) in
+sub-kind-from : tie.Need-sub-kind-from Inv-loop μ-loop
+sub-kind-from c =
+    let found = next (c .before .before .before .before .before) in
     omega (arith, found .starts, found .closes, found .within)
 
-part-kind-of-start : tie.Need-part-kind-of-start Inv-loop μ-loop
-part-kind-of-start c =
-    let found = next (c .before .before .before .before) in
+part-kind-from-start : tie.Need-part-kind-from-start Inv-loop μ-loop
+part-kind-from-start c =
+    let found = next (c .before .before .before .before .before) in
     omega (arith, found .starts, found .closes, found .within)
 
-part-kind-of-end : tie.Need-part-kind-of-end Inv-loop μ-loop
-part-kind-of-end c =
-    let found = next (c .before .before .before .before) in
+part-kind-from-end : tie.Need-part-kind-from-end Inv-loop μ-loop
+part-kind-from-end c =
+    let found = next (c .before .before .before .before .before) in
     omega (arith, found .starts, found .closes, found .within)
 
-kind-of-requires : tie.Need-kind-of-requires Inv-loop μ-loop
-kind-of-requires c κs = search needs
+kind-from-requires : tie.Need-kind-from-requires Inv-loop μ-loop
+kind-from-requires c κs =
+    c .before .before .before .before .before .before .before .before .before .before .before .before .before .before .before .before .before .before .before .before .before .before .places .ensures
 
 enum-told : tie.Need-enum-told Inv-loop μ-loop
 enum-told c = search needs
@@ -147,8 +151,8 @@ group-marks-of-requires c κs = search needs
 
 shut-all-requires : tie.Need-shut-all-requires Inv-loop μ-loop
 shut-all-requires c κs =
-    let B = c .before .before .before .before .before .before .before .before .before .before .before .before .before .before .before .before .before .loop .inv .bounded in
-    let room = bounded-room (within (c .before .before .before .before .before .before .before .before .before .before .before .before .before .before .before)) B in
+    let B = c .before .before .before .before .before .before .before .before .before .before .before .before .before .before .before .before .before .before .loop .inv .bounded in
+    let room = bounded-room (within (c .before .before .before .before .before .before .before .before .before .before .before .before .before .before .before .before)) B in
     (B .ready, (B .level, (omega (arith, room), B .calm, B .top-few, groups-are (c .before .before .before) .1)))
 
 count-item-requires : tie.Need-count-item-requires Inv-loop μ-loop
@@ -162,17 +166,17 @@ none-open-requires c κs = search needs
 
 sub-read : tie.Need-sub-read Inv-loop μ-loop
 sub-read c =
-    let found = next (c .before .before .before .before .before .before .before .before .before .before .before .before .before .before .before .before .before .before .before .before .before .before .before .before .before .before .before .before .before .before) in
+    let found = next (c .before .before .before .before .before .before .before .before .before .before .before .before .before .before .before .before .before .before .before .before .before .before .before .before .before .before .before .before .before .before .before) in
     omega (arith, found .starts, found .closes, found .within)
 
 part-read-start : tie.Need-part-read-start Inv-loop μ-loop
 part-read-start c =
-    let found = next (c .before .before .before .before .before .before .before .before .before .before .before .before .before .before .before .before .before .before .before .before .before .before .before .before .before .before .before .before .before .before) in
+    let found = next (c .before .before .before .before .before .before .before .before .before .before .before .before .before .before .before .before .before .before .before .before .before .before .before .before .before .before .before .before .before .before .before) in
     omega (arith, found .starts, found .closes, found .within)
 
 part-read-end : tie.Need-part-read-end Inv-loop μ-loop
 part-read-end c =
-    let found = next (c .before .before .before .before .before .before .before .before .before .before .before .before .before .before .before .before .before .before .before .before .before .before .before .before .before .before .before .before .before .before) in
+    let found = next (c .before .before .before .before .before .before .before .before .before .before .before .before .before .before .before .before .before .before .before .before .before .before .before .before .before .before .before .before .before .before .before) in
     omega (arith, found .starts, found .closes, found .within)
 
 read-requires : tie.Need-read-requires Inv-loop μ-loop
@@ -186,19 +190,19 @@ does-read-requires c κs = search needs
 
 loop-less : tie.Need-loop-less Inv-loop μ-loop
 loop-less c =
-    let found = next (c .before .before .before .before .before .before .before .before .before .before .before .before .before .before .before .before .before .before .before .before .before .before .before .before .before .before .before .before .before .before .before .before .before .before) in
+    let found = next (c .before .before .before .before .before .before .before .before .before .before .before .before .before .before .before .before .before .before .before .before .before .before .before .before .before .before .before .before .before .before .before .before .before .before .before) in
     omega (arith, found .moves, found .within)
 
 loop-again : tie.Need-loop-again Inv-loop μ-loop
 loop-again c =
     let shut = c .before .before .before .before .before .before .before .before .before .before .before .before .before .before .before .before .before .before .shut-all .ensures in
     let counted = c .before .before .before .before .before .before .before .before .before .count-item .ensures in
-    let here = c .before .before .before .before .before .before .before .before .before .before .before .before .before .before .before .before .before .before .before .before .before .before .before .before .before .before .before .before .before .before .before .before .before .before .before .before .loop in
-    let basis = c .before .before .before .before .before .before .before .before .before .before .before .before .before .before .before .before .before .before .before .before .before .before .before .before .before .before .before .before .before .before .before .before .before .before .before .before .before .before .before .before .before .before .before .before .before .before .before .before .before .before .before .before .before .before .args .basis in
+    let here = c .before .before .before .before .before .before .before .before .before .before .before .before .before .before .before .before .before .before .before .before .before .before .before .before .before .before .before .before .before .before .before .before .before .before .before .before .before .loop in
+    let basis = c .before .before .before .before .before .before .before .before .before .before .before .before .before .before .before .before .before .before .before .before .before .before .before .before .before .before .before .before .before .before .before .before .before .before .before .before .before .before .before .before .before .before .before .before .before .before .before .before .before .before .before .before .before .before .before .before .args .basis in
     let read = readAs (here .reads) (here .h) in
     let claims = claims-at-heading (c .before .before .before .before .before .before .before .before .before .before .before .before .before .before .before .before .before .before .before .before .before .before .before .before) in
     let groups = groups-are (c .before .before .before .before .before .before .before .before .before .before .before .before .before .before .before .before .before .before .before .before .before .before) .0 in
-    feed-head (c .before .before .before .before .before .before .before .before .before .before .before .before .before .before .before .before .before .before .before .before .before .before .before .before .before .before .before .before .before .before .before .before .before .before .before .before .loop .inv) (next (c .before .before .before .before .before .before .before .before .before .before .before .before .before .before .before .before .before .before .before .before .before .before .before .before .before .before .before .before .before .before .before .before .before .before)) (c .before .before .before .before .before .before .before .before .before .before .before .before .before .before .before .before .before .before .before .before .before .before .before .before .before .before .before .before .kind-of .ensures) (own-is (c .before .before .before .before .before .before .before .before .before .before .before .before .before .before .before .before .before .before .before .before .before .before .before .before .before .before .before .before .before .before)) (c .before .before .before .before .before .before .before .before .before .before .before .before .before .before .before .before .before .before .before .before .before .before .before .before .before .before .enum-told .given .1) (c .before .before .read .ensures .1) (c .before .before .before .before .none-open .ensures) (c .before .heading-in .ensures) (c .does-read .ensures) (c .before .before .before .before .before .no-claims .ensures)
+    feed-head (c .before .before .before .before .before .before .before .before .before .before .before .before .before .before .before .before .before .before .before .before .before .before .before .before .before .before .before .before .before .before .before .before .before .before .before .before .before .loop .inv) (next (c .before .before .before .before .before .before .before .before .before .before .before .before .before .before .before .before .before .before .before .before .before .before .before .before .before .before .before .before .before .before .before .before .before .before .before)) (c .before .before .before .before .before .before .before .before .before .before .before .before .before .before .before .before .before .before .before .before .before .before .before .before .before .before .before .before .kind-from .ensures) (own-is (c .before .before .before .before .before .before .before .before .before .before .before .before .before .before .before .before .before .before .before .before .before .before .before .before .before .before .before .before .before .before .before)) (c .before .before .before .before .before .before .before .before .before .before .before .before .before .before .before .before .before .before .before .before .before .before .before .before .before .before .enum-told .given .1) (c .before .before .read .ensures .1) (c .before .before .before .before .none-open .ensures) (c .before .heading-in .ensures) (c .does-read .ensures) (c .before .before .before .before .before .no-claims .ensures)
     (shut-block basis (here .course) (here .counts) (here .sums) (here .wait) (here .since) (here .top) read claims groups (shut .1 .0 .0) (counted .0) (counted .1))
     (shut-wait basis (here .course) (here .counts) (here .sums) (here .wait) (here .since) (here .top) read claims groups (shut .1 .0 .1)) (shut .1 .0 .2)
     (entered-list (ap (λ (xs : List Fault). marked (here .«open» .no) (here .«open» .marks) ++ xs) (shut-faults basis (here .course) (here .counts) (here .sums) (here .wait) (here .since) (here .top) read claims groups)) (shut .0)) (shut .1 .1 .0) (shut .1 .1 .1) (c .before .before .before .before .before .before .before .before .before .before .before .before .before .before .before .before .before .before .shut-all .kept .1 .1 .0)
@@ -211,35 +215,35 @@ low-marks-requires c κs = search needs
 
 enter-requires : tie.Need-enter-requires Inv-loop μ-loop
 enter-requires c κs =
-    let B = c .before .before .before .before .before .before .before .before .before .before .before .before .before .before .loop .inv .bounded in
-    let room = bounded-room (within (c .before .before .before .before .before .before .before .before .before .before .before .before)) B in
+    let B = c .before .before .before .before .before .before .before .before .before .before .before .before .before .before .before .loop .inv .bounded in
+    let room = bounded-room (within (c .before .before .before .before .before .before .before .before .before .before .before .before .before)) B in
     (B .ready, (B .level, omega (arith, room)))
 
 sub-with-low : tie.Need-sub-with-low Inv-loop μ-loop
 sub-with-low c =
-    let found = next (c .before .before .before .before .before .before .before .before .before .before .before .before .before .before .before .before .before .before .before .before) in
+    let found = next (c .before .before .before .before .before .before .before .before .before .before .before .before .before .before .before .before .before .before .before .before .before) in
     omega (arith, found .starts, found .closes, found .within)
 
 with-low-requires : tie.Need-with-low-requires Inv-loop μ-loop
 with-low-requires c κs =
-    bounded-tail (within (c .before .before .before .before .before .before .before .before .before .before .before .before .before .before .before .before .before .before .before .before)) (c .before .before .before .before .before .before .before .before .before .before .before .before .before .before .before .before .before .before .before .before .before .before .loop .inv .bounded)
+    bounded-tail (within (c .before .before .before .before .before .before .before .before .before .before .before .before .before .before .before .before .before .before .before .before .before)) (c .before .before .before .before .before .before .before .before .before .before .before .before .before .before .before .before .before .before .before .before .before .before .before .loop .inv .bounded)
 
 loop-less-2 : tie.Need-loop-less-2 Inv-loop μ-loop
 loop-less-2 c =
-    let found = next (c .before .before .before .before .before .before .before .before .before .before .before .before .before .before .before .before .before .before .before .before .before) in
+    let found = next (c .before .before .before .before .before .before .before .before .before .before .before .before .before .before .before .before .before .before .before .before .before .before) in
     omega (arith, found .moves, found .within)
 
 loop-again-2 : tie.Need-loop-again-2 Inv-loop μ-loop
 loop-again-2 c =
-    feed-more (c .before .before .before .before .before .before .before .before .before .before .before .before .before .before .before .before .before .before .before .before .before .before .before .loop .inv) (next (c .before .before .before .before .before .before .before .before .before .before .before .before .before .before .before .before .before .before .before .before .before)) (c .before .before .before .before .before .before .before .before .before .before .before .before .before .before .before .kind-of .ensures) (own-is (c .before .before .before .before .before .before .before .before .before .before .before .before .before .before .before .before .before)) (c .before .before .before .before .before .before .before .before .before .before .before .before .before .enum-told2 .given .1) (c .before .before .before .before .before .before .before .before .before .low-marks .ensures) (c .with-low .ensures ∙ ap (lowOpen true (c .before .before .before .before .before .before .before .before .before .before .before .before .before .before .before .before .before .before .before .before .before .before .before .loop .«open»)) (span-long (next (c .before .before .before .before .before .before .before .before .before .before .before .before .before .before .before .before .before .before .before .before .before)))) (c .before .before .before .before .before .before .before .before .enter .ensures .0) (c .before .before .before .before .before .before .before .before .enter .ensures .1 .1) (c .before .before .before .before .before .before .before .before .enter .kept .1 .1 .0)
+    feed-more (c .before .before .before .before .before .before .before .before .before .before .before .before .before .before .before .before .before .before .before .before .before .before .before .before .loop .inv) (next (c .before .before .before .before .before .before .before .before .before .before .before .before .before .before .before .before .before .before .before .before .before .before)) (c .before .before .before .before .before .before .before .before .before .before .before .before .before .before .before .kind-from .ensures) (own-is (c .before .before .before .before .before .before .before .before .before .before .before .before .before .before .before .before .before .before)) (c .before .before .before .before .before .before .before .before .before .before .before .before .before .enum-told2 .given .1) (c .before .before .before .before .before .before .before .before .before .low-marks .ensures) (c .with-low .ensures ∙ ap (lowOpen true (c .before .before .before .before .before .before .before .before .before .before .before .before .before .before .before .before .before .before .before .before .before .before .before .before .loop .«open»)) (span-long (next (c .before .before .before .before .before .before .before .before .before .before .before .before .before .before .before .before .before .before .before .before .before .before)))) (c .before .before .before .before .before .before .before .before .enter .ensures .0) (c .before .before .before .before .before .before .before .before .enter .ensures .1 .1) (c .before .before .before .before .before .before .before .before .enter .kept .1 .1 .0)
 
 enum-known-x : tie.Need-enum-known-x Inv-loop μ-loop
 enum-known-x c = search needs
 
 enter-requires-2 : tie.Need-enter-requires-2 Inv-loop μ-loop
 enter-requires-2 c κs =
-    let B = c .before .before .before .before .before .before .before .before .before .before .before .before .before .before .loop .inv .bounded in
-    let room = bounded-room (within (c .before .before .before .before .before .before .before .before .before .before .before .before)) B in
+    let B = c .before .before .before .before .before .before .before .before .before .before .before .before .before .before .before .loop .inv .bounded in
+    let room = bounded-room (within (c .before .before .before .before .before .before .before .before .before .before .before .before .before)) B in
     (B .ready, (B .level, omega (arith, room)))
 
 claim-closed-requires-2 : tie.Need-claim-closed-requires-2 Inv-loop μ-loop
@@ -247,14 +251,14 @@ claim-closed-requires-2 c κs = search needs
 
 again-requires : tie.Need-again-requires Inv-loop μ-loop
 again-requires c κs =
-    ident-few (span (c .before .before .before .before .before .before .before .before .before .before .before .before .before .before .before .before .before .before .before .before .before .before .before .before .loop .at) (c .before .before .before .before .before .before .before .before .before .before .before .before .before .before .before .before .before .before .before .before .before .before .line-from .result .end) (c .before .before .before .before .before .before .before .before .before .before .before .before .before .before .before .before .before .before .before .before .before .before .before .before .before .before .before .before .before .before .before .before .before .before .before .before .before .before .before .before .before .before .args .s .now)) (c .before .before .before .before .before .before .before .before .before .before .before .before .before .before .before .before .kind-of .ensures) (c .before .before .before .before .before .before .before .before .before .before .before .before .before .before .x .given .0 .0) (c .before .before .before .before .before .before .before .before .before .before .before .before .before .before .x .given .1)
+    ident-few (span (c .before .before .before .before .before .before .before .before .before .before .before .before .before .before .before .before .before .before .before .before .before .before .before .before .before .loop .at) (c .before .before .before .before .before .before .before .before .before .before .before .before .before .before .before .before .before .before .before .before .before .before .before .line-from .result .end) (c .before .before .before .before .before .before .before .before .before .before .before .before .before .before .before .before .before .before .before .before .before .before .before .before .before .before .before .before .before .before .before .before .before .before .before .before .before .before .before .before .before .before .before .before .args .s .now)) (c .before .before .before .before .before .before .before .before .before .before .before .before .before .before .before .before .kind-from .ensures) (c .before .before .before .before .before .before .before .before .before .before .before .before .before .before .x .given .0 .0) (c .before .before .before .before .before .before .before .before .before .before .before .before .before .before .x .given .1)
 
 -- the field's identifier, and the number of its class
 few-is : (c : tie.After-again Inv-loop μ-loop) → c .before .before .before .before .before .before .before .before .before .before .before .before .before .before .before .x .given .0 .0 < 1296
-few-is c = ident-few (span (c .before .before .before .before .before .before .before .before .before .before .before .before .before .before .before .before .before .before .before .before .before .before .before .before .before .loop .at) (c .before .before .before .before .before .before .before .before .before .before .before .before .before .before .before .before .before .before .before .before .before .before .before .line-from .result .end) (c .before .before .before .before .before .before .before .before .before .before .before .before .before .before .before .before .before .before .before .before .before .before .before .before .before .before .before .before .before .before .before .before .before .before .before .before .before .before .before .before .before .before .before .args .s .now)) (c .before .before .before .before .before .before .before .before .before .before .before .before .before .before .before .before .before .kind-of .ensures) (c .before .before .before .before .before .before .before .before .before .before .before .before .before .before .before .x .given .0 .0) (c .before .before .before .before .before .before .before .before .before .before .before .before .before .before .before .x .given .1)
+few-is c = ident-few (span (c .before .before .before .before .before .before .before .before .before .before .before .before .before .before .before .before .before .before .before .before .before .before .before .before .before .before .loop .at) (c .before .before .before .before .before .before .before .before .before .before .before .before .before .before .before .before .before .before .before .before .before .before .before .before .line-from .result .end) (c .before .before .before .before .before .before .before .before .before .before .before .before .before .before .before .before .before .before .before .before .before .before .before .before .before .before .before .before .before .before .before .before .before .before .before .before .before .before .before .before .before .before .before .before .before .args .s .now)) (c .before .before .before .before .before .before .before .before .before .before .before .before .before .before .before .before .before .kind-from .ensures) (c .before .before .before .before .before .before .before .before .before .before .before .before .before .before .before .x .given .0 .0) (c .before .before .before .before .before .before .before .before .before .before .before .before .before .before .before .x .given .1)
 
-number-is : (c : tie.After-again Inv-loop μ-loop) → getD (c .before .before .before .before .before .before .before .before .before .before .before .before .before .before .before .before .before .before .before .before .before .before .before .before .before .before .before .before .before .before .before .before .before .before .before .before .before .codes .result) (c .before .before .before .before .before .before .before .before .before .before .before .before .before .before .before .x .given .0 .0) 0 ≡ codeOf (c .before .before .before .before .before .before .before .before .before .before .before .before .before .before .before .x .given .0 .0)
-number-is c = c .before .before .before .before .before .before .before .before .before .before .before .before .before .before .before .before .before .before .before .before .before .before .before .before .before .before .before .before .before .before .before .before .before .before .before .before .before .codes .ensures (c .before .before .before .before .before .before .before .before .before .before .before .before .before .before .before .x .given .0 .0) (few-is c)
+number-is : (c : tie.After-again Inv-loop μ-loop) → getD (c .before .before .before .before .before .before .before .before .before .before .before .before .before .before .before .before .before .before .before .before .before .before .before .before .before .before .before .before .before .before .before .before .before .before .before .before .before .before .codes .result) (c .before .before .before .before .before .before .before .before .before .before .before .before .before .before .before .x .given .0 .0) 0 ≡ codeOf (c .before .before .before .before .before .before .before .before .before .before .before .before .before .before .before .x .given .0 .0)
+number-is c = c .before .before .before .before .before .before .before .before .before .before .before .before .before .before .before .before .before .before .before .before .before .before .before .before .before .before .before .before .before .before .before .before .before .before .before .before .before .before .codes .ensures (c .before .before .before .before .before .before .before .before .before .before .before .before .before .before .before .x .given .0 .0) (few-is c)
 
 array-read-class : tie.Need-array-read-class Inv-loop μ-loop
 array-read-class c =
@@ -262,17 +266,17 @@ array-read-class c =
 
 sub-read-claim : tie.Need-sub-read-claim Inv-loop μ-loop
 sub-read-claim c =
-    let found = next (c .before .before .before .before .before .before .before .before .before .before .before .before .before .before .before .before .before .before .before .before .before .before .before .before) in
+    let found = next (c .before .before .before .before .before .before .before .before .before .before .before .before .before .before .before .before .before .before .before .before .before .before .before .before .before) in
     omega (arith, found .starts, found .closes, found .within)
 
 part-read-claim-start : tie.Need-part-read-claim-start Inv-loop μ-loop
 part-read-claim-start c =
-    let found = next (c .before .before .before .before .before .before .before .before .before .before .before .before .before .before .before .before .before .before .before .before .before .before .before .before) in
+    let found = next (c .before .before .before .before .before .before .before .before .before .before .before .before .before .before .before .before .before .before .before .before .before .before .before .before .before) in
     omega (arith, found .starts, found .closes, found .within)
 
 part-read-claim-end : tie.Need-part-read-claim-end Inv-loop μ-loop
 part-read-claim-end c =
-    let found = next (c .before .before .before .before .before .before .before .before .before .before .before .before .before .before .before .before .before .before .before .before .before .before .before .before) in
+    let found = next (c .before .before .before .before .before .before .before .before .before .before .before .before .before .before .before .before .before .before .before .before .before .before .before .before .before) in
     omega (arith, found .starts, found .closes, found .within)
 
 read-claim-requires : tie.Need-read-claim-requires Inv-loop μ-loop
@@ -280,7 +284,7 @@ read-claim-requires c κs = search needs
 
 field-open-requires : tie.Need-field-open-requires Inv-loop μ-loop
 field-open-requires c κs =
-    (number-is (c .before .before .before), c .before .before .before .before .before .before .before .before .before .before .before .before .before .before .before .before .before .before .before .before .before .before .line-marks .ensures .1)
+    (number-is (c .before .before .before), c .before .before .before .before .before .before .before .before .before .before .before .before .before .before .before .before .before .before .before .before .before .before .before .line-marks .ensures .1)
 
 claim-own-requires : tie.Need-claim-own-requires Inv-loop μ-loop
 claim-own-requires c κs = search needs
@@ -291,64 +295,64 @@ keep-own-requires c κs =
 
 -- what a field says that claims something
 said-is : (c : tie.After-read-claim Inv-loop μ-loop)
-    → c .read-claim .result ≡ readingOf (classOf (c .before .before .before .before .before .before .before .before .before .before .before .before .before .before .before .before .before .before .x .given .0 .0)) (textOf (span (c .before .before .before .before .before .before .before .before .before .before .before .before .before .before .before .before .before .before .before .before .before .before .before .before .before .before .before .before .loop .at) (c .before .before .before .before .before .before .before .before .before .before .before .before .before .before .before .before .before .before .before .before .before .before .before .before .before .before .line-from .result .end) (c .before .before .before .before .before .before .before .before .before .before .before .before .before .before .before .before .before .before .before .before .before .before .before .before .before .before .before .before .before .before .before .before .before .before .before .before .before .before .before .before .before .before .before .before .before .before .args .s .now)))
+    → c .read-claim .result ≡ readingOf (classOf (c .before .before .before .before .before .before .before .before .before .before .before .before .before .before .before .before .before .before .x .given .0 .0)) (textOf (span (c .before .before .before .before .before .before .before .before .before .before .before .before .before .before .before .before .before .before .before .before .before .before .before .before .before .before .before .before .before .loop .at) (c .before .before .before .before .before .before .before .before .before .before .before .before .before .before .before .before .before .before .before .before .before .before .before .before .before .before .before .line-from .result .end) (c .before .before .before .before .before .before .before .before .before .before .before .before .before .before .before .before .before .before .before .before .before .before .before .before .before .before .before .before .before .before .before .before .before .before .before .before .before .before .before .before .before .before .before .before .before .before .before .before .args .s .now)))
 unfolding codeOf
 said-is c = c .read-claim .ensures (classOf (c .before .before .before .before .before .before .before .before .before .before .before .before .before .before .before .before .before .before .x .given .0 .0)) (sym (number-is (c .before .before .before))) (c .before .before .if4 .taken)
 
 loop-less-3 : tie.Need-loop-less-3 Inv-loop μ-loop
 loop-less-3 c =
-    let found = next (c .before .before .before .before .before .before .before .before .before .before .before .before .before .before .before .before .before .before .before .before .before .before .before .before .before .before .before .before .before .before) in
+    let found = next (c .before .before .before .before .before .before .before .before .before .before .before .before .before .before .before .before .before .before .before .before .before .before .before .before .before .before .before .before .before .before .before) in
     omega (arith, found .moves, found .within)
 
 loop-again-3 : tie.Need-loop-again-3 Inv-loop μ-loop
 loop-again-3 c =
-    let at-loop = c .before .before .before .before .before .before .before .before .before .before .before .before .before .before .before .before .before .before .before .before .before .before .before .before .before .before .before .before .before .before .before .before in
+    let at-loop = c .before .before .before .before .before .before .before .before .before .before .before .before .before .before .before .before .before .before .before .before .before .before .before .before .before .before .before .before .before .before .before .before .before in
     let asked = c .before .before .before .before .before .before .before .again .ensures in
     let own = own-inside (at-loop .loop .since) (c .before .before .before .before .before .before .before .before .before .before .before .before .before .before .before .before .before .before .before .before .before .before .x .given .0 .0) (c .before .before .before .before .read-claim .result) (c .before .before .before .before .before .before .before .before .before .if3 .claims) (at-loop .loop .pend) (c .before .before .if5 .taken) (c .before .claim-own .ensures) (c .keep-own .ensures) in
-    feed-field (c .before .before .before .before .before .before .before .before .before .before .before .before .before .before .before .before .before .before .before .before .before .before .before .before .before .before .before .before .before .before .before .before .loop .inv) (next (c .before .before .before .before .before .before .before .before .before .before .before .before .before .before .before .before .before .before .before .before .before .before .before .before .before .before .before .before .before .before)) (c .before .before .before .before .before .before .before .before .before .before .before .before .before .before .before .before .before .before .before .before .before .before .before .before .kind-of .ensures) (own-is (c .before .before .before .before .before .before .before .before .before .before .before .before .before .before .before .before .before .before .before .before .before .before .before .before .before .before)) (c .before .before .before .before .before .before .before .before .before .before .before .before .before .before .before .before .before .before .before .before .before .before .x .given .0 .0) (c .before .before .before .before .before .before .before .before .before .before .before .before .before .before .before .before .before .before .before .before .before .before .x .given .1) (claims-at-field (c .before .before .before .before .before .before .before .before .before)) (asked .0) (said-is (c .before .before .before .before)) (c .before .before .before .field-open .ensures) (own .0) (own .1) (asked .1) (c .before .before .before .before .before .before .before .before .before .before .before .before .before .before .before .before .before .enter2 .ensures .0) (c .before .before .before .before .before .before .before .before .before .before .before .before .before .before .before .before .before .enter2 .ensures .1 .1) (c .before .before .before .before .before .before .before .before .before .before .before .before .before .before .before .before .before .enter2 .kept .1 .1 .0)
+    feed-field (c .before .before .before .before .before .before .before .before .before .before .before .before .before .before .before .before .before .before .before .before .before .before .before .before .before .before .before .before .before .before .before .before .before .loop .inv) (next (c .before .before .before .before .before .before .before .before .before .before .before .before .before .before .before .before .before .before .before .before .before .before .before .before .before .before .before .before .before .before .before)) (c .before .before .before .before .before .before .before .before .before .before .before .before .before .before .before .before .before .before .before .before .before .before .before .before .kind-from .ensures) (own-is (c .before .before .before .before .before .before .before .before .before .before .before .before .before .before .before .before .before .before .before .before .before .before .before .before .before .before .before)) (c .before .before .before .before .before .before .before .before .before .before .before .before .before .before .before .before .before .before .before .before .before .before .x .given .0 .0) (c .before .before .before .before .before .before .before .before .before .before .before .before .before .before .before .before .before .before .before .before .before .before .x .given .1) (claims-at-field (c .before .before .before .before .before .before .before .before .before)) (asked .0) (said-is (c .before .before .before .before)) (c .before .before .before .field-open .ensures) (own .0) (own .1) (asked .1) (c .before .before .before .before .before .before .before .before .before .before .before .before .before .before .before .before .before .enter2 .ensures .0) (c .before .before .before .before .before .before .before .before .before .before .before .before .before .before .before .before .before .enter2 .ensures .1 .1) (c .before .before .before .before .before .before .before .before .before .before .before .before .before .before .before .before .before .enter2 .kept .1 .1 .0)
 
 loop-less-4 : tie.Need-loop-less-4 Inv-loop μ-loop
 loop-less-4 c =
-    let found = next (c .before .before .before .before .before .before .before .before .before .before .before .before .before .before .before .before .before .before .before .before .before .before .before .before .before .before .before .before) in
+    let found = next (c .before .before .before .before .before .before .before .before .before .before .before .before .before .before .before .before .before .before .before .before .before .before .before .before .before .before .before .before .before) in
     omega (arith, found .moves, found .within)
 
 loop-again-4 : tie.Need-loop-again-4 Inv-loop μ-loop
 loop-again-4 c =
-    let at-loop = c .before .before .before .before .before .before .before .before .before .before .before .before .before .before .before .before .before .before .before .before .before .before .before .before .before .before .before .before .before .before in
+    let at-loop = c .before .before .before .before .before .before .before .before .before .before .before .before .before .before .before .before .before .before .before .before .before .before .before .before .before .before .before .before .before .before .before in
     let asked = c .before .before .before .before .before .again .ensures in
     let own = own-above (at-loop .loop .since) (c .before .before .before .before .before .before .before .before .before .before .before .before .before .before .before .before .before .before .before .before .x .given .0 .0) (c .before .before .read-claim .result) (c .before .before .before .before .before .before .before .if3 .claims) (at-loop .loop .pend) (c .if5 .left) in
-    feed-field (c .before .before .before .before .before .before .before .before .before .before .before .before .before .before .before .before .before .before .before .before .before .before .before .before .before .before .before .before .before .before .loop .inv) (next (c .before .before .before .before .before .before .before .before .before .before .before .before .before .before .before .before .before .before .before .before .before .before .before .before .before .before .before .before)) (c .before .before .before .before .before .before .before .before .before .before .before .before .before .before .before .before .before .before .before .before .before .before .kind-of .ensures) (own-is (c .before .before .before .before .before .before .before .before .before .before .before .before .before .before .before .before .before .before .before .before .before .before .before .before)) (c .before .before .before .before .before .before .before .before .before .before .before .before .before .before .before .before .before .before .before .before .x .given .0 .0) (c .before .before .before .before .before .before .before .before .before .before .before .before .before .before .before .before .before .before .before .before .x .given .1) (claims-at-field (c .before .before .before .before .before .before .before)) (asked .0) (said-is (c .before .before)) (c .before .field-open .ensures) (own .0) (own .1) (asked .1) (c .before .before .before .before .before .before .before .before .before .before .before .before .before .before .before .enter2 .ensures .0) (c .before .before .before .before .before .before .before .before .before .before .before .before .before .before .before .enter2 .ensures .1 .1) (c .before .before .before .before .before .before .before .before .before .before .before .before .before .before .before .enter2 .kept .1 .1 .0)
+    feed-field (c .before .before .before .before .before .before .before .before .before .before .before .before .before .before .before .before .before .before .before .before .before .before .before .before .before .before .before .before .before .before .before .loop .inv) (next (c .before .before .before .before .before .before .before .before .before .before .before .before .before .before .before .before .before .before .before .before .before .before .before .before .before .before .before .before .before)) (c .before .before .before .before .before .before .before .before .before .before .before .before .before .before .before .before .before .before .before .before .before .before .kind-from .ensures) (own-is (c .before .before .before .before .before .before .before .before .before .before .before .before .before .before .before .before .before .before .before .before .before .before .before .before .before)) (c .before .before .before .before .before .before .before .before .before .before .before .before .before .before .before .before .before .before .before .before .x .given .0 .0) (c .before .before .before .before .before .before .before .before .before .before .before .before .before .before .before .before .before .before .before .before .x .given .1) (claims-at-field (c .before .before .before .before .before .before .before)) (asked .0) (said-is (c .before .before)) (c .before .field-open .ensures) (own .0) (own .1) (asked .1) (c .before .before .before .before .before .before .before .before .before .before .before .before .before .before .before .enter2 .ensures .0) (c .before .before .before .before .before .before .before .before .before .before .before .before .before .before .before .enter2 .ensures .1 .1) (c .before .before .before .before .before .before .before .before .before .before .before .before .before .before .before .enter2 .kept .1 .1 .0)
 
 sub-plain-open : tie.Need-sub-plain-open Inv-loop μ-loop
 sub-plain-open c =
-    let found = next (c .before .before .before .before .before .before .before .before .before .before .before .before .before .before .before .before .before .before .before .before .before .before .before .before) in
+    let found = next (c .before .before .before .before .before .before .before .before .before .before .before .before .before .before .before .before .before .before .before .before .before .before .before .before .before) in
     omega (arith, found .starts, found .closes, found .within)
 
 part-plain-open-start : tie.Need-part-plain-open-start Inv-loop μ-loop
 part-plain-open-start c =
-    let found = next (c .before .before .before .before .before .before .before .before .before .before .before .before .before .before .before .before .before .before .before .before .before .before .before .before) in
+    let found = next (c .before .before .before .before .before .before .before .before .before .before .before .before .before .before .before .before .before .before .before .before .before .before .before .before .before) in
     omega (arith, found .starts, found .closes, found .within)
 
 part-plain-open-end : tie.Need-part-plain-open-end Inv-loop μ-loop
 part-plain-open-end c =
-    let found = next (c .before .before .before .before .before .before .before .before .before .before .before .before .before .before .before .before .before .before .before .before .before .before .before .before) in
+    let found = next (c .before .before .before .before .before .before .before .before .before .before .before .before .before .before .before .before .before .before .before .before .before .before .before .before .before) in
     omega (arith, found .starts, found .closes, found .within)
 
 plain-open-requires : tie.Need-plain-open-requires Inv-loop μ-loop
 plain-open-requires c κs =
-    c .before .before .before .before .before .before .before .before .before .before .before .before .before .before .before .before .before .before .before .before .before .line-marks .ensures .1
+    c .before .before .before .before .before .before .before .before .before .before .before .before .before .before .before .before .before .before .before .before .before .before .line-marks .ensures .1
 
 loop-less-5 : tie.Need-loop-less-5 Inv-loop μ-loop
 loop-less-5 c =
-    let found = next (c .before .before .before .before .before .before .before .before .before .before .before .before .before .before .before .before .before .before .before .before .before .before .before .before .before .before) in
+    let found = next (c .before .before .before .before .before .before .before .before .before .before .before .before .before .before .before .before .before .before .before .before .before .before .before .before .before .before .before) in
     omega (arith, found .moves, found .within)
 
 loop-again-5 : tie.Need-loop-again-5 Inv-loop μ-loop
 loop-again-5 c =
-    let at-loop = c .before .before .before .before .before .before .before .before .before .before .before .before .before .before .before .before .before .before .before .before .before .before .before .before .before .before .before .before in
+    let at-loop = c .before .before .before .before .before .before .before .before .before .before .before .before .before .before .before .before .before .before .before .before .before .before .before .before .before .before .before .before .before in
     let asked = c .before .before .before .again .ensures in
-    let own = own-plain (at-loop .loop .since) (c .before .before .before .before .before .before .before .before .before .before .before .before .before .before .before .before .before .before .x .given .0 .0) (readingOf (classOf (c .before .before .before .before .before .before .before .before .before .before .before .before .before .before .before .before .before .before .x .given .0 .0)) (textOf (span (c .before .before .before .before .before .before .before .before .before .before .before .before .before .before .before .before .before .before .before .before .before .before .before .before .before .before .before .before .loop .at) (c .before .before .before .before .before .before .before .before .before .before .before .before .before .before .before .before .before .before .before .before .before .before .before .before .before .before .line-from .result .end) (c .before .before .before .before .before .before .before .before .before .before .before .before .before .before .before .before .before .before .before .before .before .before .before .before .before .before .before .before .before .before .before .before .before .before .before .before .before .before .before .before .before .before .before .before .before .before .args .s .now)))) (c .before .before .before .before .before .if3 .claims) (at-loop .loop .pend) (number-is (c .before .before .before)) (c .before .before .if4 .left) in
-    feed-field (c .before .before .before .before .before .before .before .before .before .before .before .before .before .before .before .before .before .before .before .before .before .before .before .before .before .before .before .before .loop .inv) (next (c .before .before .before .before .before .before .before .before .before .before .before .before .before .before .before .before .before .before .before .before .before .before .before .before .before .before)) (c .before .before .before .before .before .before .before .before .before .before .before .before .before .before .before .before .before .before .before .before .kind-of .ensures) (own-is (c .before .before .before .before .before .before .before .before .before .before .before .before .before .before .before .before .before .before .before .before .before .before)) (c .before .before .before .before .before .before .before .before .before .before .before .before .before .before .before .before .before .before .x .given .0 .0) (c .before .before .before .before .before .before .before .before .before .before .before .before .before .before .before .before .before .before .x .given .1) (claims-at-field (c .before .before .before .before .before)) (asked .0) refl (c .plain-open .ensures (c .before .before .before .before .before .before .before .before .before .before .before .before .before .before .before .before .before .before .before .before .before .before .before .before .before .before .before .before .before .before .before .before .before .before .before .before .before .before .before .before .before .before .before .before .before .before .args .basis) (c .before .before .before .before .before .if3 .claims .kc) (readAs (at-loop .loop .reads) (at-loop .loop .h)) (c .before .before .before .before .before .before .before .before .before .before .before .before .before .before .before .before .before .before .x .given .0 .0) (number-is (c .before .before .before)) (c .before .before .if4 .left)) (own .0) (own .1) (asked .1) (c .before .before .before .before .before .before .before .before .before .before .before .before .before .enter2 .ensures .0) (c .before .before .before .before .before .before .before .before .before .before .before .before .before .enter2 .ensures .1 .1) (c .before .before .before .before .before .before .before .before .before .before .before .before .before .enter2 .kept .1 .1 .0)
+    let own = own-plain (at-loop .loop .since) (c .before .before .before .before .before .before .before .before .before .before .before .before .before .before .before .before .before .before .x .given .0 .0) (readingOf (classOf (c .before .before .before .before .before .before .before .before .before .before .before .before .before .before .before .before .before .before .x .given .0 .0)) (textOf (span (c .before .before .before .before .before .before .before .before .before .before .before .before .before .before .before .before .before .before .before .before .before .before .before .before .before .before .before .before .before .loop .at) (c .before .before .before .before .before .before .before .before .before .before .before .before .before .before .before .before .before .before .before .before .before .before .before .before .before .before .before .line-from .result .end) (c .before .before .before .before .before .before .before .before .before .before .before .before .before .before .before .before .before .before .before .before .before .before .before .before .before .before .before .before .before .before .before .before .before .before .before .before .before .before .before .before .before .before .before .before .before .before .before .before .args .s .now)))) (c .before .before .before .before .before .if3 .claims) (at-loop .loop .pend) (number-is (c .before .before .before)) (c .before .before .if4 .left) in
+    feed-field (c .before .before .before .before .before .before .before .before .before .before .before .before .before .before .before .before .before .before .before .before .before .before .before .before .before .before .before .before .before .loop .inv) (next (c .before .before .before .before .before .before .before .before .before .before .before .before .before .before .before .before .before .before .before .before .before .before .before .before .before .before .before)) (c .before .before .before .before .before .before .before .before .before .before .before .before .before .before .before .before .before .before .before .before .kind-from .ensures) (own-is (c .before .before .before .before .before .before .before .before .before .before .before .before .before .before .before .before .before .before .before .before .before .before .before)) (c .before .before .before .before .before .before .before .before .before .before .before .before .before .before .before .before .before .before .x .given .0 .0) (c .before .before .before .before .before .before .before .before .before .before .before .before .before .before .before .before .before .before .x .given .1) (claims-at-field (c .before .before .before .before .before)) (asked .0) refl (c .plain-open .ensures (c .before .before .before .before .before .before .before .before .before .before .before .before .before .before .before .before .before .before .before .before .before .before .before .before .before .before .before .before .before .before .before .before .before .before .before .before .before .before .before .before .before .before .before .before .before .before .before .before .args .basis) (c .before .before .before .before .before .if3 .claims .kc) (readAs (at-loop .loop .reads) (at-loop .loop .h)) (c .before .before .before .before .before .before .before .before .before .before .before .before .before .before .before .before .before .before .x .given .0 .0) (number-is (c .before .before .before)) (c .before .before .if4 .left)) (own .0) (own .1) (asked .1) (c .before .before .before .before .before .before .before .before .before .before .before .before .before .enter2 .ensures .0) (c .before .before .before .before .before .before .before .before .before .before .before .before .before .enter2 .ensures .1 .1) (c .before .before .before .before .before .before .before .before .before .before .before .before .before .enter2 .kept .1 .1 .0)
 
 enum-told-3 : tie.Need-enum-told-3 Inv-loop μ-loop
 enum-told-3 c = search needs
@@ -358,18 +362,18 @@ low-marks-requires-2 c κs = search needs
 
 enter-requires-3 : tie.Need-enter-requires-3 Inv-loop μ-loop
 enter-requires-3 c κs =
-    let B = c .before .before .before .before .before .before .before .before .before .before .before .before .before .before .loop .inv .bounded in
-    let room = bounded-room (within (c .before .before .before .before .before .before .before .before .before .before .before .before)) B in
+    let B = c .before .before .before .before .before .before .before .before .before .before .before .before .before .before .before .loop .inv .bounded in
+    let room = bounded-room (within (c .before .before .before .before .before .before .before .before .before .before .before .before .before)) B in
     (B .ready, (B .level, omega (arith, room)))
 
 loop-less-6 : tie.Need-loop-less-6 Inv-loop μ-loop
 loop-less-6 c =
-    let found = next (c .before .before .before .before .before .before .before .before .before .before .before .before .before .before .before .before .before .before .before) in
+    let found = next (c .before .before .before .before .before .before .before .before .before .before .before .before .before .before .before .before .before .before .before .before) in
     omega (arith, found .moves, found .within)
 
 loop-again-6 : tie.Need-loop-again-6 Inv-loop μ-loop
 loop-again-6 c =
-    feed-other (c .before .before .before .before .before .before .before .before .before .before .before .before .before .before .before .before .before .before .before .before .before .loop .inv) (next (c .before .before .before .before .before .before .before .before .before .before .before .before .before .before .before .before .before .before .before)) (c .before .before .before .before .before .before .before .before .before .before .before .before .before .kind-of .ensures) (own-is (c .before .before .before .before .before .before .before .before .before .before .before .before .before .before .before)) (c .before .before .before .before .before .before .before .before .before .before .before .enum-told3 .given .1) (c .before .before .before .before .before .before .before .low-marks2 .ensures) (c .before .before .before .before .before .before .enter3 .ensures .0) (c .before .before .before .before .before .before .enter3 .ensures .1 .1) (c .before .before .before .before .before .before .enter3 .kept .1 .1 .0)
+    feed-other (c .before .before .before .before .before .before .before .before .before .before .before .before .before .before .before .before .before .before .before .before .before .before .loop .inv) (next (c .before .before .before .before .before .before .before .before .before .before .before .before .before .before .before .before .before .before .before .before)) (c .before .before .before .before .before .before .before .before .before .before .before .before .before .kind-from .ensures) (own-is (c .before .before .before .before .before .before .before .before .before .before .before .before .before .before .before .before)) (c .before .before .before .before .before .before .before .before .before .before .before .enum-told3 .given .1) (c .before .before .before .before .before .before .before .low-marks2 .ensures) (c .before .before .before .before .before .before .enter3 .ensures .0) (c .before .before .before .before .before .before .enter3 .ensures .1 .1) (c .before .before .before .before .before .before .enter3 .kept .1 .1 .0)
 
 block-of-requires : tie.Need-block-of-requires Inv-loop μ-loop
 block-of-requires c κs = search needs
@@ -389,7 +393,7 @@ same-length-3 c =
 returns : tie.Need-returns Inv-loop μ-loop
 returns c =
     let here = c .before .before .loop in
-    let start = c .before .before .before .before .before .before .before .before .before .before .before .before .before .before .before .before .before .before .before .before .args in
+    let start = c .before .before .before .before .before .before .before .before .before .before .before .before .before .before .before .before .before .before .before .before .before .args in
     feed-close (start .s .now) (start .base) (start .basis) (start .p) (record { ledger = here .g; field = here .«open»; pend = here .pend; since = here .since; top = here .top; reads = here .reads; heading = here .h; claims = here .claims; block = blockOf (here .course) (here .counts) (here .sums); wait = here .wait; starts = here .starts; n = here .n })
     (c .before .before .before .before .before .before .before .course-of .ensures) (c .block-of .ensures) (feed-end (here .inv) (omega (arith, c .before .loop-test)))
 
@@ -399,6 +403,7 @@ feed-spec =
     (tie.spec
     Inv-loop
     μ-loop
+    places-requires
     table-requires
     codes-requires
     course-of-requires
@@ -412,10 +417,10 @@ feed-spec =
     part-holds-inadmissible-end
     holds-inadmissible-requires
     line-marks-requires
-    sub-kind-of
-    part-kind-of-start
-    part-kind-of-end
-    kind-of-requires
+    sub-kind-from
+    part-kind-from-start
+    part-kind-from-end
+    kind-from-requires
     enum-told
     claim-closed-requires
     group-marks-of-requires
