@@ -116,24 +116,30 @@ fn read_group(t: &[u8]) -> Reading
     }
 }
 
-// The two parts are checked where they stand.
+// Each part is read and weighed in one loop, where it stands.
 fn read_account(t: &[u8]) -> Reading
     ensures { λ r. ⌜ r ≡ readingOf Class.Account (now (t .entry)) ⌝ }
 {
-    match numbers::read_two(t, 0, 6, 1, 10) {
-        Two::Found {
-            first: _,
-            mid,
-            second,
-            end,
-        } => {
-            if_fits(
-                ends_or_name(t, end),
-                Reading::Party(parts::halves_of(&t[..mid], &t[mid + 1..end], second)),
-            )
-        }
-        Two::NotTwo => Reading::Broken,
+    let a = parts::weighed_at(t, 0, 6);
+    let mid = a.end;
+    if t.len() <= mid {
+        return Reading::Broken;
     }
+    if t[mid] != 32 {
+        return Reading::Broken;
+    }
+    let b = parts::weighed_at(t, mid + 1, 10);
+    let end = b.end;
+    if end < mid + 2 {
+        return Reading::Broken;
+    }
+    if_fits(
+        ends_or_name(t, end),
+        Reading::Party(Halves {
+            prefix: a.sum % 11 == 0,
+            number: parts::number_by(b.any == 0, b.sum % 11 == 0),
+        }),
+    )
 }
 
 fn read_number(t: &[u8]) -> Reading

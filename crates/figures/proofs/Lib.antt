@@ -6,4 +6,5 @@ pub mod Told
 pub mod Endings
 pub mod Weights
 pub mod Reading
+pub mod Halved
 pub mod Judged

@@ -5,8 +5,8 @@ use mathlib.Core.List.{List, [], _∷_}
 use Prim.Native.Nat.{ℕ, zero, suc, _^_, _≤_, _<_, zero-le}
 use native.Mathlib.Nat.{not-suc-le-zero, le-of-suc-le-suc}
 use native.Mathlib.Omega.{arith}
-use lib.ListN.{length, take}
-use lib.Seq.{length-take-le}
+use lib.ListN.{length, take, drop, getD, drop-of-length-le}
+use lib.Seq.{length-take-le, drop-cons}
 use Rattle.text.specs.Digits.{isDigit, allDigits, value}
 use Rattle.text.proofs.Widths.{value-lt}
 use Rattle.text.proofs.Reading.{small}
@@ -56,6 +56,20 @@ run-take f zero k s l = refl
 run-take f (suc h) zero s l = absurd (not-suc-le-zero l)
 run-take f (suc h) (suc k) [] l = refl
 run-take f (suc h) (suc k) (b ∷ s) l = rw (run-take f h k s (le-of-suc-le-suc l))
+
+-- no run at a text's end, nor at a byte of another sort
+pub run-nil : (f : ℕ → Bool) (h : ℕ) → run f h [] ≡ 0
+unfolding run
+run-nil f zero = refl
+run-nil f (suc h) = refl
+
+pub run-past : (f : ℕ → Bool) (h : ℕ) (t : List ℕ) (i : ℕ) → length t ≤ i → run f h (drop i t) ≡ 0
+run-past f h t i l = rw (drop-of-length-le t l) (run-nil f h)
+
+pub run-other : (f : ℕ → Bool) (h : ℕ) (t : List ℕ) (i : ℕ) → i < length t → f (getD t i 0) ≡ false → run f h (drop i t) ≡ 0
+unfolding run
+run-other f zero t i l e = refl
+run-other f (suc h) t i l e = rw (drop-cons t i 0 l, e)
 
 -- a run of digits
 pub all-digits : (s : List ℕ) → allDigits s ≡ allOf isDigit s

@@ -1,12 +1,12 @@
 -- A loop that reads digits: at place i, the digits that are left, after the number read so far, give what all of them give.
 use mathlib.Core.Path.{_≡_, refl, _∙_, sym}
 use mathlib.Core.Bool.{true}
-use mathlib.Core.List.{List, [], _∷_}
+use mathlib.Core.List.{List, _∷_}
 use Prim.Native.Nat.{ℕ, zero, suc, _+_, _-_, _*_, _^_, _≤_, _<_}
 use native.Mathlib.Nat.{one-le-pow}
 use native.Mathlib.Numerals.{add-one}
 use native.Mathlib.Omega.{arith}
-use lib.ListN.{length, drop, getD, drop-of-length-le}
+use lib.ListN.{length, drop, getD}
 use lib.Seq.{drop-cons}
 use borrow.Author.Tests.{le-leb, lt-leb}
 use Rattle.text.specs.Digits.{isDigit, valueAfter}
@@ -14,6 +14,7 @@ use Rattle.text.proofs.Reading.{grows, small}
 use Rattle.figures.specs.declared.numbers.Run.{Run}
 use Rattle.figures.specs.Layouts.{run}
 use Rattle.figures.specs.Numbers.{digitsFrom, numberAt}
+use Rattle.figures.proofs.Runs.{run-past, run-other}
 
 pub same-run : {a b c d : ℕ} → a ≡ b → c ≡ d → _≡_ {A = Run} (record { value = a; end = c }) (record { value = b; end = d })
 same-run p q = rw (p, q)
@@ -23,14 +24,9 @@ pub stopped : (v i : ℕ) (s : List ℕ) (k : ℕ) → run isDigit k s ≡ 0 →
 unfolding valueAfter
 stopped v i s k e = rw e (same-run refl (omega arith))
 
-run-nil : (k : ℕ) → run isDigit k [] ≡ 0
-unfolding run
-run-nil zero = refl
-run-nil (suc k) = refl
-
 module _ (t : List ℕ) (r : Run) (v i k : ℕ) (known : r ≡ digitsFrom k v i (drop i t)) where
   pub at-end : length t ≤ i → record { value = v; end = i } ≡ r
-  at-end h = sym (known ∙ stopped v i (drop i t) k (rw (drop-of-length-le t h) (run-nil k)))
+  at-end h = sym (known ∙ stopped v i (drop i t) k (run-past isDigit k t i h))
 
   pub at-most : k ≡ 0 → record { value = v; end = i } ≡ r
   unfolding run
@@ -38,20 +34,10 @@ module _ (t : List ℕ) (r : Run) (v i k : ℕ) (known : r ≡ digitsFrom k v i 
 
   module _ (h : i < length t) where
     pub low : getD t i 0 < 48 → record { value = v; end = i } ≡ r
-    unfolding run
-    low a = sym (known ∙ stopped v i (drop i t) k (go k))
-      where
-        go : (j : ℕ) → run isDigit j (drop i t) ≡ 0
-        go zero = refl
-        go (suc j) = rw (drop-cons t i 0) (simp (lt-leb 48 (getD t i 0) a))
+    low a = sym (known ∙ stopped v i (drop i t) k (run-other isDigit k t i h (simp (lt-leb 48 (getD t i 0) a))))
 
     pub high : 57 < getD t i 0 → record { value = v; end = i } ≡ r
-    unfolding run
-    high a = sym (known ∙ stopped v i (drop i t) k (go k))
-      where
-        go : (j : ℕ) → run isDigit j (drop i t) ≡ 0
-        go zero = refl
-        go (suc j) = rw (drop-cons t i 0) (simp (le-leb 48 (getD t i 0) (omega arith), lt-leb (getD t i 0) 57 a))
+    high a = sym (known ∙ stopped v i (drop i t) k (run-other isDigit k t i h (simp (le-leb 48 (getD t i 0) (omega arith), lt-leb (getD t i 0) 57 a))))
 
 digit-first : (b : ℕ) (s : List ℕ) (k v i : ℕ) → isDigit b ≡ true → digitsFrom (suc k) v i (b ∷ s) ≡ digitsFrom k (v * 10 + (b - 48)) (i + 1) s
 unfolding run valueAfter

@@ -1,4 +1,5 @@
 pub mod Layouts
 pub mod Described
 pub mod Numbers
+pub mod Parts
 pub mod Accounts

@@ -1,32 +1,50 @@
 // The two parts of an account, and what each is as a half of it.
 use crate::numbers;
 ghost use mathlib.Core.Path.{_≡_};
-ghost use mathlib.Core.Bool.{true};
-ghost use Prim.Native.Nat.{_-_, _≤_, _<_};
-ghost use lib.ListN.{length, getD};
-ghost use Rattle.text.specs.Digits.{allDigits, value};
-ghost use Rattle.figures.specs.Accounts.{passes, numberBy, halvesOf, noPart, partOf};
+ghost use Prim.Native.Nat.{_+_, _≤_, min};
+ghost use lib.ListN.{length};
+ghost use Rattle.figures.specs.Parts.{weighedAt};
+ghost use Rattle.figures.specs.Accounts.{numberBy, noPart, partOf};
 
-fn digit_at(s: &[u8], i: usize) -> u64
-    requires { ⌜ (allDigits (now s) ≡ true) × (i < length (now s)) ⌝ }
-    ensures { λ r. ⌜ (r ≡ getD (now (s .entry)) i 0 - 48) × (r ≤ 9) ⌝ }
-{
-    numbers::wide(s[i] - 48)
+// Digits of a part: their sum, doubled and added from the left, their bits, and the place after them.
+pub struct Weighed {
+    pub sum: u64,
+    pub any: u64,
+    pub end: usize,
 }
 
-// Whether the digits of a part, weighed from the right, divide by 11: a weight is twice the one to its right, but for elevens, so each
-// digit is added to twice the sum of those to its left.
-fn part_passes(s: &[u8]) -> bool
-    requires { ⌜ (length (now s) ≤ 10) × (allDigits (now s) ≡ true) ⌝ }
-    ensures { λ r. ⌜ r ≡ passes (now (s .entry)) ⌝ }
+// Where so many bytes from a place on end, or the text does.
+fn stop_of(size: usize, at: usize, most: usize) -> usize
+    requires { ⌜ at ≤ size ⌝ }
+    ensures { λ r. ⌜ r ≡ min size (at + most) ⌝ }
 {
+    if size - at < most {
+        return size;
+    }
+    at + most
+}
+
+// The digits from a place on, at most so many. A weight is twice the one to its right, but for elevens, so each digit is added to twice
+// the sum of those to its left: that divides by 11 where the weighed sum does.
+pub fn weighed_at(t: &[u8], at: usize, most: usize) -> Weighed
+    requires { ⌜ (at ≤ length (now t)) × (most ≤ 10) ⌝ }
+    ensures { λ r. ⌜ (r ≡ weighedAt most (now (t .entry)) at) × (at ≤ r .end) × (r .end ≤ length (now (t .entry))) ⌝ }
+{
+    let stop = stop_of(t.len(), at, most);
     let mut sum: u64 = 0;
-    let mut i = 0;
-    while i < s.len() {
-        sum = 2 * sum + digit_at(s, i);
+    let mut any: u64 = 0;
+    let mut i = at;
+    while i < stop {
+        let e = std::num::wrapping_sub_u8(t[i], 48);
+        if 9 < e {
+            return Weighed { sum, any, end: i };
+        }
+        let d = numbers::wide(e);
+        sum = 2 * sum + d;
+        any = any | d;
         i += 1;
     }
-    sum % 11 == 0
+    Weighed { sum, any, end: i }
 }
 
 // A part that may not be digits: whether it is at most so many of them; if so, whether one is not 0, and whether it passes.
@@ -46,31 +64,18 @@ fn no_part() -> PartRead
     }
 }
 
-// Reads a part: one loop for its digits, their sum, and whether one is not 0.
 pub fn part_of(s: &[u8], most: usize) -> PartRead
     requires { ⌜ most ≤ 10 ⌝ }
     ensures { λ r. ⌜ r ≡ partOf most (now (s .entry)) ⌝ }
 {
-    if most < s.len() {
+    let w = weighed_at(s, 0, most);
+    if w.end < s.len() {
         return no_part();
-    }
-    let mut sum: u64 = 0;
-    let mut any: u64 = 0;
-    let mut i = 0;
-    while i < s.len() {
-        let e = std::num::wrapping_sub_u8(s[i], 48);
-        if 9 < e {
-            return no_part();
-        }
-        let d = numbers::wide(e);
-        sum = 2 * sum + d;
-        any = any | d;
-        i += 1;
     }
     PartRead {
         digits: true,
-        some: any != 0,
-        passes: sum % 11 == 0,
+        some: w.any != 0,
+        passes: w.sum % 11 == 0,
     }
 }
 
@@ -97,15 +102,4 @@ pub fn number_by(zero: bool, passes: bool) -> Number
         return Number::Good;
     }
     Number::Failing
-}
-
-// The halves of a prefix and a number of the value v, where both are known to be digits.
-pub fn halves_of(prefix: &[u8], number: &[u8], v: u64) -> Halves
-    requires { ⌜ (length (now prefix) ≤ 10) × (allDigits (now prefix) ≡ true) × (length (now number) ≤ 10) × (allDigits (now number) ≡ true) × (v ≡ value (now number)) ⌝ }
-    ensures { λ r. ⌜ r ≡ halvesOf (now (prefix .entry)) (now (number .entry)) ⌝ }
-{
-    Halves {
-        prefix: part_passes(prefix),
-        number: number_by(v == 0, part_passes(number)),
-    }
 }
