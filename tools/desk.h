@@ -108,6 +108,12 @@ void free_bytes(struct bytes *file);
  * the old one is then as it was. */
 bool write_file(const char *name, const void *bytes, size_t length);
 
+/* Waits until nobody else holds a file, and holds it: between reading it and
+ * writing it anew no other desk reads it. The answer is for unlock_file, and -1
+ * where it cannot be had, of which it has complained. */
+int lock_file(const char *name);
+void unlock_file(int file);
+
 /* Lines */
 
 #define END_MARK 0x1A

@@ -1,13 +1,17 @@
 /* Reading a file or standard input, writing a file. */
 
-#define _POSIX_C_SOURCE 200809L /* for fsync, fileno and getpid */
+#define _POSIX_C_SOURCE 200809L /* for fsync, fileno, getpid and strdup */
 
 #include "desk.h"
 
 #include <errno.h>
+#include <fcntl.h>
+#include <libgen.h>
 #include <stdio.h>
 #include <stdlib.h>
 #include <string.h>
+#include <sys/file.h>
+#include <sys/stat.h>
 #include <unistd.h>
 
 /* On failure errno says why. */
@@ -62,6 +66,20 @@ static bool write_whole(FILE *to, const void *bytes, size_t length)
     return fclose(to) == 0 && written;
 }
 
+/* The folder's own entry reaches the disk too, so that what is said to be
+ * written is there after a power cut. A folder that cannot be opened or synced
+ * (some file systems have no such thing) is let be. */
+static void sync_folder_of(const char *name)
+{
+    char *copy = strdup(name);
+    int folder = copy == NULL ? -1 : open(dirname(copy), O_RDONLY | O_DIRECTORY | O_CLOEXEC);
+    if (folder >= 0) {
+        fsync(folder);
+        close(folder);
+    }
+    free(copy);
+}
+
 /* On failure errno says why. */
 static bool replace_by(const char *name, const char *beside, const void *bytes, size_t length)
 {
@@ -70,6 +88,7 @@ static bool replace_by(const char *name, const char *beside, const void *bytes, 
         return false;
     }
     if (write_whole(to, bytes, length) && rename(beside, name) == 0) {
+        sync_folder_of(name);
         return true;
     }
     int reason = errno;
@@ -92,4 +111,38 @@ bool write_file(const char *name, const void *bytes, size_t length)
     }
     free(beside);
     return written;
+}
+
+/* Whether a name still means the file that is open. */
+static bool means(const char *name, int file)
+{
+    struct stat here;
+    struct stat there;
+    return fstat(file, &here) == 0 && stat(name, &there) == 0 && here.st_dev == there.st_dev && here.st_ino == there.st_ino;
+}
+
+int lock_file(const char *name)
+{
+    for (;;) {
+        int file = open(name, O_RDONLY | O_CLOEXEC);
+        if (file < 0) {
+            complain("%s cannot be read: %s", name, strerror(errno));
+            return -1;
+        }
+        if (flock(file, LOCK_EX) != 0) {
+            complain("%s cannot be locked: %s", name, strerror(errno));
+            close(file);
+            return -1;
+        }
+        if (means(name, file)) {
+            return file;
+        }
+        /* Another desk has put a new one in its place meanwhile. */
+        close(file);
+    }
+}
+
+void unlock_file(int file)
+{
+    close(file);
 }

@@ -5,7 +5,9 @@
  *   register show REGISTER
  *
  * A register is a file. Entering writes the new one beside the old and renames
- * it, so that a power cut leaves the one or the other, and never a half.
+ * it, so that a power cut leaves the one or the other, and never a half. It
+ * holds the old one from reading to renaming: of two that enter at once, the
+ * second waits, and reads what the first has written.
  * Exit status: 0 done; 2 refused, a file cannot be read or written, or the
  * arguments are wrong.
  */
@@ -140,9 +142,13 @@ static int enter_file(char **words)
     if (!read_file(words[2], FILE_ROOM, &file)) {
         return FAILED;
     }
-    if (read_file(words[3], REGISTER_ROOM, &old)) {
-        status = enter_bytes(code, day, &file, &old, words[3]);
-        free_bytes(&old);
+    int held = lock_file(words[3]);
+    if (held >= 0) {
+        if (read_file(words[3], REGISTER_ROOM, &old)) {
+            status = enter_bytes(code, day, &file, &old, words[3]);
+            free_bytes(&old);
+        }
+        unlock_file(held);
     }
     free_bytes(&file);
     return status;
