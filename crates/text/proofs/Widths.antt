@@ -3,10 +3,10 @@ use mathlib.Core.Path.{_≡_, refl, ap, _∙_}
 use mathlib.Core.Bool.{Bool, true, false, _&&_, false≢true}
 use mathlib.Core.List.{List, [], _∷_}
 use Prim.Native.Nat.{ℕ, zero, suc, _+_, _-_, _*_, _/_, _%_, _^_, _≤_, _<_}
-use native.Mathlib.Nat.{pow-succ', mul-assoc, add-mul, add-assoc, zero-add, zero-mul, mul-add-div-right, mod-lt, mod-eq-of-lt, one-le-pow, mul-add-mod-self-right, add-sub-cancel-left, not-suc-le-zero, le-of-suc-le-suc}
+use native.Mathlib.Nat.{pow-succ', mul-assoc, add-mul, add-assoc, zero-add, zero-mul, mul-add-div-right, mod-lt, mod-eq-of-lt, one-le-pow, mul-add-mod-self-right, add-sub-cancel-left}
 use native.Mathlib.Omega.{arith}
 use lib.Arith.{mod-mul, digits-lt, digits-div}
-use lib.ListN.{length, getD}
+use lib.ListN.{length}
 use lib.Dec.{leb}
 use borrow.Author.Tests.{leb-true, le-leb}
 use Rattle.text.specs.Digits.{allDigits, valueAfter, value, digits}
@@ -83,9 +83,3 @@ unfolding digits allDigits
 digits-are zero v = refl
 digits-are (suc n) v =
     simp (le-leb 48 (48 + v / 10 ^ n % 10) (omega arith), le-leb (48 + v / 10 ^ n % 10) 57 (omega arith), digits-are n v)
-
--- each byte of digits is a digit
-pub digit-at : (bs : List ℕ) → allDigits bs ≡ true → (i : ℕ) → i < length bs → (48 ≤ getD bs i 0) × (getD bs i 0 ≤ 57)
-digit-at [] e i h = absurd (not-suc-le-zero h)
-digit-at (b ∷ bs) e zero h = let d = digit-parts b bs e in (d .0, d .1)
-digit-at (b ∷ bs) e (suc i) h = digit-at bs (digit-parts b bs e .2) i (le-of-suc-le-suc h)
