@@ -23,7 +23,7 @@ use Rattle.turnovers.specs.declared.Posting.{Posting}
 use Rattle.turnovers.specs.declared.Posting.the-variants.{Moves, Nothing}
 use Rattle.booking.specs.declared.Told.{Told}
 use Rattle.sums.specs.Sums.{AddsBoth, signed, beyond}
-use Rattle.booking.specs.Sheet.{cell, isListed, moved, passes, allListed, somePasses, after}
+use Rattle.booking.specs.Sheet.{cell, isListed, moved, goesBeyond, allListed, somePasses, after}
 use Rattle.booking.specs.Booking.{Sound, told, toldBy, Kept, KeptBy, Booked}
 use Rattle.booking.proofs.Columns.{listed-at}
 
@@ -70,12 +70,12 @@ module _ (codes : List ℕ) (m : Move) where
     unfolding told tell
     told-absent e = rw (is-absent e)
 
-    told-listed : absent ≡ false → tell (t .unlisted) (cond (t .beyond) true (passes codes ts m)) ≡ told codes t ts m
+    told-listed : absent ≡ false → tell (t .unlisted) (cond (t .beyond) true (goesBeyond codes ts m)) ≡ told codes t ts m
     unfolding told tell
     told-listed e = rw (is-listed e)
 
     pub told-before : absent ≡ false → t .beyond ≡ true → tell (t .unlisted) true ≡ told codes t ts m
-    told-before e b = sym (ap (λ (b : Bool). tell (t .unlisted) (cond b true (passes codes ts m))) b) ∙ told-listed e
+    told-before e b = sym (ap (λ (b : Bool). tell (t .unlisted) (cond b true (goesBeyond codes ts m))) b) ∙ told-listed e
 
     abbrev x : ℤ
     x = signed (m .minus) (m .amount)
@@ -90,12 +90,12 @@ module _ (codes : List ℕ) (m : Move) where
       apart : here ≡ there → ⊥
       apart q = S .apart (omega (arith, q, S .from, S .to))
 
-      both-is : r ≡ passes codes ts m
+      both-is : r ≡ goesBeyond codes ts m
       both-is =
           A .passes ∙ ap (λ (z : ℤ). beyond (getD ts here (pos 0) +ℤ x) || beyond (z +ℤ x)) (getD-set-other ts here there (getD ts here (pos 0) +ℤ x) (pos 0) (λ q. apart (sym q)))
 
       pub told-both : tell (t .unlisted) r ≡ told codes t ts m
-      told-both = ap (tell (t .unlisted)) (both-is ∙ sym (ap (λ (b : Bool). cond b true (passes codes ts m)) b)) ∙ told-listed e
+      told-both = ap (tell (t .unlisted)) (both-is ∙ sym (ap (λ (b : Bool). cond b true (goesBeyond codes ts m)) b)) ∙ told-listed e
 
       pub moved-both : r ≡ false → ts′ ≡ moved codes ts m
       moved-both f = A .sheet f
@@ -129,11 +129,11 @@ module _ (codes : List ℕ) (t : Told) (ts : List ℤ) (m : Move) where
   unfolding told
   told-unlisted = go (isListed codes m)
     where
-      go : (L : Bool) → cond {A = Told} L (record { unlisted = t .unlisted; beyond = cond (t .beyond) true (passes codes ts m) }) (record { unlisted = true; beyond = t .beyond }) .unlisted ≡ cond L (t .unlisted) true
+      go : (L : Bool) → cond {A = Told} L (record { unlisted = t .unlisted; beyond = cond (t .beyond) true (goesBeyond codes ts m) }) (record { unlisted = true; beyond = t .beyond }) .unlisted ≡ cond L (t .unlisted) true
       go true = refl
       go false = refl
 
-  told-beyond : isListed codes m ≡ true → told codes t ts m .beyond ≡ cond (t .beyond) true (passes codes ts m)
+  told-beyond : isListed codes m ≡ true → told codes t ts m .beyond ≡ cond (t .beyond) true (goesBeyond codes ts m)
   unfolding told
   told-beyond e = rw e
 
@@ -157,17 +157,17 @@ module _ {codes : List ℕ} {ts₀ : List ℤ} {all : List Posting} {ts : List �
     beyond = λ e.
         let h = both-of (isListed codes m) (t .unlisted) (sym is-unlisted ∙ e) in
         W .beyond (h .1)
-        ∙ or-more (t .beyond) (passes codes ts m) (somePasses codes (moved codes ts m) ps) (somePasses codes ts′ ps) (t′ .beyond)
+        ∙ or-more (t .beyond) (goesBeyond codes ts m) (somePasses codes (moved codes ts m) ps) (somePasses codes ts′ ps) (t′ .beyond)
         (is-beyond (h .0)) (λ f. ap (λ (l : List ℤ). somePasses codes l ps) (K e f));
     sheet = λ e f.
         let h = both-of (isListed codes m) (t .unlisted) (sym is-unlisted ∙ e) in
-        W .sheet (h .1) (not-before (t .beyond) (passes codes ts m) (sym (is-beyond (h .0)) ∙ f) .0) ∙ sym (ap (λ (l : List ℤ). after codes l ps) (K e f));
+        W .sheet (h .1) (not-before (t .beyond) (goesBeyond codes ts m) (sym (is-beyond (h .0)) ∙ f) .0) ∙ sym (ap (λ (l : List ℤ). after codes l ps) (K e f));
   }
     where
       is-unlisted : t′ .unlisted ≡ cond (isListed codes m) (t .unlisted) true
       is-unlisted = ap (λ (t : Told). t .unlisted) q ∙ told-unlisted codes t ts m
 
-      is-beyond : isListed codes m ≡ true → t′ .beyond ≡ cond (t .beyond) true (passes codes ts m)
+      is-beyond : isListed codes m ≡ true → t′ .beyond ≡ cond (t .beyond) true (goesBeyond codes ts m)
       is-beyond e = ap (λ (t : Told). t .beyond) q ∙ told-beyond codes t ts m e
 
   pub step : (p : Posting) → Left codes ts₀ all ts t (p ∷ ps) → t′ ≡ toldBy codes t ts p → KeptBy codes ts p t′ ts′ → Left codes ts₀ all ts′ t′ ps

@@ -1,4 +1,5 @@
--- One walk over a file's items: what is found, and the sheet so far, which counts only while nothing is found.
+-- Model of the code, not part of the statement: one walk over a file's items, what it finds, and the sheet so far, which counts only while
+-- nothing is found.
 use Prim.Native.Nat.{ℕ, _<_}
 use mathlib.Core.Path.{_≡_}
 use mathlib.Core.Bool.{true, false, cond, not}
@@ -8,7 +9,7 @@ use Rattle.turnovers.specs.declared.Move.{Move}
 use Rattle.turnovers.specs.declared.Posting.{Posting}
 use Rattle.turnovers.specs.declared.Posting.the-variants.{Moves, Nothing}
 use Rattle.booking.specs.declared.Told.{Told}
-use Rattle.booking.specs.Sheet.{isListed, passes, moved, allListed, somePasses, after}
+use Rattle.booking.specs.Sheet.{isListed, goesBeyond, moved, allListed, somePasses, after}
 
 -- two turnovers of different sides, and an amount of fifteen digits at most
 pub record Sound (m : Move) : Type 0 where
@@ -26,7 +27,7 @@ module _ (codes : List ℕ) where
   unfoldable pub told : Told → List ℤ → Move → Told
   told t ts m =
       cond (isListed codes m)
-      (record { unlisted = t .unlisted; beyond = cond (t .beyond) true (passes codes ts m) })
+      (record { unlisted = t .unlisted; beyond = cond (t .beyond) true (goesBeyond codes ts m) })
       (record { unlisted = true; beyond = t .beyond })
 
   abbrev pub toldBy : Told → List ℤ → Posting → Told

@@ -34,8 +34,8 @@ module _ (codes : List ℕ) where
       (cell (m .other .0) (m .to)) (signed (m .minus) (m .amount))
 
   -- the payer's turnover or the other's would pass the limit; they are never the same turnover, since one is a debit and one a credit
-  abbrev pub passes : List ℤ → Move → Bool
-  passes ts m =
+  abbrev pub goesBeyond : List ℤ → Move → Bool
+  goesBeyond ts m =
       beyond (getD ts (cell (m .payer .0) (m .from)) (pos 0) +ℤ signed (m .minus) (m .amount))
       || beyond (getD ts (cell (m .other .0) (m .to)) (pos 0) +ℤ signed (m .minus) (m .amount))
 
@@ -49,7 +49,7 @@ module _ (codes : List ℕ) where
   abbrev pub somePasses : List ℤ → List Posting → Bool
   somePasses ts [] = false
   somePasses ts (Nothing ∷ ps) = somePasses ts ps
-  somePasses ts (Moves m ∷ ps) = passes ts m || somePasses (moved ts m) ps
+  somePasses ts (Moves m ∷ ps) = goesBeyond ts m || somePasses (moved ts m) ps
 
   -- the sheet after all
   abbrev pub after : List ℤ → List Posting → List ℤ

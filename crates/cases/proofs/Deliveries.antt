@@ -28,7 +28,7 @@ use Rattle.rules.specs.Rows.{sorted, rowsFrom}
 use Rattle.rules.specs.LineRules.{rule1}
 use Rattle.rules.specs.Said.{continuations, says, stands, continued, headOf, firstSaid, digest}
 use Rattle.rules.specs.Spots.{fieldTests, ownTests, blockTests, headTests, fieldSpot, lowTests, looseTests, lowSpot}
-use Rattle.vetting.specs.Vetting.{barred as barredBy}
+use Rattle.vetting.specs.Vetting.{anyBarred}
 use Rattle.outgoing_lines.specs.Outgoing.{fieldAfter, underived, headingAfter, textsFrom}
 use Rattle.closing_lines.specs.Closing.{sumTextsFrom, closingTexts}
 use Rattle.surveying.specs.Items.{itemsOf, outKind, goesTo, anyUnsent, anyMixes, amountsOut}
@@ -36,5 +36,5 @@ use Rattle.delivery.specs.Delivery.{outputFile, deliverRefusals}
 use Rattle.cases.specs.Deliveries.{deliveries}
 
 pub every-delivery : every deliveries ≡ true
-unfolding anyOf isAdmissible valueAfter digits isLeap row monthLength isReal dayNumber begins template hasForm numbers formText isInput isTrilateral isPriority isPayment rule10 rule13 rule14 headingOf headingText outgoing codes inClass barred barredTo turned tellRefusals outgoingKind recipient numberRefusals deriveRefusals derivedTarget run isEmpty headIs fits part place kindOf classOf sumGroup weight weighed passes accountOf textOf readingOf takes reads saysOf crlf onto lines sorted rowsFrom rule1 continuations says stands fieldTests continued headOf firstSaid digest ownTests blockTests headTests fieldSpot halvesOf allFit lowTests looseTests lowSpot bare decimal linesText endedLines fileOf barredBy fieldAfter underived headingAfter textsFrom sumTextsFrom closingTexts itemsOf outKind goesTo anyUnsent anyMixes amountsOut outputFile deliverRefusals
+unfolding anyOf isAdmissible valueAfter digits isLeap row monthLength isReal dayNumber begins template hasForm numbers formText isInput isTrilateral isPriority isPayment rule10 rule13 rule14 headingOf headingText outgoing codes inClass barred barredTo turned tellRefusals outgoingKind recipient numberRefusals deriveRefusals derivedTarget run isEmpty headIs fits part place kindOf classOf sumGroup weight weighed passes accountOf textOf readingOf takes reads saysOf crlf onto lines sorted rowsFrom rule1 continuations says stands fieldTests continued headOf firstSaid digest ownTests blockTests headTests fieldSpot halvesOf allFit lowTests looseTests lowSpot bare decimal linesText endedLines fileOf anyBarred fieldAfter underived headingAfter textsFrom sumTextsFrom closingTexts itemsOf outKind goesTo anyUnsent anyMixes amountsOut outputFile deliverRefusals
 every-delivery = refl

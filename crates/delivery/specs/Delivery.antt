@@ -17,7 +17,7 @@ use Rattle.rules.specs.Rows.{rowsFrom}
 use Rattle.rules.specs.Tree.{Item}
 use Rattle.rules.specs.Spots.{spotsIn}
 use Rattle.listing.specs.Checking.{isCode, isAccountingDay}
-use Rattle.vetting.specs.Vetting.{barred}
+use Rattle.vetting.specs.Vetting.{anyBarred}
 use Rattle.outgoing_lines.specs.Outgoing.{Orders, textsFrom}
 use Rattle.surveying.specs.Items.{itemsOf, firstTo, anyUnsent, mixed, countsOut, sumsOut}
 use Rattle.closing_lines.specs.Closing.{closingTexts}
@@ -59,7 +59,7 @@ notItems q is =
 -- 'a line breaks a rule from 1 to 15 other than 12, or 23 or 24, or an item' is not sent
 abbrev pub notSent : List ℕ → Orders → ℕ → ℕ → Bool
 notSent s q certis day =
-    barred (spotsIn (input certis day) s) || anyUnsent q (firstTo q (itemsOf s)) 0 (itemsOf s)
+    anyBarred (spotsIn (input certis day) s) || anyUnsent q (firstTo q (itemsOf s)) 0 (itemsOf s)
 
 -- 'a sum of 10^17 or more, or an output file over 4,000,000,000 bytes'
 abbrev pub isLargeSum : ℕ → Bool

@@ -8,15 +8,15 @@ use lib.ListN.{getD}
 use lib.Dec.{T, eqb, ltb}
 use borrow.Author.Tests.{eqb-true, ltb-true}
 use Rattle.laws.proofs.Entries.{and-left, and-right}
-use Rattle.outcome_tables.specs.Outcomes.{Row, row, table, entries, packed, outgoing}
+use Rattle.outcome_tables.specs.Outcomes.{TypeRow, row, table, entries, packed, outgoing}
 use Rattle.outcome_tables.proofs.Seven.{seven}
 
 -- what every row and the empty one have, the row of a type has
-abbrev each : (List ℕ → Bool) → List Row → Bool
+abbrev each : (List ℕ → Bool) → List TypeRow → Bool
 each f [] = f []
 each f (row k es ∷ rs) = f es && each f rs
 
-at : (f : List ℕ → Bool) (rs : List Row) → T (each f rs) → (k : ℕ) → T (f (entries rs k))
+at : (f : List ℕ → Bool) (rs : List TypeRow) → T (each f rs) → (k : ℕ) → T (f (entries rs k))
 at f [] t k = t
 at f (row j es ∷ rs) t k = go (eqb k j) (at f rs (and-right (f es) (each f rs) t) k)
   where

@@ -12,7 +12,7 @@ use borrow.Author.Tests.{eqb-true, leb-true, ne-eqb}
 use Rattle.laws.proofs.Entries.{and-left, and-right}
 use Rattle.laws.proofs.Truth.{both-left, both-right}
 use Rattle.headings.specs.ItemTypes.{isPriority}
-use Rattle.outcome_tables.specs.Outcomes.{Row, row, table, entries, outgoing, inClass, returned}
+use Rattle.outcome_tables.specs.Outcomes.{TypeRow, row, table, entries, outgoing, inClass, returned}
 use Rattle.outcome_tables.proofs.Seven.{seven}
 
 -- the column in which a type stands, 0 for none
@@ -21,7 +21,7 @@ column e o [] = 0
 column e o (x ∷ xs) = cond (eqb x e) o (column e (suc o) xs)
 
 -- the first column in which it stands in some row
-abbrev outcomeOf : List Row → ℕ → ℕ
+abbrev outcomeOf : List TypeRow → ℕ → ℕ
 outcomeOf [] e = 0
 outcomeOf (row k es ∷ rs) e = cond (eqb (column e 1 es) 0) (outcomeOf rs e) (column e 1 es)
 
@@ -30,7 +30,7 @@ abbrev pub class : ℕ → ℕ
 class k = cond (eqb k 44) 3 (cond (isPriority k) 2 1)
 
 -- the first row of a class in which it stands
-abbrev typeOf : List Row → ℕ → ℕ → ℕ
+abbrev typeOf : List TypeRow → ℕ → ℕ → ℕ
 typeOf [] c e = 0
 typeOf (row k es ∷ rs) c e = cond (eqb (class k) c && not (eqb (column e 1 es) 0)) k (typeOf rs c e)
 
@@ -40,11 +40,11 @@ traced o k es =
     && (eqb (typeOf table (class k) (getD es (o - 1) 0)) k
     || (eqb k 21 && (eqb (typeOf table (class k) (getD es (o - 1) 0)) 01 && returned (getD es (o - 1) 0)))))
 
-abbrev each : (ℕ → List ℕ → Bool) → List Row → Bool
+abbrev each : (ℕ → List ℕ → Bool) → List TypeRow → Bool
 each f [] = true
 each f (row k es ∷ rs) = f k es && each f rs
 
-at : (f : ℕ → List ℕ → Bool) (rs : List Row) → T (each f rs) → (k : ℕ) → T (f k []) → T (f k (entries rs k))
+at : (f : ℕ → List ℕ → Bool) (rs : List TypeRow) → T (each f rs) → (k : ℕ) → T (f k []) → T (f k (entries rs k))
 at f [] t k n = n
 at f (row j es ∷ rs) t k n = go (eqb k j) refl (at f rs (and-right (f j es) (each f rs) t) k n)
   where

@@ -12,10 +12,10 @@ use Rattle.outcome_tables.specs.declared.Codes.{Codes}
 
 -- a row: the input type, and the outgoing types for outcomes 1 to 7; 00 where document 01 has a dash. 96, 97 and 98 have no row:
 -- 'Deriving answers 14 for them' (document 02, A3)
-pub data Row : Type 0 where
-  row : ℕ → List ℕ → Row
+pub data TypeRow : Type 0 where
+  row : ℕ → List ℕ → TypeRow
 
-abbrev pub table : List Row
+abbrev pub table : List TypeRow
 table =
     row 01 (01 ∷ 00 ∷ 00 ∷ 00 ∷ 00 ∷ 61 ∷ 71 ∷ []) ∷
     row 11 (11 ∷ 00 ∷ 00 ∷ 00 ∷ 00 ∷ 61 ∷ 71 ∷ []) ∷
@@ -32,7 +32,7 @@ table =
     row 45 (26 ∷ 66 ∷ 25 ∷ 65 ∷ 05 ∷ 69 ∷ 75 ∷ []) ∷ []
 
 -- the outgoing types of an input type; none where the table has no row
-abbrev pub entries : List Row → ℕ → List ℕ
+abbrev pub entries : List TypeRow → ℕ → List ℕ
 entries [] kind = []
 entries (row k es ∷ rs) kind = cond (eqb kind k) es (entries rs kind)
 

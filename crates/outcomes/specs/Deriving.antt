@@ -67,9 +67,9 @@ turnRefusalsOf (Reads h) o p = turnRefusals h o p
 unfoldable pub tellRefusals : List ℕ → ℕ → ℕ → List Refusal
 tellRefusals s o p = turnRefusalsOf (headingOf s) o p
 
-abbrev pub kindOf : Read → ℕ → ℕ
-kindOf Unreadable o = 0
-kindOf (Reads h) o = turned h o .kind
+abbrev pub kindTold : Read → ℕ → ℕ
+kindTold Unreadable o = 0
+kindTold (Reads h) o = turned h o .kind
 
 -- 'the recipient': the second code of the outgoing heading
 abbrev pub recipientOf : Read → ℕ → ℕ
@@ -78,7 +78,7 @@ recipientOf (Reads h) o = turned h o .second .0
 
 -- the outgoing type and the recipient of a heading text and an outcome
 unfoldable pub outgoingKind : List ℕ → ℕ → ℕ
-outgoingKind s o = kindOf (headingOf s) o
+outgoingKind s o = kindTold (headingOf s) o
 
 unfoldable pub recipient : List ℕ → ℕ → ℕ
 recipient s o = recipientOf (headingOf s) o

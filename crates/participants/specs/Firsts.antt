@@ -1,4 +1,4 @@
--- The table that finds a code's place at one look. It follows the code: what posting means does not speak of it.
+-- Model of the code, not part of the statement: the table that finds a code's place at one look.
 use Prim.Native.Nat.{ℕ, _%_, _≤_, _<_}
 use mathlib.Core.List.{List}
 use lib.ListN.{length, getD}

@@ -15,7 +15,7 @@ use Rattle.rules.specs.Said.{headOf, digest}
 use Rattle.rules.specs.HeadingRules.{rule6At}
 use Rattle.rules.specs.LineRules.{rule1, rule4}
 use Rattle.rules.specs.Spots.{ownTests, blockTests, rule16At, headTests, inner, items}
-use Rattle.vetting.specs.Vetting.{bars, barred, itemBarred}
+use Rattle.vetting.specs.Vetting.{bars, anyBarred, itemBarred}
 use Rattle.vetting.proofs.Barring.{barred-both}
 use Rattle.surveying.specs.Model.{itemsBarred}
 
@@ -73,10 +73,10 @@ module _ (terms : Terms) (i : Item) where
       ∙ ap (λ (t : Bool). anyOf bars (brokenOf front) || t) (rest-idle above below)
       ∙ or-false (anyOf bars (brokenOf front))
 
-pub items-barred : (terms : Terms) (above is : List Item) → barred (items terms above is) ≡ itemsBarred terms is
-unfolding barred itemsBarred itemBarred
+pub items-barred : (terms : Terms) (above is : List Item) → anyBarred (items terms above is) ≡ itemsBarred terms is
+unfolding anyBarred itemsBarred itemBarred
 items-barred terms above [] = refl
 items-barred terms above (i ∷ is) =
-    ap (λ (t : Bool). anyOf bars (brokenOf (headTests terms above i is)) || t) (barred-both (inner terms i) (items terms (i ∷ above) is) ∙ ap (λ (t : Bool). barred (inner terms i) || t) (items-barred terms (i ∷ above) is))
-    ∙ ap (λ (t : Bool). t || (barred (inner terms i) || itemsBarred terms is)) (head-alone terms i above is ∙ sym (head-alone terms i [] []))
-    ∙ sym (or-assoc (anyOf bars (brokenOf (headTests terms [] i []))) (barred (inner terms i)) (itemsBarred terms is))
+    ap (λ (t : Bool). anyOf bars (brokenOf (headTests terms above i is)) || t) (barred-both (inner terms i) (items terms (i ∷ above) is) ∙ ap (λ (t : Bool). anyBarred (inner terms i) || t) (items-barred terms (i ∷ above) is))
+    ∙ ap (λ (t : Bool). t || (anyBarred (inner terms i) || itemsBarred terms is)) (head-alone terms i above is ∙ sym (head-alone terms i [] []))
+    ∙ sym (or-assoc (anyOf bars (brokenOf (headTests terms [] i []))) (anyBarred (inner terms i)) (itemsBarred terms is))

@@ -24,7 +24,7 @@ use Rattle.rules.specs.Tree.{Item, File, itemOf, _▹_, tree}
 use Rattle.rules.specs.LineRules.{nowhere, prelude, rule1, rule4}
 use Rattle.rules.specs.Spots.{lowTests, looseTests, lowSpot, lows, fieldSpot, fields, items, spots, spotsIn}
 use Rattle.item_reader.specs.Slips.{Headed}
-use Rattle.vetting.specs.Vetting.{bars, barred}
+use Rattle.vetting.specs.Vetting.{bars, anyBarred}
 use Rattle.outgoing_lines.specs.Outgoing.{Orders, underived}
 use Rattle.surveying.specs.declared.Lead.{Lead}
 use Rattle.surveying.specs.declared.Way.the-variants.{Nowhere, Goes}
@@ -53,11 +53,11 @@ module _ (s : List ℕ) (l : 0 < length s) where
     unfolding itemsOf
     first-item = ap (λ (f : File). f .items) (tree-is HeadingKind h)
 
-    pub headed-barred : (terms : Terms) → barred (spotsIn terms s) ≡ itemsBarred terms (itemsOf s)
+    pub headed-barred : (terms : Terms) → anyBarred (spotsIn terms s) ≡ itemsBarred terms (itemsOf s)
     unfolding itemsOf
     headed-barred terms =
         let t = tree-is HeadingKind h in
-        ap (λ (f : File). barred (spots terms f)) t ∙ items-barred terms [] (itemOf row below ∷ below .items) ∙ sym (ap (λ (f : File). itemsBarred terms (f .items)) t)
+        ap (λ (f : File). anyBarred (spots terms f)) t ∙ items-barred terms [] (itemOf row below ∷ below .items) ∙ sym (ap (λ (f : File). itemsBarred terms (f .items)) t)
 
     -- what the first item says is asked only where deriving does not refuse it
     module _ (q : Orders) {o p n : ℕ} (A : Asks q 0 o p n) where
@@ -85,39 +85,39 @@ module _ (s : List ℕ) (l : 0 < length s) where
 
   -- ---- any other line breaks rule 3
   module _ (terms : Terms) where
-    low-bars : (x : LowRow) (f : File) → barred (spots terms (low x ▹ f)) ≡ true
-    unfolding barred lowSpot lowTests anyOf
+    low-bars : (x : LowRow) (f : File) → anyBarred (spots terms (low x ▹ f)) ≡ true
+    unfolding anyBarred lowSpot lowTests anyOf
     low-bars x f = by (rule1 (x .row))
       where
         rest : List ℕ
         rest = brokenOf ((4 if rule4 (x .row)) ∷ [])
 
         more : Bool
-        more = barred (lows nowhere (f .top) ++ (fields terms none [] (f .loose) ++ items terms [] (f .items)))
+        more = anyBarred (lows nowhere (f .top) ++ (fields terms none [] (f .loose) ++ items terms [] (f .items)))
 
         by : (b : Bool) → (anyOf bars (cond b (1 ∷ 2 ∷ 3 ∷ rest) (2 ∷ 3 ∷ rest)) || more) ≡ true
         by true = refl
         by false = refl
 
-    field-bars : (x : FieldRow) (f : File) → barred (spots terms (field x ▹ f)) ≡ true
-    unfolding barred fieldSpot looseTests anyOf
+    field-bars : (x : FieldRow) (f : File) → anyBarred (spots terms (field x ▹ f)) ≡ true
+    unfolding anyBarred fieldSpot looseTests anyOf
     field-bars x f = by (rule1 (x .row))
       where
         rest : List ℕ
         rest = brokenOf ((4 if rule4 (x .row)) ∷ [])
 
         more : Bool
-        more = barred ((lows prelude (f .top) ++ fields terms none (record { owner = x; below = f .top } ∷ []) (f .loose)) ++ items terms [] (f .items))
+        more = anyBarred ((lows prelude (f .top) ++ fields terms none (record { owner = x; below = f .top } ∷ []) (f .loose)) ++ items terms [] (f .items))
 
         by : (b : Bool) → (anyOf bars (cond b (1 ∷ 3 ∷ rest) (3 ∷ rest)) || more) ≡ true
         by true = refl
         by false = refl
 
-    pub unheaded-barred : (kindOf text ≡ HeadingKind → ⊥) → barred (spotsIn terms s) ≡ true
+    pub unheaded-barred : (kindOf text ≡ HeadingKind → ⊥) → anyBarred (spotsIn terms s) ≡ true
     unheaded-barred h = go (kindOf text) refl
       where
-        go : (k : Kind) → kindOf text ≡ k → barred (spotsIn terms s) ≡ true
+        go : (k : Kind) → kindOf text ≡ k → anyBarred (spotsIn terms s) ≡ true
         go HeadingKind e = absurd (h e)
-        go Continuation e = ap (λ (f : File). barred (spots terms f)) (tree-is Continuation e) ∙ low-bars (record { row = row; continues = true }) below
-        go (Field i) e = ap (λ (f : File). barred (spots terms f)) (tree-is (Field i) e) ∙ field-bars (record { row = row; ident = i }) below
-        go Other e = ap (λ (f : File). barred (spots terms f)) (tree-is Other e) ∙ low-bars (record { row = row; continues = false }) below
+        go Continuation e = ap (λ (f : File). anyBarred (spots terms f)) (tree-is Continuation e) ∙ low-bars (record { row = row; continues = true }) below
+        go (Field i) e = ap (λ (f : File). anyBarred (spots terms f)) (tree-is (Field i) e) ∙ field-bars (record { row = row; ident = i }) below
+        go Other e = ap (λ (f : File). anyBarred (spots terms f)) (tree-is Other e) ∙ low-bars (record { row = row; continues = false }) below

@@ -28,7 +28,7 @@ use Rattle.rules.specs.Spots.{lowTests, lowSpot, lows, fieldTests}
 use Rattle.blocks.specs.Model.{basisOf, breaks8}
 use Rattle.account.proofs.Accounting.{same-eight}
 use Rattle.judging.specs.Opening.{saidMarks, kcMarks}
-use Rattle.vetting.specs.Vetting.{bars, barred}
+use Rattle.vetting.specs.Vetting.{bars, anyBarred}
 use Rattle.vetting.specs.Parts.{ownBreaks, fieldBarred}
 
 -- what a list of tests bars
@@ -49,24 +49,24 @@ tested-is (t ∷ ts) = go (t .broken) (tested-is ts)
     go true e = ap (λ (u : Bool). bars (t .rule) || u) e ∙ ap (λ (u : Bool). u || tested ts) (sym (and-true (bars (t .rule))))
     go false e = e ∙ ap (λ (u : Bool). u || tested ts) (sym (and-false (bars (t .rule))))
 
-pub barred-both : (ps qs : List Spot) → barred (ps ++ qs) ≡ (barred ps || barred qs)
-unfolding barred
+pub barred-both : (ps qs : List Spot) → anyBarred (ps ++ qs) ≡ (anyBarred ps || anyBarred qs)
+unfolding anyBarred
 barred-both [] qs = refl
-barred-both (p ∷ ps) qs = ap (λ (t : Bool). barring (p .tests) || t) (barred-both ps qs) ∙ sym (or-assoc (barring (p .tests)) (barred ps) (barred qs))
+barred-both (p ∷ ps) qs = ap (λ (t : Bool). barring (p .tests) || t) (barred-both ps qs) ∙ sym (or-assoc (barring (p .tests)) (anyBarred ps) (anyBarred qs))
 
 -- 1 or 4, at any line
 abbrev pub badRow : Row → Bool
 badRow r = rule1 r || rule4 r
 
 -- ---- a continuation, or a line of no kind
-pub lows-none : barred (lows inside []) ≡ false
-unfolding barred
+pub lows-none : anyBarred (lows inside []) ≡ false
+unfolding anyBarred
 lows-none = refl
 
-pub low-more : (l : LowRow) (ls : List LowRow) → barred (lows inside (l ∷ ls)) ≡ ((badRow (l .row) || not (l .continues)) || barred (lows inside ls))
-unfolding barred lowSpot lowTests
+pub low-more : (l : LowRow) (ls : List LowRow) → anyBarred (lows inside (l ∷ ls)) ≡ ((badRow (l .row) || not (l .continues)) || anyBarred (lows inside ls))
+unfolding anyBarred lowSpot lowTests
 low-more l ls =
-    ap (λ (t : Bool). t || barred (lows inside ls)) (tested-is (lowTests inside l) ∙ turn (rule1 (l .row)) (not (l .continues)) (rule4 (l .row)))
+    ap (λ (t : Bool). t || anyBarred (lows inside ls)) (tested-is (lowTests inside l) ∙ turn (rule1 (l .row)) (not (l .continues)) (rule4 (l .row)))
   where
     turn : (a b c : Bool) → (a || (b || (c || false))) ≡ ((a || c) || b)
     turn true b c = refl
@@ -154,10 +154,10 @@ field-tests terms h above g =
 
 -- it, and the lines below it
 pub field-barred : (terms : Terms) (h : Heading) (above : List (Owned FieldRow)) (g : Owned FieldRow) {again : Bool} → stands (g .owner .ident) above ≡ again
-    → fieldBarred terms h above g ≡ (ownBreaks (basisOf terms) h (g .owner .ident) again (badRow (g .owner .row)) (says g) || barred (lows inside (g .below)))
+    → fieldBarred terms h above g ≡ (ownBreaks (basisOf terms) h (g .owner .ident) again (badRow (g .owner .row)) (says g) || anyBarred (lows inside (g .below)))
 unfolding fieldBarred
 field-barred terms h above g {again} e =
-    ap (λ (t : Bool). t || barred (lows inside (g .below)))
+    ap (λ (t : Bool). t || anyBarred (lows inside (g .below)))
     (field-tests terms h above g
     ∙ ap (λ (t : Bool). (badRow (g .owner .row) || t) || saidBad terms (eqb (g .owner .ident) (named "KC")) h (says g)) e
     ∙ ap (λ (t : Bool). (badRow (g .owner .row) || again) || t) (sym (marks-bad terms (eqb (g .owner .ident) (named "KC")) h (says g))))

@@ -31,20 +31,20 @@ use Rattle.rules.specs.Spots.{fieldTests, fieldSpot, lows, fields, ownTests, bl
 use Rattle.blocks.specs.Model.{basisOf, breaks11}
 use Rattle.account.proofs.Accounting.{same-eleven}
 use Rattle.item_reader.specs.Slips.{kcAmong, fileFrom, Headed}
-use Rattle.vetting.specs.Vetting.{barred, itemBarred}
+use Rattle.vetting.specs.Vetting.{anyBarred, itemBarred}
 use Rattle.vetting.specs.Parts.{badAt, isLow, lowAt, owned, fieldBarred, fieldsBarred, headBreaks, HeadAt}
 use Rattle.vetting.proofs.Here.{rowAt, file-at, kind-told-here, bare}
 use Rattle.vetting.proofs.Barring.{barring, tested-is, barred-both, badRow, low-more}
 
 -- ---- its fields, one after the other
 module _ (terms : Terms) (h : Heading) (hd : Owned Row) (e : headOf hd ≡ Reads h) where
-  fields-are : (above gs : List (Owned FieldRow)) → barred (fields terms (some hd) above gs) ≡ fieldsBarred terms h above gs
-  unfolding barred fieldsBarred fieldBarred fieldSpot
+  fields-are : (above gs : List (Owned FieldRow)) → anyBarred (fields terms (some hd) above gs) ≡ fieldsBarred terms h above gs
+  unfolding anyBarred fieldsBarred fieldBarred fieldSpot
   fields-are above [] = refl
   fields-are above (g ∷ gs) =
       (λ i. barring (fieldTests terms (e i) above g) || barred-both (lows inside (g .below)) (fields terms (some hd) (g ∷ above) gs) i)
-      ∙ ap (λ (t : Bool). barring (fieldTests terms (Reads h) above g) || (barred (lows inside (g .below)) || t)) (fields-are (g ∷ above) gs)
-      ∙ sym (or-assoc (barring (fieldTests terms (Reads h) above g)) (barred (lows inside (g .below))) (fieldsBarred terms h (g ∷ above) gs))
+      ∙ ap (λ (t : Bool). barring (fieldTests terms (Reads h) above g) || (anyBarred (lows inside (g .below)) || t)) (fields-are (g ∷ above) gs)
+      ∙ sym (or-assoc (barring (fieldTests terms (Reads h) above g)) (anyBarred (lows inside (g .below))) (fieldsBarred terms h (g ∷ above) gs))
 
 -- ---- the tests at it
 module _ (terms : Terms) where
@@ -76,16 +76,16 @@ module _ (terms : Terms) where
       turn true b = refl
       turn false b = refl
 
-  item-tests : (i : Item) → itemBarred terms i ≡ (((badRow (i .head .owner)) || headBad (headOf (i .head)) (kcAmong (i .fields))) || barred (inner terms i))
-  unfolding itemBarred barred headTests digest
-  item-tests i = ap (λ (t : Bool). t || barred (inner terms i)) (by-tests (rule1 (i .head .owner)) (rule4 (i .head .owner)) (rule16At [] i []) [] (digest i) (headOf (i .head)))
+  item-tests : (i : Item) → itemBarred terms i ≡ (((badRow (i .head .owner)) || headBad (headOf (i .head)) (kcAmong (i .fields))) || anyBarred (inner terms i))
+  unfolding itemBarred anyBarred headTests digest
+  item-tests i = ap (λ (t : Bool). t || anyBarred (inner terms i)) (by-tests (rule1 (i .head .owner)) (rule4 (i .head .owner)) (rule16At [] i []) [] (digest i) (headOf (i .head)))
 
   -- a heading that does not read bars
   pub unreadable : (i : Item) → headOf (i .head) ≡ Unreadable → itemBarred terms i ≡ true
   unreadable i e =
       item-tests i
-      ∙ ap (λ (r : Read). (badRow (i .head .owner) || headBad r (kcAmong (i .fields))) || barred (inner terms i)) e
-      ∙ ap (λ (t : Bool). t || barred (inner terms i)) (or-true (badRow (i .head .owner)))
+      ∙ ap (λ (r : Read). (badRow (i .head .owner) || headBad r (kcAmong (i .fields))) || anyBarred (inner terms i)) e
+      ∙ ap (λ (t : Bool). t || anyBarred (inner terms i)) (or-true (badRow (i .head .owner)))
 
   -- so does a line below it
   low-bars : (row : Row) (l : LowRow) (ls : List LowRow) (gs : List (Owned FieldRow)) → itemBarred terms (record { head = owned row (l ∷ ls); fields = gs }) ≡ true
@@ -98,8 +98,8 @@ module _ (terms : Terms) where
           item-tests (record { head = owned row (l ∷ ls); fields = gs })
           ∙ ap (λ (t : Bool). (badRow row || headBad (headOf (owned row (l ∷ ls))) (kcAmong gs)) || t)
           (barred-both (lows inside (l ∷ ls)) (fields terms (some (owned row (l ∷ ls))) [] gs)
-          ∙ ap (λ (t : Bool). t || barred (fields terms (some (owned row (l ∷ ls))) [] gs))
-          (low-more l ls ∙ ap (λ (t : Bool). (badRow (l .row) || not t) || barred (lows inside ls)) q ∙ ap (λ (t : Bool). t || barred (lows inside ls)) (or-true (badRow (l .row)))))
+          ∙ ap (λ (t : Bool). t || anyBarred (fields terms (some (owned row (l ∷ ls))) [] gs))
+          (low-more l ls ∙ ap (λ (t : Bool). (badRow (l .row) || not t) || anyBarred (lows inside ls)) q ∙ ap (λ (t : Bool). t || anyBarred (lows inside ls)) (or-true (badRow (l .row)))))
           ∙ or-true (badRow row || headBad (headOf (owned row (l ∷ ls))) (kcAmong gs))
 
   -- with nothing below it

@@ -31,7 +31,7 @@ use Rattle.items.specs.Claims.{kcKept}
 use Rattle.items.proofs.Firsts.{kc-first}
 use Rattle.judging.proofs.OpenField.{says-own}
 use Rattle.item_reader.specs.Slips.{kcAmong, fileFrom}
-use Rattle.vetting.specs.Vetting.{barred}
+use Rattle.vetting.specs.Vetting.{anyBarred}
 use Rattle.vetting.specs.Parts.{badAt, owned, ownBreaks, kcHere, fieldBarred, fieldsBarred, TailAt, Sure, FieldAt}
 use Rattle.vetting.proofs.Here.{rowAt, file-at}
 use Rattle.vetting.proofs.Barring.{saidBad, marks-bad, field-barred}
@@ -104,7 +104,7 @@ module _ (s : List ℕ) (at ident : ℕ) (l : at < length s) (e : kindOf (drop a
     own-bars q n above a =
         first-bars n above
         (field-barred terms h above (owned (owner n) (rest n .top)) a
-        ∙ ap (λ (t : Bool). t || barred (lows inside (rest n .top)))
+        ∙ ap (λ (t : Bool). t || anyBarred (lows inside (rest n .top)))
         (ap (ownBreaks (basisOf terms) h ident again (badAt s at)) (says-or n (rest n .top)) ∙ go (takes (layoutOf (classOf ident) .more) (continuations (rest n .top)))))
       where
         go : (t : Bool) → ownBreaks (basisOf terms) h ident again (badAt s at) (ifFits t said) ≡ true
@@ -113,15 +113,15 @@ module _ (s : List ℕ) (at ident : ℕ) (l : at < length s) (e : kindOf (drop a
 
     -- by the lines below it
     pub below-bars : ((n : ℕ) (x : FieldRow) → codeOf (x .ident) ≡ codeOf ident
-        → (isBroken (says (owned x (fileFrom n (drop (lineAt s at .next) s) .top))) || barred (lows inside (fileFrom n (drop (lineAt s at .next) s) .top))) ≡ true)
+        → (isBroken (says (owned x (fileFrom n (drop (lineAt s at .next) s) .top))) || anyBarred (lows inside (fileFrom n (drop (lineAt s at .next) s) .top))) ≡ true)
         → (n : ℕ) (above : List (Owned FieldRow)) → stands ident above ≡ again → fieldsBarred terms h above (fileFrom n (drop at s) .loose) ≡ true
     unfolding rule1
     below-bars B n above a =
         first-bars n above (field-barred terms h above (owned (owner n) (rest n .top)) a ∙ go (isBroken (says (owned (owner n) (rest n .top)))) refl (B (suc n) (owner n) refl))
       where
-        go : (t : Bool) → isBroken (says (owned (owner n) (rest n .top))) ≡ t → (t || barred (lows inside (rest n .top))) ≡ true
-            → (ownBreaks (basisOf terms) h ident again (badAt s at) (says (owned (owner n) (rest n .top))) || barred (lows inside (rest n .top))) ≡ true
-        go true q w = ap (λ (t : Bool). t || barred (lows inside (rest n .top))) (broken-bars terms h ident again (badAt s at) (says (owned (owner n) (rest n .top))) q)
+        go : (t : Bool) → isBroken (says (owned (owner n) (rest n .top))) ≡ t → (t || anyBarred (lows inside (rest n .top))) ≡ true
+            → (ownBreaks (basisOf terms) h ident again (badAt s at) (says (owned (owner n) (rest n .top))) || anyBarred (lows inside (rest n .top))) ≡ true
+        go true q w = ap (λ (t : Bool). t || anyBarred (lows inside (rest n .top))) (broken-bars terms h ident again (badAt s at) (says (owned (owner n) (rest n .top))) q)
         go false q w = ap (λ (t : Bool). ownBreaks (basisOf terms) h ident again (badAt s at) (says (owned (owner n) (rest n .top))) || t) w ∙ or-true (ownBreaks (basisOf terms) h ident again (badAt s at) (says (owned (owner n) (rest n .top))))
 
     -- it does not bar

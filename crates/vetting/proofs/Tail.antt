@@ -28,7 +28,7 @@ use Rattle.items.proofs.Ideal.{closed}
 use Rattle.judging.specs.Opening.{breaksTail}
 use Rattle.judging.proofs.OpenField.{says-more, says-same}
 use Rattle.item_reader.specs.Slips.{fileFrom}
-use Rattle.vetting.specs.Vetting.{barred}
+use Rattle.vetting.specs.Vetting.{anyBarred}
 use Rattle.vetting.specs.Parts.{badAt, isContinuation, isLow, lowAt, owned, TailAt}
 use Rattle.vetting.proofs.Here.{rowAt, here, file-at, bare}
 use Rattle.vetting.proofs.Barring.{badRow, low-more, lows-none}
@@ -69,7 +69,7 @@ pub record Tailing (s : List ℕ) (at n class p tail : ℕ) : Type 0 where
   pub top : fileFrom n (drop at s) .top ≡ reverseAux ls (fileFrom below (drop p s) .top)
   pub loose : fileFrom n (drop at s) .loose ≡ fileFrom below (drop p s) .loose
   pub items : fileFrom n (drop at s) .items ≡ fileFrom below (drop p s) .items
-  pub clean : (ms : List LowRow) → barred (lows inside (reverseAux ls ms)) ≡ barred (lows inside ms)
+  pub clean : (ms : List LowRow) → anyBarred (lows inside (reverseAux ls ms)) ≡ anyBarred (lows inside ms)
   pub takes : (x : FieldRow) → codeOf (x .ident) ≡ class → says (closed x ls) ≡ says (owned x [])
   pub count : tail ≡ min 4 (counted ls)
 
@@ -104,13 +104,13 @@ continues-in s p e = (in-slice (ltb p (length s)) refl, by-kind (kindOf (drop p 
 
 module _ {s : List ℕ} {at n class p tail : ℕ} (T : Tailing s at n class p tail) where
   abbrev Bars : FieldRow → Type 0
-  Bars x = (isBroken (says (owned x (fileFrom n (drop at s) .top))) || barred (lows inside (fileFrom n (drop at s) .top))) ≡ true
+  Bars x = (isBroken (says (owned x (fileFrom n (drop at s) .top))) || anyBarred (lows inside (fileFrom n (drop at s) .top))) ≡ true
 
   -- one of the lines bars
-  by-line : (l : LowRow) (ms : List LowRow) → fileFrom (T .below) (drop p s) .top ≡ l ∷ ms → barred (lows inside (l ∷ ms)) ≡ true → (x : FieldRow) → Bars x
+  by-line : (l : LowRow) (ms : List LowRow) → fileFrom (T .below) (drop p s) .top ≡ l ∷ ms → anyBarred (lows inside (l ∷ ms)) ≡ true → (x : FieldRow) → Bars x
   by-line l ms e q x =
       ap (λ (t : Bool). isBroken (says (owned x (fileFrom n (drop at s) .top))) || t)
-      (ap (λ (ls : List LowRow). barred (lows inside ls)) (T .top ∙ ap (reverseAux (T .ls)) e) ∙ T .clean (l ∷ ms) ∙ q)
+      (ap (λ (ls : List LowRow). anyBarred (lows inside ls)) (T .top ∙ ap (reverseAux (T .ls)) e) ∙ T .clean (l ∷ ms) ∙ q)
       ∙ or-true (isBroken (says (owned x (fileFrom n (drop at s) .top))))
 
   module _ (h : p < length s) (e : kindOf (drop p s) ≡ Continuation) where
@@ -141,9 +141,9 @@ module _ {s : List ℕ} {at n class p tail : ℕ} (T : Tailing s at n class p ta
       where
         go : (u v : Bool) → badAt s p ≡ u → b ≡ v → (u || v) ≡ true → Bars x
         go true v e₁ e₂ z =
-            by-line line (next .top) (ap (λ (f : File). f .top) file-here) (low-more line (next .top) ∙ ap (λ (t : Bool). (t || false) || barred (lows inside (next .top))) e₁) x
+            by-line line (next .top) (ap (λ (f : File). f .top) file-here) (low-more line (next .top) ∙ ap (λ (t : Bool). (t || false) || anyBarred (lows inside (next .top))) e₁) x
         go false true e₁ e₂ z =
-            ap (λ (r : Reading). isBroken r || barred (lows inside (fileFrom n (drop at s) .top)))
+            ap (λ (r : Reading). isBroken r || anyBarred (lows inside (fileFrom n (drop at s) .top)))
             (ap (λ (ls : List LowRow). says (owned x ls)) (T .top ∙ ap (λ (f : File). reverseAux (T .ls) (f .top)) file-here)
             ∙ stays x (next .top) (line ∷ T .ls) (breaks-is x q w ∙ ap (λ (t : Bool). cond t Broken (says (closed x (T .ls)))) e₂))
         go false false e₁ e₂ z = absurd (false≢true z)
@@ -157,7 +157,7 @@ module _ {s : List ℕ} {at n class p tail : ℕ} (T : Tailing s at n class p ta
       top = T .top ∙ ap (λ (f : File). reverseAux (T .ls) (f .top)) file-here;
       loose = T .loose ∙ ap (λ (f : File). f .loose) file-here;
       items = T .items ∙ ap (λ (f : File). f .items) file-here;
-      clean = λ ms. T .clean (line ∷ ms) ∙ low-more line ms ∙ ap (λ (t : Bool). (t || false) || barred (lows inside ms)) (or-left (badAt s p) b g);
+      clean = λ ms. T .clean (line ∷ ms) ∙ low-more line ms ∙ ap (λ (t : Bool). (t || false) || anyBarred (lows inside ms)) (or-left (badAt s p) b g);
       takes = λ x q. breaks-is x q w ∙ ap (λ (t : Bool). cond t Broken (says (closed x (T .ls)))) (or-right (badAt s p) b g) ∙ T .takes x q;
       count = ap (λ (c : ℕ). min 4 (suc c)) (T .count) ∙ (let z : min 4 (suc (min 4 (counted (T .ls)))) ≡ min 4 (suc (counted (T .ls))) = omega arith in z);
     }
@@ -177,7 +177,7 @@ module _ {s : List ℕ} {at n class p tail : ℕ} (T : Tailing s at n class p ta
           let o : LowRow = record { row = rowAt s p (T .below); continues = false } in
           let ms = fileFrom (suc (T .below)) (drop (lineAt s p .next) s) .top in
           by-line o ms (ap (λ (f : File). f .top) (file-at s p h Other e (T .below)))
-          (low-more o ms ∙ ap (λ (t : Bool). t || barred (lows inside ms)) (or-true (badRow (o .row)))) x
+          (low-more o ms ∙ ap (λ (t : Bool). t || anyBarred (lows inside ms)) (or-true (badRow (o .row)))) x
 
   -- .. or where there is none
   pub tail-stops : lowAt s p ≡ false → TailAt s at n class p
@@ -185,7 +185,7 @@ module _ {s : List ℕ} {at n class p tail : ℕ} (T : Tailing s at n class p ta
       let top : fileFrom n (drop at s) .top ≡ reverseAux (T .ls) [] = T .top ∙ ap (reverseAux (T .ls)) (bare s p l (T .below)) in
       record {
         below = T .below;
-        clean = ap (λ (ls : List LowRow). barred (lows inside ls)) top ∙ T .clean [] ∙ lows-none;
+        clean = ap (λ (ls : List LowRow). anyBarred (lows inside ls)) top ∙ T .clean [] ∙ lows-none;
         takes = λ x q. ap (λ (ls : List LowRow). says (owned x ls)) top ∙ T .takes x q;
         loose = T .loose;
         items = T .items;

@@ -41,7 +41,7 @@ use Rattle.vetting.specs.declared.own_field.Stop.{Stop}
 use Rattle.vetting.specs.declared.own_field.Stop.the-variants.{At, Breaks}
 use Rattle.vetting.specs.declared.own_heading.Started.{Started}
 use Rattle.vetting.specs.declared.own_heading.Started.the-variants.{With, Bars as Falls}
-use Rattle.vetting.specs.Vetting.{bars, barred, itemBarred}
+use Rattle.vetting.specs.Vetting.{bars, anyBarred, itemBarred}
 
 -- ---- a line
 -- 1 or 4
@@ -86,7 +86,7 @@ kcHere ident said = cond (eqb ident (named "KC")) (kcBy said) NoKc
 
 -- it, or a line below it, bars the item
 unfoldable pub fieldBarred : Terms → Heading → List (Owned FieldRow) → Owned FieldRow → Bool
-fieldBarred terms h above g = anyOf bars (brokenOf (fieldTests terms (Reads h) above g)) || barred (lows inside (g .below))
+fieldBarred terms h above g = anyOf bars (brokenOf (fieldTests terms (Reads h) above g)) || anyBarred (lows inside (g .below))
 
 unfoldable pub fieldsBarred : Terms → Heading → List (Owned FieldRow) → List (Owned FieldRow) → Bool
 fieldsBarred terms h above [] = false
@@ -95,7 +95,7 @@ fieldsBarred terms h above (g ∷ gs) = fieldBarred terms h above g || fieldsBar
 -- the lines from a place on that belong to a field above it stop at `next`: none of them bars, and a field of the class takes them
 pub record TailAt (s : List ℕ) (at n class next : ℕ) : Type 0 where
   pub below : ℕ
-  pub clean : barred (lows inside (fileFrom n (drop at s) .top)) ≡ false
+  pub clean : anyBarred (lows inside (fileFrom n (drop at s) .top)) ≡ false
   pub takes : (x : FieldRow) → codeOf (x .ident) ≡ class → says (owned x (fileFrom n (drop at s) .top)) ≡ says (owned x [])
   pub loose : fileFrom n (drop at s) .loose ≡ fileFrom below (drop next s) .loose
   pub items : fileFrom n (drop at s) .items ≡ fileFrom below (drop next s) .items
@@ -104,7 +104,7 @@ abbrev pub TailTo : List ℕ → ℕ → ℕ → Stop → Type 0
 TailTo s at class (At next) = ((n : ℕ) → TailAt s at n class next) × (at ≤ next) × (next ≤ length s) × (lowAt s next ≡ false)
 TailTo s at class Breaks =
     (n : ℕ) (x : FieldRow) → codeOf (x .ident) ≡ class
-    → (isBroken (says (owned x (fileFrom n (drop at s) .top))) || barred (lows inside (fileFrom n (drop at s) .top))) ≡ true
+    → (isBroken (says (owned x (fileFrom n (drop at s) .top))) || anyBarred (lows inside (fileFrom n (drop at s) .top))) ≡ true
 
 -- no KC, or one that reads
 abbrev pub Sure : FirstKc → Type 0

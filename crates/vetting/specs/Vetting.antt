@@ -24,13 +24,13 @@ abbrev pub bars : ℕ → Bool
 bars r = among r (1 ∷ 2 ∷ 3 ∷ 4 ∷ 5 ∷ 6 ∷ 7 ∷ 8 ∷ 9 ∷ 10 ∷ 11 ∷ 13 ∷ 14 ∷ 15 ∷ 23 ∷ 24 ∷ [])
 
 -- 'a line breaks' such a rule: one of some lines
-unfoldable pub barred : List Spot → Bool
-barred [] = false
-barred (p ∷ ps) = anyOf bars (brokenOf (p .tests)) || barred ps
+unfoldable pub anyBarred : List Spot → Bool
+anyBarred [] = false
+anyBarred (p ∷ ps) = anyOf bars (brokenOf (p .tests)) || anyBarred ps
 
 -- an item, whatever stands above and below it: 16 to 21 and 30 to 39, which ask for that, bar nothing
 unfoldable pub itemBarred : Terms → Item → Bool
-itemBarred terms i = barred (headSpot terms [] i [] ∷ inner terms i)
+itemBarred terms i = anyBarred (headSpot terms [] i [] ∷ inner terms i)
 
 -- the item that stands at a place is i, and the next one at `next`; whatever number the line has
 pub record ItemAt (s : List ℕ) (at next n : ℕ) (i : Item) : Type 0 where
