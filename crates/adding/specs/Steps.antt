@@ -1,4 +1,5 @@
--- The steps of entering, below the open job: what is answered for the numbers of an accepted file, and for their keys in order.
+-- Model of the code, not part of the statement: what the steps of entering answer for the numbers of an accepted file, and for their keys
+-- in order.
 use Prim.Native.Nat.{ℕ, _-_}
 use mathlib.Core.List.{List, [], _∷_}
 use lib.Dec.{ltb}

@@ -1,4 +1,4 @@
--- What a file uses and what a register keeps, as rows of keys in lent memory.
+-- Model of the code, not part of the statement: what a file uses and what a register keeps, as rows of keys in lent memory.
 use Prim.Native.Nat.{ℕ, _*_, _≤_}
 use mathlib.Core.Path.{_≡_}
 use mathlib.Core.Bool.{cond}

@@ -11,7 +11,7 @@ use Rattle.listing.specs.declared.checking.Checked.{Checked}
 use Rattle.listing.specs.declared.checking.Checked.the-variants.{Total, Refused}
 use Rattle.listing.specs.declared.checking.Unchecked.{Unchecked}
 use Rattle.listing.specs.declared.checking.Unchecked.the-variants.{BadCode, BadDay, TooLong, UnequalRooms, NoMark, Leftovers, StartsWithMark}
-use Rattle.listing.specs.Checking.{uncheckedNumber, checkedNumber, checkedOr, Checks}
+use Rattle.listing.specs.Checking.{uncheckedNumber, checkedNumber, checkedOr, Checks, Totals}
 
 -- a refusal by its number
 abbrev pub refusalOf : ℕ → Unchecked
@@ -54,3 +54,7 @@ check-unique {r} {r′} C D = (
   C .rules ∙ sym (D .rules),
   C .offsets ∙ sym (D .offsets),
 )
+
+-- .. with no slices lent
+pub totals-unique : {file : List ℕ} {terms : Terms} {r r′ : Checked} → Totals file terms r → Totals file terms r′ → r ≡ r′
+totals-unique {r} {r′} C D = sym (told r) ∙ (λ i. answerOf ((C .number ∙ sym (D .number)) i) ((C .total 0 ∙ sym (D .total 0)) i)) ∙ told r′

@@ -1,4 +1,5 @@
--- Keys and spans in one row by where they begin, and the row closed up: what touches is one span.
+-- Model of the code, not part of the statement: keys and spans in one row by where they begin, and the row closed up: what touches is one
+-- span.
 use Prim.Native.Nat.{ℕ, _+_, _≤_}
 use mathlib.Core.Path.{_≡_}
 use mathlib.Core.Bool.{Bool, false, cond, _||_}
