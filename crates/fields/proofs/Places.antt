@@ -12,10 +12,8 @@ use borrow.Author.Tests.{ne-eqb, le-leb, lt-ltb, leb-true, ltb-true, eqb-true, e
 use Rattle.laws.specs.Tests.{among}
 use Rattle.laws.proofs.Finite.{at}
 use Rattle.laws.proofs.Truth.{and-parts}
-use Rattle.fields.specs.declared.classes.Class.{Class}
-use Rattle.fields.specs.declared.classes.Class.the-variants.{Money, Number, Range, Group, Account, Text, Free}
 use Rattle.fields.specs.Kinds.{symbols, place, identOf, isField}
-use Rattle.fields.specs.Classes.{moneyFields, numberFields, rangeFields, groupFields, accountFields, textFields, classBy, classOf, sumGroup}
+use Rattle.fields.specs.Classes.{groupFields, sumGroup}
 
 -- a number stands in a list just where its place is in it
 pub place-in : (x : ℕ) (ys : List ℕ) → ltb (place x ys) (length ys) ≡ among x ys
@@ -108,26 +106,6 @@ groups : groupFields ≡ row 1008 10
 unfolding place
 groups = refl
 
-not-group : (a b c f g : Bool) → classBy a b c false f g ≡ Group → ⊥
-not-group a b c f g e = true≢false (sym (ap isGroup e) ∙ none a b c f g)
-  where
-    isGroup : Class → Bool
-    isGroup Group = true
-    isGroup Money = false
-    isGroup Number = false
-    isGroup Range = false
-    isGroup Account = false
-    isGroup Text = false
-    isGroup Free = false
-
-    none : (a b c f g : Bool) → isGroup (classBy a b c false f g) ≡ false
-    none true b c f g = refl
-    none false true c f g = refl
-    none false false true f g = refl
-    none false false false true g = refl
-    none false false false false true = refl
-    none false false false false false = refl
-
 module _ (i : ℕ) where
   pub group-in : (leb 1008 i && ltb i 1018) ≡ true → i - 1008 ≡ sumGroup i
   unfolding sumGroup
@@ -138,12 +116,3 @@ module _ (i : ℕ) where
   pub group-out : (leb 1008 i && ltb i 1018) ≡ false → 10 ≡ sumGroup i
   unfolding sumGroup
   group-out e = sym (rw groups (row-out i 1008 10 (λ p q. true≢false (rw (le-leb 1008 i p, lt-ltb i 1018 q) at e))))
-
-  -- a field of the class of groups has a group's digit
-  pub group-lt : classOf i ≡ Group → sumGroup i < 10
-  unfolding classOf sumGroup
-  group-lt e = go (among i moneyFields) (among i numberFields) (among i rangeFields) (among i groupFields) (among i accountFields) (among i textFields) refl e
-    where
-      go : (a b c d f g : Bool) → among i groupFields ≡ d → classBy a b c d f g ≡ Group → place i groupFields < 10
-      go a b c true f g q p = ltb-true (place i groupFields) 10 (place-in i groupFields ∙ q)
-      go a b c false f g q p = absurd (not-group a b c f g p)

@@ -32,10 +32,6 @@ pub book-start : {g : Ledger} {ls rs : List ℕ} → length ls ≡ length rs →
 unfolding insertAll
 book-start {g} {ls} {rs} e z = rw z (record { same = e; since = []; entered = entered-none (start-ready ls rs e); are = refl })
 
--- what `enter` asks
-pub book-ready : {all : List Fault} {ls₀ rs₀ : List ℕ} {g : Ledger} {ls rs : List ℕ} → Book all ls₀ rs₀ g ls rs → Ready (g .kept) ls rs
-book-ready B = B .entered .put .ready
-
 -- some faults more
 pub book-more : {all xs : List Fault} {ls₀ rs₀ : List ℕ} {g : Ledger} {ls rs : List ℕ} {g′ : Ledger} {ls′ rs′ : List ℕ}
     → Book all ls₀ rs₀ g ls rs → Entered xs g ls rs g′ ls′ rs′ → Book (insertAll xs all) ls₀ rs₀ g′ ls′ rs′

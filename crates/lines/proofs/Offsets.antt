@@ -30,15 +30,6 @@ pub offset-lines : (s : List ℕ) (n : ℕ) → lines (drop (offsetOf s n) s) �
 unfolding offsetOf
 offset-lines s n = lines-after (n - 1) s
 
--- the first line's; and that of no line, which stands for it
-pub offset-first : (s : List ℕ) → offsetOf s 1 ≡ 0
-unfolding offsetOf takenBy
-offset-first s = refl
-
-pub offset-none : (s : List ℕ) → offsetOf s 0 ≡ 0
-unfolding offsetOf takenBy
-offset-none s = refl
-
 one-more : (n : ℕ) (ls : List Line) (l : Line) (rest : List Line) → drop n ls ≡ l ∷ rest → takenBy (take (suc n) ls) ≡ takenBy (take n ls) + taken l
 unfolding takenBy
 one-more zero [] l rest e = absurd (omega (arith, ap length e))
