@@ -10,7 +10,7 @@ use borrow.Author.Tests.{ltb-true, lt-ltb, le-ltb, eq-eqb, ne-eqb, not-true, not
 use Rattle.laws.specs.Refusals.{first}
 use Rattle.lines.specs.Lines.{hasMark, body, offsetOf}
 use Rattle.lines.proofs.Body.{body-take, body-whole, body-shorter}
-use Rattle.rules.specs.Terms.{input}
+use Rattle.rules.specs.Terms.{isCode, isAccountingDay, input}
 use Rattle.rules.specs.Faults.{Fault, faultsIn}
 use Rattle.ledger.specs.declared.Ledger.{Ledger}
 use Rattle.ledger.specs.Slices.{Listed}
@@ -21,7 +21,7 @@ use Rattle.listing.specs.declared.checking.Unchecked.{Unchecked}
 use Rattle.listing.specs.declared.checking.Unchecked.the-variants.{TooLong, NoMark, Leftovers, StartsWithMark}
 use Rattle.listing.specs.declared.checking.Checked.{Checked}
 use Rattle.listing.specs.declared.checking.Checked.the-variants.{Total, Refused}
-use Rattle.listing.specs.Checking.{isCode, isAccountingDay, areLevel, uncheckedNumber, Checks}
+use Rattle.listing.specs.Checking.{areLevel, uncheckedNumber, Checks}
 use Rattle.listing.proofs.Answers.{too-long, no-mark, leftovers, starts-with-mark, checked}
 use Rattle.portions.specs.declared.Portions.{Portions}
 use Rattle.answering.specs.declared.Closing.the-variants.{Done as Answered, Late}

@@ -16,10 +16,9 @@ use Rattle.lines.specs.Reading.{lineAt, span}
 use Rattle.lines.proofs.Lines.{lines-none}
 use Rattle.lines.proofs.Reading.{is-next}
 use Rattle.fields.specs.Kinds.{kindOf}
-use Rattle.rules.specs.Terms.{input}
+use Rattle.rules.specs.Terms.{isCode, isAccountingDay, input}
 use Rattle.rules.specs.Rows.{rowsFrom}
 use Rattle.rules.specs.Tree.{Item, tree}
-use Rattle.listing.specs.Checking.{isCode, isAccountingDay}
 use Rattle.item_reader.specs.Slips.{Headed}
 use Rattle.item_reader.proofs.Starts.{kind-told, heading-told, heading-not}
 use Rattle.outgoing_lines.specs.Outgoing.{Orders}

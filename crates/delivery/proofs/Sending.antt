@@ -13,7 +13,8 @@ use Rattle.rules.specs.Tree.{Item}
 use Rattle.outgoing_lines.specs.Outgoing.{Orders, underived, anyUnderived, itemsUnderived}
 use Rattle.outgoing_lines.proofs.Items.{any-items}
 use Rattle.surveying.specs.declared.Lead.{Lead}
-use Rattle.surveying.specs.Items.{itemsOf, headText, isHouse, goesTo, firstTo, unsent, anyUnsent, anyMixes, mixed}
+use Rattle.rules.specs.Terms.{isCode}
+use Rattle.surveying.specs.Items.{itemsOf, headText, goesTo, firstTo, unsent, anyUnsent, anyMixes, mixed}
 use Rattle.surveying.specs.Model.{Leads}
 
 module _ (q : Orders) where
@@ -34,7 +35,7 @@ module _ (q : Orders) where
   derived-first : (to k : ℕ) (i : Item) (is : List Item) → anyUnsent q to k (i ∷ is) ≡ false → underived q k (headText i) ≡ false
   unfolding anyUnsent
   derived-first to k i is e =
-      or-left (underived q k (headText i)) (not (isHouse (goesTo q k i)) || not (eqb (goesTo q k i) to)) (or-left (unsent q to k i) (anyUnsent q to (suc k) is) e)
+      or-left (underived q k (headText i)) (not (isCode (goesTo q k i)) || not (eqb (goesTo q k i) to)) (or-left (unsent q to k i) (anyUnsent q to (suc k) is) e)
 
   -- where all are sent, the recipient and the class are the first one's
   pub same-to : (is : List Item) (lead : Lead) → 1 ≤ length is → Leads q is lead → anyUnsent q (lead .to) 0 is ≡ false → lead .to ≡ firstTo q is

@@ -12,11 +12,10 @@ use Rattle.lines.specs.Lines.{lines}
 use Rattle.lines.specs.Texts.{fileOf}
 use Rattle.headings.specs.declared.Heading.{Heading}
 use Rattle.headings.specs.Writing.{headingText}
-use Rattle.rules.specs.Terms.{input}
+use Rattle.rules.specs.Terms.{isCode, isAccountingDay, input}
 use Rattle.rules.specs.Rows.{rowsFrom}
 use Rattle.rules.specs.Tree.{Item}
 use Rattle.rules.specs.Spots.{spotsIn}
-use Rattle.listing.specs.Checking.{isCode, isAccountingDay}
 use Rattle.vetting.specs.Vetting.{anyBarred}
 use Rattle.outgoing_lines.specs.Outgoing.{Orders, textsFrom}
 use Rattle.surveying.specs.Items.{itemsOf, firstTo, anyUnsent, mixed, countsOut, sumsOut}

@@ -16,7 +16,7 @@ use Rattle.days.proofs.Order.{real-parts, later-number}
 use Rattle.headings.specs.declared.Heading.{Heading}
 use Rattle.headings.specs.declared.Read.{Read}
 use Rattle.headings.specs.declared.Read.the-variants.{Reads}
-use Rattle.rules.specs.Terms.{Terms, input}
+use Rattle.rules.specs.Terms.{isCode, isAccountingDay, Terms, input}
 use Rattle.rules.specs.HeadingRules.{rule11}
 use Rattle.rules.specs.Faults.{faults}
 use Rattle.lines.specs.Lines.{body}
@@ -25,7 +25,7 @@ use Rattle.item_reader.specs.declared.Slip.{Slip}
 use Rattle.item_reader.specs.Slips.{slipsFrom}
 use Rattle.item_reader.specs.Accepted.{Fine, Each, Readable}
 use Rattle.item_reader.proofs.Accepted.{accepted}
-use Rattle.listing.specs.Checking.{isCode, isAccountingDay, checkRefusals}
+use Rattle.listing.specs.Checking.{checkRefusals}
 use Rattle.register.specs.Register.{Range, Register, version, mostOf, sizeOf, registerBytes, registerOf, rangeStands, allStand, inOrder, latestStands, wellFormed, isRegister}
 use Rattle.register.specs.Entering.{Use, usedAt, used, kept, clash, join, add, addAll, entered}
 use Rattle.register.specs.Spans.{Fits, Sound}

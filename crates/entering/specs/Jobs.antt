@@ -7,10 +7,10 @@ use lib.Dec.{eqb, ltb}
 use lib.ListN.{length}
 use Rattle.laws.specs.Refusals.{Refusal, _if_, first}
 use Rattle.lines.specs.Lines.{body}
-use Rattle.rules.specs.Terms.{input}
+use Rattle.rules.specs.Terms.{isCode, input}
 use Rattle.rules.specs.Faults.{faults}
 use Rattle.item_reader.specs.Slips.{slipsFrom}
-use Rattle.listing.specs.Checking.{isCode, checkRefusals}
+use Rattle.listing.specs.Checking.{checkRefusals}
 use Rattle.register.specs.Register.{Register, sizeOf, registerOf, isRegister}
 use Rattle.register.specs.Entering.{Use, used, entered}
 use Rattle.adding.specs.declared.Entered.{Entered}

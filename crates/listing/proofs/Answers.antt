@@ -11,14 +11,14 @@ use Rattle.laws.specs.Refusals.{first}
 use Rattle.laws.proofs.Refusals.{none-applies}
 use Rattle.lines.specs.Lines.{body, hasMark, hasLeftovers, startsWithMark, offsetOf}
 use Rattle.lines.proofs.Body.{body-take, body-shorter, leftovers-long, body-empty}
-use Rattle.rules.specs.Terms.{Terms}
+use Rattle.rules.specs.Terms.{isCode, isAccountingDay, Terms}
 use Rattle.rules.specs.Faults.{faults, faultsIn}
 use Rattle.ledger.specs.declared.Ledger.{Ledger}
 use Rattle.ledger.specs.Slices.{Listed}
 use Rattle.listing.specs.declared.checking.Checked.the-variants.{Total, Refused}
 use Rattle.listing.specs.declared.checking.Unchecked.{Unchecked}
 use Rattle.listing.specs.declared.checking.Unchecked.the-variants.{BadCode, BadDay, TooLong, UnequalRooms, NoMark, Leftovers, StartsWithMark}
-use Rattle.listing.specs.Checking.{isCode, isAccountingDay, areLevel, checkRefusals, uncheckedNumber, Checks}
+use Rattle.listing.specs.Checking.{areLevel, checkRefusals, uncheckedNumber, Checks}
 
 -- lengths that are level are equal
 pub level : (m n k : ℕ) → not (areLevel m n k) ≡ false → (m ≡ n) × (m ≡ k)

@@ -3,24 +3,16 @@ use Prim.Native.Nat.{ℕ}
 use mathlib.Core.Path.{_≡_}
 use mathlib.Core.Bool.{Bool, cond, not, _&&_}
 use mathlib.Core.List.{List, [], _∷_}
-use lib.Dec.{leb, ltb, eqb}
+use lib.Dec.{ltb, eqb}
 use lib.ListN.{length}
 use Rattle.laws.specs.Refusals.{Refusal, _if_, first}
-use Rattle.days.specs.Days.{isReal}
 use Rattle.lines.specs.Lines.{hasMark, hasLeftovers, startsWithMark, body, offsetOf}
-use Rattle.rules.specs.Terms.{Terms}
+use Rattle.rules.specs.Terms.{isCode, isAccountingDay, Terms}
 use Rattle.rules.specs.Faults.{Fault, written, faults}
 use Rattle.listing.specs.declared.checking.Unchecked.{Unchecked}
 use Rattle.listing.specs.declared.checking.Unchecked.the-variants.{BadCode, BadDay, TooLong, UnequalRooms, NoMark, Leftovers, StartsWithMark}
 use Rattle.listing.specs.declared.checking.Checked.{Checked}
 use Rattle.listing.specs.declared.checking.Checked.the-variants.{Total, Refused}
-
-abbrev pub isCode : ℕ → Bool
-isCode code = leb 1 code && leb code 9999
-
--- 'a real day from 20000101 to 20991231'
-abbrev pub isAccountingDay : ℕ → Bool
-isAccountingDay day = isReal day && (leb 20000101 day && leb day 20991231)
 
 -- the three slices have one length (if not: refusal 4)
 abbrev pub areLevel : ℕ → ℕ → ℕ → Bool

@@ -1,8 +1,8 @@
 // The job at the counter: a file, the submitter's code and the accounting day are checked, and the first pairs of a line and a rule
 // broken there are written into two lent slices, and the offset of the line into a third.
 ghost use mathlib.Core.Path.{_≡_};
-ghost use Rattle.rules.specs.Terms.{input};
-ghost use Rattle.listing.specs.Checking.{isCode, isAccountingDay, areLevel, Checks, Totals, uncheckedNumber, checkedNumber, checkedOr};
+ghost use Rattle.rules.specs.Terms.{isCode, isAccountingDay, input};
+ghost use Rattle.listing.specs.Checking.{areLevel, Checks, Totals, uncheckedNumber, checkedNumber, checkedOr};
 
 // Checking's own refusals, which other jobs answer too.
 pub enum Unchecked {

@@ -9,9 +9,8 @@ use borrow.Author.Tests.{not-false}
 use Rattle.laws.specs.Refusals.{first}
 use Rattle.laws.specs.Lists.{anyOf}
 use Rattle.lines.specs.Lines.{hasMark, body}
-use Rattle.rules.specs.Terms.{input}
+use Rattle.rules.specs.Terms.{isCode, isAccountingDay, input}
 use Rattle.going.specs.Reached.{Sound, Reached}
-use Rattle.listing.specs.Checking.{isCode, isAccountingDay}
 use Rattle.portions.specs.declared.Portions.{Portions}
 use Rattle.portions.specs.declared.opening.Opening.the-variants.{Open, BadCode, BadDay}
 use Rattle.portions.specs.Jobs.{Rooms, Holds, Opens, BegunAs, openRefusals}

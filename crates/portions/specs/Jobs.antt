@@ -7,10 +7,9 @@ use lib.Dec.{eqb}
 use lib.ListN.{length, replicate}
 use Rattle.laws.specs.Refusals.{Refusal, _if_, first}
 use Rattle.lines.specs.Lines.{hasMark, body}
-use Rattle.rules.specs.Terms.{input}
+use Rattle.rules.specs.Terms.{isCode, isAccountingDay, input}
 use Rattle.going.specs.declared.Going.{Going}
 use Rattle.going.specs.Reached.{Begun, Reached}
-use Rattle.listing.specs.Checking.{isCode, isAccountingDay}
 use Rattle.portions.specs.declared.Portions.{Portions}
 use Rattle.portions.specs.declared.opening.Opening.{Opening}
 use Rattle.portions.specs.declared.opening.Opening.the-variants.{Open, BadCode as WrongCode, BadDay as WrongDay}

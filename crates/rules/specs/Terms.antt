@@ -1,6 +1,17 @@
 -- What a file is judged by.
 use Prim.Native.Nat.{ℕ}
+use mathlib.Core.Bool.{Bool, _&&_}
+use lib.Dec.{leb}
+use Rattle.days.specs.Days.{isReal}
 use Rattle.headings.specs.declared.Code.{Code}
+
+-- a participant's code
+abbrev pub isCode : ℕ → Bool
+isCode code = leb 1 code && leb code 9999
+
+-- 'a real day from 20000101 to 20991231'
+abbrev pub isAccountingDay : ℕ → Bool
+isAccountingDay day = isReal day && (leb 20000101 day && leb day 20991231)
 
 -- which rules hold: those of input files
 pub data Regime : Type 0 where

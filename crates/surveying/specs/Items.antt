@@ -1,8 +1,8 @@
 -- What is asked of the items of a slice, one after the other (document 02, A7, amended by A12). Below, k counts the items above one.
 use Prim.Native.Nat.{ℕ, suc}
-use mathlib.Core.Bool.{Bool, false, not, _&&_, _||_}
+use mathlib.Core.Bool.{Bool, false, not, _||_}
 use mathlib.Core.List.{List, [], _∷_}
-use lib.Dec.{leb, eqb}
+use lib.Dec.{eqb}
 use lib.ListN.{length}
 use Rattle.laws.specs.Lists.{sum}
 use Rattle.lines.specs.Lines.{lines}
@@ -11,6 +11,7 @@ use Rattle.headings.specs.declared.Read.the-variants.{Reads, Unreadable}
 use Rattle.headings.specs.Reading.{headingOf}
 use Rattle.headings.specs.ItemTypes.{isPriority, groupOf}
 use Rattle.outcomes.specs.Deriving.{outgoingKind, recipient}
+use Rattle.rules.specs.Terms.{isCode}
 use Rattle.rules.specs.Rows.{rowsFrom}
 use Rattle.rules.specs.Tree.{Item, tree}
 use Rattle.rules.specs.Blocks.{withAmount}
@@ -38,10 +39,6 @@ inKind i = typeIn (headingOf (headText i))
 abbrev pub isAlone : ℕ → Bool
 isAlone kind = eqb kind 44 || eqb kind 84
 
--- a participant's code
-abbrev pub isHouse : ℕ → Bool
-isHouse code = leb 1 code && leb code 9999
-
 module _ (q : Orders) where
   -- the type and the recipient of an item's derived heading
   unfoldable pub outKind : ℕ → Item → ℕ
@@ -57,7 +54,7 @@ module _ (q : Orders) where
 
   -- 'an item is refused by deriving, or its recipient isn't 1 to 9999 or isn't the first one's'
   abbrev pub unsent : ℕ → ℕ → Item → Bool
-  unsent to k i = underived q k (headText i) || (not (isHouse (goesTo k i)) || not (eqb (goesTo k i) to))
+  unsent to k i = underived q k (headText i) || (not (isCode (goesTo k i)) || not (eqb (goesTo k i) to))
 
   unfoldable pub anyUnsent : ℕ → ℕ → List Item → Bool
   anyUnsent to k [] = false

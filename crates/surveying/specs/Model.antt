@@ -11,7 +11,7 @@ use Rattle.headings.specs.declared.Heading.{Heading}
 use Rattle.headings.specs.ItemTypes.{isPriority, groupOf}
 use Rattle.turning.specs.Turning.{turned, turnRefusals}
 use Rattle.outcomes.specs.Deriving.{issueRefusals}
-use Rattle.rules.specs.Terms.{Terms}
+use Rattle.rules.specs.Terms.{isCode, Terms}
 use Rattle.rules.specs.Tree.{Item}
 use Rattle.blocks.specs.Model.{countCap, sumCap}
 use Rattle.account.specs.Model.{plusAt}
@@ -26,7 +26,7 @@ use Rattle.surveying.specs.declared.Step.the-variants.{Stops, On}
 use Rattle.surveying.specs.declared.Lead.{Lead}
 use Rattle.surveying.specs.declared.Survey.{Survey}
 use Rattle.surveying.specs.declared.Survey.the-variants.{NotSent, Sent}
-use Rattle.surveying.specs.Items.{itemsOf, headText, inKind, isHouse, outKind, goesTo, isAlone, unsent, anyUnsent, mixes, anyMixes, amountsOut}
+use Rattle.surveying.specs.Items.{itemsOf, headText, inKind, outKind, goesTo, isAlone, unsent, anyUnsent, mixes, anyMixes, amountsOut}
 
 -- the refusals of deriving from a heading that reads
 abbrev pub refusalOf : Heading → ℕ → ℕ → ℕ → ℕ
@@ -36,9 +36,9 @@ refusalOf h o p n = first (turnRefusals h (asDerived o) p ++ issueRefusals (h .k
 abbrev pub wayOf : Heading → ℕ → ℕ → ℕ → Way
 wayOf h o p n = cond (eqb (refusalOf h o p n) 0) (Goes (turned h (asDerived o) .kind) (turned h (asDerived o) .second .0)) Nowhere
 
--- a recipient is no house, or not the first one's
+-- a recipient is no participant, or not the first one's
 abbrev pub strays : ℕ → ℕ → Bool
-strays first to = not (isHouse to) || not (eqb to first)
+strays first to = not (isCode to) || not (eqb to first)
 
 -- ---- one item, where k stand above it
 -- what goes with it

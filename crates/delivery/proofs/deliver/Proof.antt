@@ -2,7 +2,7 @@ use mathlib.Core.Path.{_≡_, sym, _∙_}
 use mathlib.Core.Bool.{true}
 use borrow.Author.Tests.{not-true, not-false}
 use Rattle.outgoing_lines.specs.Outgoing.{Orders}
-use Rattle.listing.specs.Checking.{isCode, isAccountingDay}
+use Rattle.rules.specs.Terms.{isCode, isAccountingDay}
 use Rattle.delivery.proofs.Job.{bad-code, bad-day, no-items, counted, not-headed, headed, as-items}
 use borrow.Author.Needs.{needs}
 use Rattle.delivery.proofs.deliver.Statement.{statement}
