@@ -41,7 +41,7 @@ pub fn check(prefix: &[u8], number: &[u8]) -> Result<Halves, u32> {
 /// The same for parts known to be digits of the right lengths. An empty
 /// prefix has the sum 0, so it is good.
 pub fn halves(prefix: &[u8], number: &[u8]) -> Halves {
-    let holds = |part: &[u8]| weighted_sum(part).is_multiple_of(11);
+    let holds = |part: &[u8]| weighted_sum(part) % 11 == 0;
     let number = match number {
         _ if number.iter().all(|&digit| digit == b'0') => Number::Zero,
         _ if holds(number) => Number::Good,

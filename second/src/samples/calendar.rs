@@ -6,8 +6,8 @@ fn last_date(year: u32, month: u32) -> u32 {
     match month {
         4 | 6 | 9 | 11 => 30,
         // The last of a hundred years is a leap year only every fourth time.
-        2 if year.is_multiple_of(100) && !(year / 100).is_multiple_of(4) => 28,
-        2 if year.is_multiple_of(4) => 29,
+        2 if year % 100 == 0 && year / 100 % 4 != 0 => 28,
+        2 if year % 4 == 0 => 29,
         2 => 28,
         _ => 31,
     }

@@ -73,8 +73,8 @@ pub(super) fn moved_line(draft: &mut Draft, dice: &mut Dice) {
 }
 
 pub(super) fn joined_lines(draft: &mut Draft, dice: &mut Dice) {
-    if let Some(place) = any_place(draft, dice, |_| true)
-        && place + 1 < draft.lines.len()
+    if let Some(place) =
+        any_place(draft, dice, |_| true).filter(|place| place + 1 < draft.lines.len())
     {
         let below = draft.lines.remove(place + 1);
         draft.lines[place].extend(below);
