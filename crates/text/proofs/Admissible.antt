@@ -1,18 +1,14 @@
--- The two words of bits and the table of answers say what `isAdmissible` says; a byte that is not odd is not inadmissible.
+-- The two words of bits and the table, as it is filled, say what `isAdmissible` says; a byte that is not odd is not inadmissible.
 use mathlib.Core.Path.{_≡_, refl, sym, ap, _∙_}
 use mathlib.Core.Bool.{Bool, true, false, cond, not, _&&_, _||_, true≢false}
 use mathlib.Core.List.{List}
-use Prim.Native.Nat.{ℕ, _+_, _/_, _%_, _^_, _<_, _≤_}
-use native.Mathlib.Nat.{zero-add}
-use native.Mathlib.Numerals.{add-one}
-use native.Mathlib.Omega.{arith}
-use lib.ListN.{length, getD, take, set}
-use lib.Seq.{take-suc-set, take-all}
-use lib.Dec.{eqb, ltb}
+use Prim.Native.Nat.{ℕ, zero, suc, _+_, _/_, _%_, _^_, _<_}
+use lib.ListN.{getD, set, replicate}
+use lib.Dec.{eqb, ltb, ltb→lt}
 use Rattle.laws.specs.Tests.{among}
 use Rattle.laws.specs.Lists.{anyOf, tabulate}
 use Rattle.laws.proofs.Any.{weaker}
-use Rattle.laws.proofs.Finite.{agree, table-at, tabulate-snoc}
+use Rattle.laws.proofs.Finite.{agree, at, table-at}
 use Rattle.text.specs.Characters.{isPlain, others, isAdmissible, isInadmissible, isOdd, answers}
 
 -- the words that the code asks from 80 on, and its plain test below
@@ -45,13 +41,22 @@ odd-asked s = go (anyOf isOdd s) refl
     go true e = refl
     go false e = sym (weaker isOdd isInadmissible odd-weaker s e)
 
--- a table that is filled from the left
-pub fills : (t : List Bool) (b : ℕ) (v : Bool) → b < length t → take b t ≡ tabulate isAdmissible 0 b → v ≡ isAdmissible b → take (b + 1) (set t b v) ≡ tabulate isAdmissible 0 (b + 1)
-fills t b v h e q = rw (add-one, take-suc-set t b v h, tabulate-snoc, zero-add, e, q)
+-- the table as the code fills it: 20 to 7E
+abbrev pub plainTo : ℕ → List Bool
+plainTo zero = replicate 256 false
+plainTo (suc n) = set (plainTo n) (0x20 + n) true
 
-pub filled : (t : List Bool) (b : ℕ) → 256 ≤ b → b ≤ 256 → length t ≡ 256 → take b t ≡ tabulate isAdmissible 0 b → t ≡ answers
-unfolding answers
-filled t b h k l e =
-    let n : b ≡ 256 = omega arith in
-    let m : length t ≤ b = omega arith in
-    sym (take-all b t m) ∙ e ∙ ap (tabulate isAdmissible 0) n
+pub plain-all : plainTo 95 ≡ tabulate isPlain 0 256
+plain-all = refl
+
+-- .. and the others, one by one
+abbrev pub othersTo : ℕ → List Bool
+othersTo zero = tabulate isPlain 0 256
+othersTo (suc k) = set (othersTo k) (getD others k 0) true
+
+pub others-all : othersTo 45 ≡ answers
+unfolding answers isAdmissible
+others-all = refl
+
+pub other-few : (k : ℕ) → k < 45 → getD others k 0 < 256
+other-few k h = ltb→lt _ _ (at (λ i. ltb (getD others i 0) 256) 45 tt k h)

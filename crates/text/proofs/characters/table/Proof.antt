@@ -1,45 +1,53 @@
-use Prim.Native.Nat.{_≤_, _-_}
-use mathlib.Core.Path.{_≡_, refl}
+use Prim.Native.Nat.{suc, _+_, _≤_, _-_}
+use mathlib.Core.Path.{_≡_, ap, _∙_}
+use mathlib.Core.Bool.{Bool, true}
+use mathlib.Core.List.{List}
 use native.Mathlib.Omega.{arith}
-use lib.ListN.{length, take, length-set}
-use Rattle.laws.specs.Lists.{tabulate}
-use Rattle.text.specs.Characters.{isAdmissible}
-use Rattle.text.proofs.Admissible.{fills, filled}
+use lib.ListN.{getD, set}
+use Rattle.text.specs.Characters.{others}
+use Rattle.text.proofs.Admissible.{othersTo, others-all, other-few}
 use borrow.Author.Needs.{needs}
 use Rattle.text.proofs.characters.table.Statement.{statement}
 use Rattle.text.proofs.characters.table.Tie as tie
 
 abbrev Inv-loop : tie.InvT-loop
-Inv-loop t₀ b₀ t b = (b ≤ 256) × (length t ≡ 256) × (take b t ≡ tabulate isAdmissible 0 b)
+Inv-loop bytes t₀ k₀ t k = (k ≤ 45) × (t ≡ othersTo k)
 
 abbrev μ-loop : tie.MeasureT-loop
-μ-loop t₀ b₀ t b = 256 - b
+μ-loop bytes t₀ k₀ t k = 45 - k
+
+plain-table-requires : tie.Need-plain-table-requires Inv-loop μ-loop
+plain-table-requires c κs = search needs
 
 loop-holds : tie.Need-loop-holds Inv-loop μ-loop
-loop-holds c = (search needs, search needs, refl)
+loop-holds c = (omega arith, c .plain-table .ensures)
 
-cast-is-admissible : tie.Need-cast-is-admissible Inv-loop μ-loop
-cast-is-admissible c = search needs
+element-copy-out-t : tie.Need-element-copy-out-t Inv-loop μ-loop
+element-copy-out-t c = search needs
 
-is-admissible-requires : tie.Need-is-admissible-requires Inv-loop μ-loop
-is-admissible-requires c κs = search needs
+cast-t : tie.Need-cast-t Inv-loop μ-loop
+cast-t c = omega (arith, other-few (c .before .before .loop .k) (c .before .loop-test .taken))
 
 array-write-t : tie.Need-array-write-t Inv-loop μ-loop
-array-write-t c = search needs
+array-write-t c = other-few (c .before .before .loop .k) (c .before .loop-test .taken)
 
-add-b : tie.Need-add-b Inv-loop μ-loop
-add-b c = search needs
+add-k : tie.Need-add-k Inv-loop μ-loop
+add-k c = search needs
 
 loop-less : tie.Need-loop-less Inv-loop μ-loop
 loop-less c = search needs
 
 loop-again : tie.Need-loop-again Inv-loop μ-loop
 loop-again c =
-    let l = c .before .before in
-    (omega arith, rw length-set (l .loop .inv .1), fills (l .loop .t) (l .loop .b) (c .is-admissible .result) (omega arith) (l .loop .inv .2) (c .is-admissible .ensures))
+    let l = c .before .before .loop in
+    let e : suc (l .k) ≡ l .k + 1 = omega arith in
+    (omega arith, ap (λ (t : List Bool). set t (getD others (l .k) 0) true) (l .inv .1) ∙ ap othersTo e)
 
 returns : tie.Need-returns Inv-loop μ-loop
-returns c = let l = c .before in filled (l .loop .t) (l .loop .b) (omega arith) (omega arith) (l .loop .inv .1) (l .loop .inv .2)
+returns c =
+    let l = c .before .loop in
+    let e : l .k ≡ 45 = omega (arith, l .inv .0) in
+    l .inv .1 ∙ ap othersTo e ∙ others-all
 
 pub table-spec : {M : Type 1} → statement M
 table-spec =
@@ -47,11 +55,12 @@ table-spec =
     (tie.spec
     Inv-loop
     μ-loop
+    plain-table-requires
     loop-holds
-    cast-is-admissible
-    is-admissible-requires
+    element-copy-out-t
+    cast-t
     array-write-t
-    add-b
+    add-k
     loop-less
     loop-again
     returns)
