@@ -9,7 +9,6 @@ use native.Mathlib.Nat.{add-zero}
 use native.Mathlib.Omega.{arith}
 use lib.ListN.{length, take, drop, getD, length-drop}
 use lib.Seq.{length-take-le, drop-cons, drop-drop}
-use borrow.Author.Tests.{eq-eqb}
 use Rattle.laws.specs.Lists.{anyOf}
 use Rattle.laws.proofs.Any.{or-left, or-right}
 use Rattle.text.specs.Characters.{isPlain, isOdd}
@@ -29,10 +28,6 @@ crlf-in s i h =
     let h₀ : i < length s = omega arith in
     let h₁ : suc i < length s = omega arith in
     rw (drop-cons s i 0, drop-cons s (suc i) 0, add-one)
-
--- after a CR
-pub crlf-after : (s : List ℕ) (i : ℕ) → i + 1 < length s → getD s i 0 ≡ 0x0d → crlf (drop i s) ≡ isByte 0x0a (getD s (i + 1) 0)
-crlf-after s i h e = crlf-in s i h ∙ ap (λ (t : Bool). t && isByte 0x0a (getD s (i + 1) 0)) (eq-eqb (getD s i 0) 0x0d e)
 
 -- ---- the search
 

@@ -1,21 +1,22 @@
 -- Laws of words of bytes: an operation on words works on each byte apart, a mark in a byte's high bit is found and counted, and the
 -- first mark cuts off what stands after it.
 use mathlib.Core.Path.{_≡_, refl, sym, ap, ap₂, _∙_, subst}
-use mathlib.Core.Bool.{Bool, true, false, cond, not, _||_}
+use mathlib.Core.Bool.{Bool, true, false, cond, not, _&&_, _||_, true≢false}
+use mathlib.Core.List.{List, [], _∷_}
 use Prim.Native.Nat.{ℕ, zero, suc, _+_, _-_, _*_, _/_, _%_, _^_, _<_, _≤_, min, max}
 use native.Mathlib.Nat.{mod-lt, div-add-mod', div-lt-iff-lt-mul, pow-suc, zero-add, suc-add, mul-one}
 use native.Mathlib.Omega.{arith}
 use lib.Arith.{bin-ind, digits-lt, digits-div, digits-mod}
-use lib.Bits.{bitAnd, bitOr, bitXor, and-block, or-block, xor-block, and-step, or-step, and-zero-r, xor-self, xor-add-and, or-add-and, and-le-l, and-le-r, shifted-half, shifted-even}
+use lib.Bits.{bitAnd, bitOr, bitXor, and-block, or-block, xor-block, and-step, or-step, and-zero-r, xor-self, or-add-and, and-le-r, shifted-half, shifted-even}
 use lib.Count.{under, trailingZeros}
-use lib.Dec.{T, eqb, ltb, ltb→lt, eqb→eq}
+use lib.Dec.{T, eqb, leb, ltb, ltb→lt, eqb→eq}
 use lib.ListN.{getD, take}
-use borrow.Author.Tests.{ne-eqb, eqb-true}
+use borrow.Author.Tests.{ne-eqb}
 use Rattle.laws.specs.Lists.{anyOf}
+use Rattle.laws.proofs.Any.{or-left, or-right}
 use Rattle.laws.proofs.Finite.{below, at}
 use Rattle.text.specs.Characters.{isOdd}
-use Rattle.lines.specs.Lines.{isByte}
-use Rattle.lines.specs.Words.{bytesOf, each, otherBit, oddByte, flagged}
+use Rattle.lines.specs.Words.{bytesOf, each, isControl, isAbove, controlBit, oddByte, flagged}
 
 -- ---- a function of bytes, known by its 256 values
 
@@ -97,10 +98,6 @@ lows-is : (w : ℕ) → 0x7f7f_7f7f_7f7f_7f7f ≡ each (λ b. 0x7f) 8 w
 unfolding each
 lows-is w = refl
 
-crs-is : (w : ℕ) → 0x0d0d_0d0d_0d0d_0d0d ≡ each (λ b. 0x0d) 8 w
-unfolding each
-crs-is w = refl
-
 ones-is : (w : ℕ) → 0x0101_0101_0101_0101 ≡ each (λ b. 1) 8 w
 unfolding each
 ones-is w = refl
@@ -116,25 +113,6 @@ module _ (w : ℕ) (h : w < 2 ^ 64) where
   low-bits : bitAnd w 0x7f7f_7f7f_7f7f_7f7f ≡ each (λ b. bitAnd b 0x7f) 8 w
   low-bits = ap₂ bitAnd self (lows-is w) ∙ and-lanes (λ b. b) (λ b. 0x7f) (small (λ b. b) tt) (small (λ b. 0x7f) tt) 8 w
 
-  crossed : bitXor (bitAnd w 0x7f7f_7f7f_7f7f_7f7f) 0x0d0d_0d0d_0d0d_0d0d + 0x7f7f_7f7f_7f7f_7f7f ≡ each (λ b. bitXor (bitAnd b 0x7f) 0x0d + 0x7f) 8 w
-  crossed =
-      ap₂ (λ (x y : ℕ). x + y)
-      (ap₂ bitXor low-bits (crs-is w) ∙ xor-lanes (λ b. bitAnd b 0x7f) (λ b. 0x0d) (small (λ b. bitAnd b 0x7f) tt) (small (λ b. 0x0d) tt) 8 w)
-      (lows-is w)
-      ∙ each-add (λ b. bitXor (bitAnd b 0x7f) 0x0d) (λ b. 0x7f) 8 w
-
-  pub crossed-fits : bitXor (bitAnd w 0x7f7f_7f7f_7f7f_7f7f) 0x0d0d_0d0d_0d0d_0d0d + 0x7f7f_7f7f_7f7f_7f7f < 2 ^ 64
-  crossed-fits = subst (λ (x : ℕ). x < 2 ^ 64) (sym crossed) (each-lt (λ b. bitXor (bitAnd b 0x7f) 0x0d + 0x7f) (small (λ b. bitXor (bitAnd b 0x7f) 0x0d + 0x7f) tt) 8 w)
-
-  pub others-are : bitAnd (bitOr (bitXor (bitAnd w 0x7f7f_7f7f_7f7f_7f7f) 0x0d0d_0d0d_0d0d_0d0d + 0x7f7f_7f7f_7f7f_7f7f) w) 0x8080_8080_8080_8080 ≡ each otherBit 8 w
-  unfolding otherBit
-  others-are =
-      ap₂ bitAnd
-      (ap₂ bitOr crossed self ∙ or-lanes (λ b. bitXor (bitAnd b 0x7f) 0x0d + 0x7f) (λ b. b) (small (λ b. bitXor (bitAnd b 0x7f) 0x0d + 0x7f) tt) (small (λ b. b) tt) 8 w)
-      (high-is w)
-      ∙ and-lanes (λ b. bitOr (bitXor (bitAnd b 0x7f) 0x0d + 0x7f) b) high (small (λ b. bitOr (bitXor (bitAnd b 0x7f) 0x0d + 0x7f) b) tt) (small high tt) 8 w
-      ∙ each-is (λ b. bitAnd (bitOr (bitXor (bitAnd b 0x7f) 0x0d + 0x7f) b) 0x80) otherBit (same (λ b. bitAnd (bitOr (bitXor (bitAnd b 0x7f) 0x0d + 0x7f) b) 0x80) otherBit tt) 8 w
-
   more : bitAnd w 0x7f7f_7f7f_7f7f_7f7f + 0x0101_0101_0101_0101 ≡ each (λ b. bitAnd b 0x7f + 1) 8 w
   more = ap₂ (λ (x y : ℕ). x + y) low-bits (ones-is w) ∙ each-add (λ b. bitAnd b 0x7f) (λ b. 1) 8 w
 
@@ -147,14 +125,24 @@ module _ (w : ℕ) (h : w < 2 ^ 64) where
   pub less-fits : bitAnd w 0x7f7f_7f7f_7f7f_7f7f ≤ 0x9f9f_9f9f_9f9f_9f9f
   less-fits = omega (arith, and-le-r w 0x7f7f_7f7f_7f7f_7f7f)
 
-  pub odds-are : bitOr (bitOr (bitAnd w 0x7f7f_7f7f_7f7f_7f7f + 0x0101_0101_0101_0101) (0x9f9f_9f9f_9f9f_9f9f - bitAnd w 0x7f7f_7f7f_7f7f_7f7f)) w ≡ each oddByte 8 w
+  less : 0x9f9f_9f9f_9f9f_9f9f - bitAnd w 0x7f7f_7f7f_7f7f_7f7f ≡ each (λ b. 0x9f - bitAnd b 0x7f) 8 w
+  less = ap₂ (λ (x y : ℕ). x - y) (tops-is w) low-bits ∙ each-sub (λ b. 0x9f) (λ b. bitAnd b 0x7f) low-le 8 w
+
+  turned : bitXor w 0x8080_8080_8080_8080 ≡ each (λ b. bitXor b 0x80) 8 w
+  turned = ap₂ bitXor self (high-is w) ∙ xor-lanes (λ b. b) high (small (λ b. b) tt) (small high tt) 8 w
+
+  pub controls-are : bitAnd (bitAnd (0x9f9f_9f9f_9f9f_9f9f - bitAnd w 0x7f7f_7f7f_7f7f_7f7f) (bitXor w 0x8080_8080_8080_8080)) 0x8080_8080_8080_8080 ≡ each controlBit 8 w
+  unfolding controlBit
+  controls-are =
+      ap₂ bitAnd
+      (ap₂ bitAnd less turned ∙ and-lanes (λ b. 0x9f - bitAnd b 0x7f) (λ b. bitXor b 0x80) (small (λ b. 0x9f - bitAnd b 0x7f) tt) (small (λ b. bitXor b 0x80) tt) 8 w)
+      (high-is w)
+      ∙ and-lanes (λ b. bitAnd (0x9f - bitAnd b 0x7f) (bitXor b 0x80)) high (small (λ b. bitAnd (0x9f - bitAnd b 0x7f) (bitXor b 0x80)) tt) (small high tt) 8 w
+      ∙ each-is (λ b. bitAnd (bitAnd (0x9f - bitAnd b 0x7f) (bitXor b 0x80)) 0x80) controlBit (same (λ b. bitAnd (bitAnd (0x9f - bitAnd b 0x7f) (bitXor b 0x80)) 0x80) controlBit tt) 8 w
+
+  pub odds-are : bitOr (bitAnd w 0x7f7f_7f7f_7f7f_7f7f + 0x0101_0101_0101_0101) w ≡ each oddByte 8 w
   unfolding oddByte
-  odds-are =
-      ap₂ bitOr
-      (ap₂ bitOr more (ap₂ (λ (x y : ℕ). x - y) (tops-is w) low-bits ∙ each-sub (λ b. 0x9f) (λ b. bitAnd b 0x7f) low-le 8 w)
-      ∙ or-lanes (λ b. bitAnd b 0x7f + 1) (λ b. 0x9f - bitAnd b 0x7f) (small (λ b. bitAnd b 0x7f + 1) tt) (small (λ b. 0x9f - bitAnd b 0x7f) tt) 8 w)
-      self
-      ∙ or-lanes (λ b. bitOr (bitAnd b 0x7f + 1) (0x9f - bitAnd b 0x7f)) (λ b. b) (small (λ b. bitOr (bitAnd b 0x7f + 1) (0x9f - bitAnd b 0x7f)) tt) (small (λ b. b) tt) 8 w
+  odds-are = ap₂ bitOr more self ∙ or-lanes (λ b. bitAnd b 0x7f + 1) (λ b. b) (small (λ b. bitAnd b 0x7f + 1) tt) (small (λ b. b) tt) 8 w
 
 -- ---- marks in the high bits
 
@@ -169,20 +157,33 @@ unfolding each bytesOf anyOf
 some-marked f zero w = refl
 some-marked f (suc n) w = mark-more (each (λ b. cond (f b) 0x80 0) n (w / 256)) (f (w % 256)) ∙ ap (λ (t : Bool). f (w % 256) || t) (some-marked f n (w / 256))
 
-oddBit-is : (b : ℕ) → b < 256 → bitAnd (oddByte b) 0x80 ≡ cond (isOdd b) 0x80 0
+aboveBit-is : (b : ℕ) → b < 256 → bitAnd (oddByte b) 0x80 ≡ cond (isAbove b) 0x80 0
 unfolding oddByte
-oddBit-is = same (λ b. bitAnd (oddByte b) 0x80) (λ b. cond (isOdd b) 0x80 0) tt
+aboveBit-is = same (λ b. bitAnd (oddByte b) 0x80) (λ b. cond (isAbove b) 0x80 0) tt
 
 oddByte-small : Small oddByte
 unfolding oddByte
 oddByte-small = small oddByte tt
 
-pub odds-flagged : (w : ℕ) → flagged (each oddByte 8 w) ≡ anyOf isOdd (bytesOf 8 w)
+above-flagged : (w : ℕ) → flagged (each oddByte 8 w) ≡ anyOf isAbove (bytesOf 8 w)
 unfolding flagged
-odds-flagged w =
+above-flagged w =
     ap (λ (m : ℕ). not (eqb (bitAnd (each oddByte 8 w) m) 0)) (high-is w)
-    ∙ ap (λ (m : ℕ). not (eqb m 0)) (and-lanes oddByte high oddByte-small (small high tt) 8 w ∙ each-is (λ b. bitAnd (oddByte b) 0x80) (λ b. cond (isOdd b) 0x80 0) oddBit-is 8 w)
-    ∙ some-marked isOdd 8 w
+    ∙ ap (λ (m : ℕ). not (eqb m 0)) (and-lanes oddByte high oddByte-small (small high tt) 8 w ∙ each-is (λ b. bitAnd (oddByte b) 0x80) (λ b. cond (isAbove b) 0x80 0) aboveBit-is 8 w)
+    ∙ some-marked isAbove 8 w
+
+-- where none is below 20, the odd ones are those above 7E
+odd-above : (b : ℕ) → isControl b ≡ false → isAbove b ≡ isOdd b
+odd-above b e = go (leb 0x20 b) e
+  where
+    go : (t : Bool) → not t ≡ false → isAbove b ≡ not (t && leb b 0x7E)
+    go true q = refl
+    go false q = absurd (true≢false q)
+
+pub odds-above : (s : List ℕ) → anyOf isControl s ≡ false → anyOf isAbove s ≡ anyOf isOdd s
+unfolding anyOf
+odds-above [] e = refl
+odds-above (b ∷ s) e = ap₂ (λ (x y : Bool). x || y) (odd-above b (or-left (isControl b) (anyOf isControl s) e)) (odds-above s (or-right (isControl b) (anyOf isControl s) e))
 
 -- ---- flags of two words together
 
@@ -231,30 +232,15 @@ pub flagged-or : (a b : ℕ) → flagged (bitOr a b) ≡ (flagged a || flagged b
 unfolding flagged
 flagged-or a b = ap (λ (x : ℕ). not (eqb x 0)) (and-or a b 0x8080_8080_8080_8080) ∙ or-some (bitAnd a 0x8080_8080_8080_8080) (bitAnd b 0x8080_8080_8080_8080)
 
--- ---- the first CR
+-- ---- the first byte below 20
 
-abbrev crBit : ℕ → ℕ
-crBit b = cond (isByte 0x0d b) 0x80 0
+-- no mark: there is none, and the odd ones are known
+pub none-hit : (w : ℕ) → each controlBit 8 w ≡ 0 → anyOf isControl (bytesOf 8 w) ≡ false
+unfolding controlBit
+none-hit w e = sym (some-marked isControl 8 w) ∙ ap (λ (x : ℕ). not (eqb x 0)) e
 
-otherBit-small : Small otherBit
-unfolding otherBit
-otherBit-small = small otherBit tt
-
-pub crs-are : (w : ℕ) → bitXor (each otherBit 8 w) 0x8080_8080_8080_8080 ≡ each crBit 8 w
-unfolding otherBit
-crs-are w =
-    ap (bitXor (each otherBit 8 w)) (high-is w)
-    ∙ xor-lanes otherBit high otherBit-small (small high tt) 8 w
-    ∙ each-is (λ b. bitXor (otherBit b) 0x80) crBit (same (λ b. bitXor (otherBit b) 0x80) crBit tt) 8 w
-
-xor-none : (a b : ℕ) → bitXor a b ≡ 0 → a ≡ b
-xor-none a b e = omega (arith, xor-add-and a b, and-le-l a b, and-le-r a b)
-
--- all are other: no CR
-pub none-hit : (w : ℕ) → each otherBit 8 w ≡ 0x8080_8080_8080_8080 → anyOf (isByte 0x0d) (bytesOf 8 w) ≡ false
-none-hit w e =
-    let z : each crBit 8 w ≡ 0 = sym (crs-are w) ∙ ap (λ (x : ℕ). bitXor x 0x8080_8080_8080_8080) e ∙ xor-self 0x8080_8080_8080_8080 in
-    sym (some-marked (isByte 0x0d) 8 w) ∙ ap (λ (x : ℕ). not (eqb x 0)) z
+pub odds-flagged : (w : ℕ) → each controlBit 8 w ≡ 0 → flagged (each oddByte 8 w) ≡ anyOf isOdd (bytesOf 8 w)
+odds-flagged w e = above-flagged w ∙ odds-above (bytesOf 8 w) (none-hit w e)
 
 -- zeros below a mark
 trail-shift : (j k x : ℕ) → trailingZeros (j + k) (x * 2 ^ j) ≡ j + trailingZeros k x
@@ -270,18 +256,18 @@ trail-odd : (k x : ℕ) → trailingZeros (suc k) (x * 2 + 1) ≡ 0
 unfolding trailingZeros
 trail-odd k x = ap (λ (d : ℕ). under d (trailingZeros k ((x * 2 + 1) / 2))) (digits-mod x {m = 2} {r = 1} (omega arith))
 
--- a word with a CR: the place of the first, and the mask up to it
+-- a word with one: the place of the first, and the mask up to it
 pub record First (n w : ℕ) : Type 0 where
   pub k : ℕ
   pub m : ℕ
   pub inside : k < n
-  pub here : getD (bytesOf n w) k 0 ≡ 0x0d
-  pub clear : anyOf (isByte 0x0d) (take k (bytesOf n w)) ≡ false
-  pub zeros : trailingZeros (8 * n) (each crBit n w) ≡ 8 * k + 7
-  pub mask : bitXor (each crBit n w) (each crBit n w - 1) ≡ m * 2 + 1
-  pub kept : not (eqb (bitAnd (bitAnd (each oddByte n w) m) (each high n w)) 0) ≡ anyOf isOdd (take k (bytesOf n w))
+  pub here : isControl (getD (bytesOf n w) k 0) ≡ true
+  pub clear : anyOf isControl (take k (bytesOf n w)) ≡ false
+  pub zeros : trailingZeros (8 * n) (each controlBit n w) ≡ 8 * k + 7
+  pub mask : bitXor (each controlBit n w) (each controlBit n w - 1) ≡ m * 2 + 1
+  pub kept : not (eqb (bitAnd (bitAnd (each oddByte n w) m) (each high n w)) 0) ≡ anyOf isAbove (take k (bytesOf n w))
 
--- one byte more in front: a CR
+-- one byte more in front: below 20
 module _ (n z : ℕ) where
   zeros-hit : trailingZeros (8 * suc n) (z * 256 + 0x80) ≡ 8 * 0 + 7
   zeros-hit =
@@ -317,31 +303,31 @@ module _ (o m t b : ℕ) (h : b < 256) where
       ∙ zero-add (bitAnd (bitAnd (oddByte b) 0x7f) 0x80)
       ∙ same (λ b. bitAnd (bitAnd (oddByte b) 0x7f) 0x80) (λ b. 0) tt b h
 
-  kept-on : bitAnd (bitAnd (o * 256 + oddByte b) (m * 256 + 0xff)) (t * 256 + 0x80) ≡ bitAnd (bitAnd o m) t * 256 + cond (isOdd b) 0x80 0
+  kept-on : bitAnd (bitAnd (o * 256 + oddByte b) (m * 256 + 0xff)) (t * 256 + 0x80) ≡ bitAnd (bitAnd o m) t * 256 + cond (isAbove b) 0x80 0
   unfolding oddByte Small
   kept-on =
       ap (λ (x : ℕ). bitAnd x (t * 256 + 0x80)) (and-block 8 o m (oddByte b) 0xff (oddByte-small b h) (omega arith))
       ∙ and-block 8 (bitAnd o m) t (bitAnd (oddByte b) 0xff) 0x80 (small (λ b. bitAnd (oddByte b) 0xff) tt b h) (omega arith)
-      ∙ ap (λ (x : ℕ). bitAnd (bitAnd o m) t * 256 + x) (same (λ b. bitAnd (bitAnd (oddByte b) 0xff) 0x80) (λ b. cond (isOdd b) 0x80 0) tt b h)
+      ∙ ap (λ (x : ℕ). bitAnd (bitAnd o m) t * 256 + x) (same (λ b. bitAnd (bitAnd (oddByte b) 0xff) 0x80) (λ b. cond (isAbove b) 0x80 0) tt b h)
 
-first : (n w : ℕ) → (each crBit n w ≡ 0 → ⊥) → First n w
-unfolding each bytesOf anyOf
+first : (n w : ℕ) → (each controlBit n w ≡ 0 → ⊥) → First n w
+unfolding each bytesOf anyOf controlBit
 first zero w z = absurd (z refl)
-first (suc n) w z = go (isByte 0x0d (w % 256)) refl (first n (w / 256))
+first (suc n) w z = go (isControl (w % 256)) refl (first n (w / 256))
   where
-    go : (t : Bool) → isByte 0x0d (w % 256) ≡ t → ((each crBit n (w / 256) ≡ 0 → ⊥) → First n (w / 256)) → First (suc n) w
+    go : (t : Bool) → isControl (w % 256) ≡ t → ((each controlBit n (w / 256) ≡ 0 → ⊥) → First n (w / 256)) → First (suc n) w
     go true e rest = record {
       k = 0;
       m = 127;
       inside = omega arith;
-      here = eqb-true (w % 256) 0x0d e;
+      here = e;
       clear = refl;
-      zeros = rw e (zeros-hit n (each crBit n (w / 256)));
-      mask = rw e (mask-hit n (each crBit n (w / 256)));
+      zeros = rw e (zeros-hit n (each controlBit n (w / 256)));
+      mask = rw e (mask-hit n (each controlBit n (w / 256)));
       kept = ap (λ (x : ℕ). not (eqb x 0)) (kept-hit (each oddByte n (w / 256)) 0 (each high n (w / 256)) (w % 256) (low w));
     }
     go false e rest =
-        let some : each crBit n (w / 256) ≡ 0 → ⊥ = λ q. z (rw (e, q)) in
+        let some : each controlBit n (w / 256) ≡ 0 → ⊥ = λ q. z (rw (e, q)) in
         let f = rest some in
         record {
           k = suc (f .k);
@@ -349,40 +335,35 @@ first (suc n) w z = go (isByte 0x0d (w % 256)) refl (first n (w / 256))
           inside = omega (arith, f .inside);
           here = f .here;
           clear = rw e (f .clear);
-          zeros = rw e (zeros-on n (each crBit n (w / 256)) (f .k) (f .zeros));
-          mask = rw e (mask-on n (each crBit n (w / 256)) (f .m) some (f .mask));
+          zeros = rw e (zeros-on n (each controlBit n (w / 256)) (f .k) (f .zeros));
+          mask = rw e (mask-on n (each controlBit n (w / 256)) (f .m) some (f .mask));
           kept =
               ap (λ (x : ℕ). not (eqb x 0)) (kept-on (each oddByte n (w / 256)) (f .m) (each high n (w / 256)) (w % 256) (low w))
-              ∙ mark-more (bitAnd (bitAnd (each oddByte n (w / 256)) (f .m)) (each high n (w / 256))) (isOdd (w % 256))
-              ∙ ap (λ (t : Bool). isOdd (w % 256) || t) (f .kept);
+              ∙ mark-more (bitAnd (bitAnd (each oddByte n (w / 256)) (f .m)) (each high n (w / 256))) (isAbove (w % 256))
+              ∙ ap (λ (t : Bool). isAbove (w % 256) || t) (f .kept);
         }
 
--- ---- the same in the code's words: z has the marks of the CRs, k is the first one's place, m the mask up to it
-pub record FirstCr (w z k m : ℕ) : Type 0 where
-  pub some : z ≡ 0 → ⊥
+-- ---- the same in the code's words: z has the marks, k is the place of the first, m the mask up to it
+pub record FirstControl (w z k m : ℕ) : Type 0 where
   pub inside : k < 8
-  pub here : getD (bytesOf 8 w) k 0 ≡ 0x0d
-  pub clear : anyOf (isByte 0x0d) (take k (bytesOf 8 w)) ≡ false
+  pub here : isControl (getD (bytesOf 8 w) k 0) ≡ true
+  pub clear : anyOf isControl (take k (bytesOf 8 w)) ≡ false
   pub kept : flagged (bitAnd (each oddByte 8 w) m) ≡ anyOf isOdd (take k (bytesOf 8 w))
 
-pub first-cr : (w x : ℕ) → x ≡ each otherBit 8 w → (x ≡ 0x8080_8080_8080_8080 → ⊥)
-    → FirstCr w (bitXor x 0x8080_8080_8080_8080) (trailingZeros 64 (bitXor x 0x8080_8080_8080_8080) / 8) (bitXor (bitXor x 0x8080_8080_8080_8080) (bitXor x 0x8080_8080_8080_8080 - 1) / 2)
+pub first-control : (w z : ℕ) → z ≡ each controlBit 8 w → (z ≡ 0 → ⊥) → FirstControl w z (trailingZeros 64 z / 8) (bitXor z (z - 1) / 2)
 unfolding flagged
-first-cr w x e h =
-    let z : ℕ = bitXor x 0x8080_8080_8080_8080 in
-    let ez : z ≡ each crBit 8 w = ap (λ (y : ℕ). bitXor y 0x8080_8080_8080_8080) e ∙ crs-are w in
-    let some : z ≡ 0 → ⊥ = λ q. h (xor-none x 0x8080_8080_8080_8080 q) in
+first-control w z ez some =
     let f = first 8 w (λ q. some (ez ∙ q)) in
     let t : trailingZeros 64 z ≡ 8 * f .k + 7 = ap (trailingZeros 64) ez ∙ f .zeros in
     let ek : trailingZeros 64 z / 8 ≡ f .k = omega arith in
     let q : bitXor z (z - 1) ≡ f .m * 2 + 1 = ap (λ (y : ℕ). bitXor y (y - 1)) ez ∙ f .mask in
     let em : bitXor z (z - 1) / 2 ≡ f .m = omega arith in
     record {
-      some = some;
       inside = omega (arith, f .inside);
-      here = ap (λ (k : ℕ). getD (bytesOf 8 w) k 0) ek ∙ f .here;
-      clear = ap (λ (k : ℕ). anyOf (isByte 0x0d) (take k (bytesOf 8 w))) ek ∙ f .clear;
+      here = ap (λ (k : ℕ). isControl (getD (bytesOf 8 w) k 0)) ek ∙ f .here;
+      clear = ap (λ (k : ℕ). anyOf isControl (take k (bytesOf 8 w))) ek ∙ f .clear;
       kept =
           ap₂ (λ (m t : ℕ). not (eqb (bitAnd (bitAnd (each oddByte 8 w) m) t) 0)) em (high-is w) ∙ f .kept
+          ∙ odds-above (take (f .k) (bytesOf 8 w)) (f .clear)
           ∙ ap (λ (k : ℕ). anyOf isOdd (take k (bytesOf 8 w))) (sym ek);
     }

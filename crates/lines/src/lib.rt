@@ -4,12 +4,12 @@
 // `lines` of specs/Lines.antt say. `word` gives eight bytes as one number, which callers compare. It stands on crates `laws` and `text`.
 ghost use mathlib.Core.Path.{_≡_};
 ghost use Prim.Native.Nat.{_+_, _-_, _<_, _≤_};
-ghost use lib.ListN.{length, take, drop, getD};
+ghost use lib.ListN.{length, take, drop};
 ghost use Rattle.laws.specs.Lists.{anyOf};
 ghost use Rattle.lines.specs.Lines.{isByte, body, crlf};
 ghost use Rattle.lines.specs.Blocks.{clear};
 ghost use Rattle.lines.specs.Reading.{restTo, after, lineAt};
-ghost use Rattle.lines.specs.Words.{bytesOf, each, otherBit, oddByte, flagged};
+ghost use Rattle.lines.specs.Words.{bytesOf, each, controlBit, oddByte, flagged};
 
 // Whether b stands in s. A loop that only sets a flag is compiled to wide compares; one that stops early is not.
 fn holds(s: &[u8], b: u8) -> bool
@@ -122,13 +122,11 @@ fn line_by_bytes(s: &[u8], at: usize, before: bool) -> Found
     rest_to(n, odd | !text::characters::is_plain(s[i]))
 }
 
-// Words of one byte eight times: the high bit; the seven others; CR; 01, which makes 7F reach the high bit; 9F, from which only 00 to
-// 1F leave it.
+// Words of one byte eight times: the high bit; the seven others; 01, which makes 7F reach the high bit; 9F, from which only 00 to 1F
+// leave it.
 const HIGH: u64 = 0x8080_8080_8080_8080;
 
 const REST: u64 = 0x7f7f_7f7f_7f7f_7f7f;
-
-const CRS: u64 = 0x0d0d_0d0d_0d0d_0d0d;
 
 const ONES: u64 = 0x0101_0101_0101_0101;
 
@@ -155,19 +153,18 @@ pub fn word(s: &[u8], i: usize) -> u64
         | (wide(s[i + 7]) << 56)
 }
 
-// The high bit of each byte of a word that is no CR: no sum of seven bits and 7F crosses into the next byte.
-fn others(w: u64) -> u64
-    ensures { λ r. ⌜ r ≡ each otherBit 8 w ⌝ }
+// The high bit of each byte of a word that is below 20, as CR is: no difference of 9F and seven bits borrows from the next byte.
+fn controls(w: u64) -> u64
+    ensures { λ r. ⌜ r ≡ each controlBit 8 w ⌝ }
 {
-    ((((w & REST) ^ CRS) + REST) | w) & HIGH
+    ((TOPS - (w & REST)) & (w ^ HIGH)) & HIGH
 }
 
-// A word whose bytes have the high bit where those of w are not plain; the other bits say nothing.
+// A word whose bytes have the high bit where those of w are above 7E; the other bits say nothing.
 fn odds(w: u64) -> u64
     ensures { λ r. ⌜ r ≡ each oddByte 8 w ⌝ }
 {
-    let low = w & REST;
-    (low + ONES) | (TOPS - low) | w
+    ((w & REST) + ONES) | w
 }
 
 // Whether a byte of a word has its high bit.
@@ -187,20 +184,20 @@ fn stop_of(n: usize) -> usize
     n - 7
 }
 
-// Whether LF stands after the CR at a place.
+// Whether CR LF stands at a place of the text.
 fn ends_at(s: &[u8], i: usize) -> bool
-    requires { ⌜ (i < length (now s)) × (getD (now s) i 0 ≡ 0x0d) ⌝ }
+    requires { ⌜ i < length (now s) ⌝ }
     ensures { λ r. ⌜ r ≡ crlf (drop i (now (s .entry))) ⌝ }
 {
-    let j = i + 1;
-    if j < s.len() {
-        return s[j] == 0x0a;
+    if i + 1 < s.len() {
+        return crlf_at(s, i);
     }
     false
 }
 
 // The line at a place; at or past the end it is an empty rest at that place. Eight bytes are looked at as one word: `z` has the high bit
-// of each CR among them, and what stands after the first CR is not on the line. The last seven bytes are looked at one by one.
+// of each among them that is below 20. In a clean file that is CR alone, so these are searched for and not CR, which takes more
+// instructions; before the first of them a byte is odd where it is above 7E. The last seven bytes are looked at one by one.
 pub fn line_at(s: &[u8], at: usize) -> Found
     ensures { λ r. ⌜ r ≡ lineAt (now (s .entry)) at ⌝ }
 {
@@ -209,13 +206,12 @@ pub fn line_at(s: &[u8], at: usize) -> Found
     let mut i = at;
     while i < stop {
         let w = word(s, i);
-        let other = others(w);
+        let z = controls(w);
         let o = odds(w);
-        if other == HIGH {
+        if z == 0 {
             odd = odd | o;
             i += 8;
         } else {
-            let z = other ^ HIGH;
             let k = i + (u64::trailing_zeros(z) / 8) as usize;
             odd = odd | (o & ((z ^ (z - 1)) >> 1));
             if ends_at(s, k) {

@@ -6,9 +6,9 @@ use lib.Bits.{bitAnd, bitOr, bitXor}
 use lib.Count.{trailingZeros}
 use lib.ListN.{length, getD}
 use Rattle.lines.specs.Reading.{after, lineAt}
-use Rattle.lines.specs.Words.{flagged}
+use Rattle.lines.specs.Words.{isControl, flagged}
 use Rattle.lines.proofs.Reading.{line-cut}
-use Rattle.lines.proofs.Searching.{all-clear, hit-some, hit-inside, hit-here, hit-passed, cr-alone}
+use Rattle.lines.proofs.Searching.{all-clear, hit-inside, hit-here, hit-passed, control-alone}
 use borrow.Author.Needs.{needs}
 use Rattle.lines.proofs.line_at.Statement.{statement}
 use Rattle.lines.proofs.line_at.Tie as tie
@@ -23,7 +23,7 @@ abbrev μ-loop : tie.MeasureT-loop
 fits : (a : tie.After-odds Inv-loop μ-loop) → a .before .before .before .before .loop .i + 8 ≤ length (a .before .before .before .before .before .before .before .args .s .now)
 fits a = omega (arith, a .before .before .before .loop-test .taken, a .before .before .before .before .before .stop-of .ensures)
 
--- where a CR is among them
+-- where one below 20 is among them
 module _ (e : tie.Else1 Inv-loop μ-loop) where
   abbrev a : tie.After-odds Inv-loop μ-loop
   a = e .before
@@ -32,7 +32,7 @@ module _ (e : tie.Else1 Inv-loop μ-loop) where
   l = a .before .before .before .before
 
   abbrev z : ℕ
-  z = bitXor (a .before .others .result) 0x8080_8080_8080_8080
+  z = a .before .controls .result
 
   abbrev k : ℕ
   k = trailingZeros 64 z / 8
@@ -41,16 +41,13 @@ module _ (e : tie.Else1 Inv-loop μ-loop) where
   odd = bitOr (l .loop .odd) (bitAnd (a .odds .result) (bitXor z (z - 1) / 2))
 
   inside : k < 8
-  inside = hit-inside _ _ _ _ _ (l .loop .odd) (fits a) (a .before .before .word .ensures) (a .before .others .ensures) (a .odds .ensures) (e .if1 .left)
+  inside = hit-inside _ _ _ _ _ (l .loop .odd) (fits a) (a .before .before .word .ensures) (a .before .controls .ensures) (a .odds .ensures) (e .if1 .left)
 
-  some : z ≡ 0 → ⊥
-  some = hit-some _ _ _ _ _ (l .loop .odd) (fits a) (a .before .before .word .ensures) (a .before .others .ensures) (a .odds .ensures) (e .if1 .left)
-
-  here : getD (l .before .before .before .args .s .now) (l .loop .i + k) 0 ≡ 0x0d
-  here = hit-here _ _ _ _ _ (l .loop .odd) (fits a) (a .before .before .word .ensures) (a .before .others .ensures) (a .odds .ensures) (e .if1 .left)
+  here : isControl (getD (l .before .before .before .args .s .now) (l .loop .i + k) 0) ≡ true
+  here = hit-here _ _ _ _ _ (l .loop .odd) (fits a) (a .before .before .word .ensures) (a .before .controls .ensures) (a .odds .ensures) (e .if1 .left)
 
   passed : lineAt (l .before .before .before .args .s .now) (l .before .before .before .args .at) ≡ after (flagged odd) (lineAt (l .before .before .before .args .s .now) (l .loop .i + k))
-  passed = l .loop .inv ∙ hit-passed _ _ _ _ _ (l .loop .odd) (fits a) (a .before .before .word .ensures) (a .before .others .ensures) (a .odds .ensures) (e .if1 .left)
+  passed = l .loop .inv ∙ hit-passed _ _ _ _ _ (l .loop .odd) (fits a) (a .before .before .word .ensures) (a .before .controls .ensures) (a .odds .ensures) (e .if1 .left)
 
 stop-of-requires : tie.Need-stop-of-requires Inv-loop μ-loop
 stop-of-requires c κs = search needs
@@ -62,8 +59,8 @@ loop-holds c = refl
 word-requires : tie.Need-word-requires Inv-loop μ-loop
 word-requires c κs = omega (arith, c .loop-test .taken, c .before .before .stop-of .ensures)
 
-others-requires : tie.Need-others-requires Inv-loop μ-loop
-others-requires c κs = search needs
+controls-requires : tie.Need-controls-requires Inv-loop μ-loop
+controls-requires c κs = search needs
 
 odds-requires : tie.Need-odds-requires Inv-loop μ-loop
 odds-requires c κs = search needs
@@ -78,7 +75,7 @@ loop-again : tie.Need-loop-again Inv-loop μ-loop
 loop-again c =
     let a = c .before in
     let l = a .before .before .before .before in
-    l .loop .inv ∙ all-clear _ _ _ _ _ (l .loop .odd) (fits a) (a .before .before .word .ensures) (a .before .others .ensures) (a .odds .ensures) (c .if1 .taken)
+    l .loop .inv ∙ all-clear _ _ _ _ _ (l .loop .odd) (fits a) (a .before .before .word .ensures) (a .before .controls .ensures) (a .odds .ensures) (c .if1 .taken)
 
 cast-k : tie.Need-cast-k Inv-loop μ-loop
 cast-k c = omega (arith, inside c)
@@ -87,13 +84,13 @@ add-k : tie.Need-add-k Inv-loop μ-loop
 add-k c = omega (arith, inside c, fits (c .before))
 
 sub-odd : tie.Need-sub-odd Inv-loop μ-loop
-sub-odd c = omega (arith, some c)
+sub-odd c = omega (arith, c .if1 .left)
 
 ends-at-requires : tie.Need-ends-at-requires Inv-loop μ-loop
-ends-at-requires c κs = (omega (arith, inside c, fits (c .before)), here c)
+ends-at-requires c κs = omega (arith, inside c, fits (c .before))
 
-add-t21 : tie.Need-add-t21 Inv-loop μ-loop
-add-t21 c = omega (arith, inside (c .before .before), fits (c .before .before .before))
+add-t20 : tie.Need-add-t20 Inv-loop μ-loop
+add-t20 c = omega (arith, inside (c .before .before), fits (c .before .before .before))
 
 has-high-requires : tie.Need-has-high-requires Inv-loop μ-loop
 has-high-requires c κs = search needs
@@ -113,7 +110,7 @@ loop-less-2 c = omega (arith, inside (c .before .before), fits (c .before .befor
 loop-again-2 : tie.Need-loop-again-2 Inv-loop μ-loop
 loop-again-2 c =
     let e = c .before .before in
-    passed e ∙ cr-alone (l e .before .before .before .args .s .now) (l e .loop .i + k e) (odd e) (omega (arith, inside e, fits (e .before))) (here e) (sym (c .before .ends-at .ensures) ∙ c .if2 .left)
+    passed e ∙ control-alone (l e .before .before .before .args .s .now) (l e .loop .i + k e) (odd e) (omega (arith, inside e, fits (e .before))) (here e) (sym (c .before .ends-at .ensures) ∙ c .if2 .left)
 
 has-high-requires-2 : tie.Need-has-high-requires-2 Inv-loop μ-loop
 has-high-requires-2 c κs = search needs
@@ -135,7 +132,7 @@ line-at-spec =
     stop-of-requires
     loop-holds
     word-requires
-    others-requires
+    controls-requires
     odds-requires
     add-i
     loop-less
@@ -144,7 +141,7 @@ line-at-spec =
     add-k
     sub-odd
     ends-at-requires
-    add-t21
+    add-t20
     has-high-requires
     returns
     add-i-2
