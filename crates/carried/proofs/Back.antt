@@ -1,11 +1,11 @@
 -- What is written reads back: of each enum, of ten in a row, and of the whole.
 use Prim.Native.Nat.{ℕ}
-use mathlib.Core.Path.{_≡_, refl, ap, _∙_}
+use mathlib.Core.Path.{_≡_, refl, _∙_}
 use mathlib.Core.Bool.{Bool, true, false}
 use mathlib.Core.List.{List, [], _∷_, map}
 use native.Mathlib.Omega.{arith}
 use mir.Val.{boolByte}
-use lib.ListN.{length, getD}
+use lib.ListN.{length}
 use Rattle.figures.specs.declared.parts.Number.{Number}
 use Rattle.figures.specs.declared.parts.Number.the-variants.{Good, Failing, Zero}
 use Rattle.fields.specs.declared.readings.Reading.{Reading}
@@ -80,7 +80,7 @@ pub sums-back : (s : List Sum) → length s ≡ 10
 sums-back s l = (λ i. map (λ (x : Sum). record { stated = sum-back (x .stated) 0 i }) (tenOf noSum s 0)) ∙ ten-all noSum s l
 
 pub pass-back :
-    (p : Pass) → length (p .block .counts) ≡ 10 → length (p .block .sums) ≡ 10 → length (p .claims .sums .groups) ≡ 10 → passOf (wordsOf p) ≡ p
+    (p : Pass) → length (p .block .counts) ≡ 10 → length (p .block .sums) ≡ 10 → length (p .stated .groups) ≡ 10 → passOf (wordsOf p) ≡ p
 unfolding passOf wordsOf
 pass-back p lc ls lg =
     λ i. record {
@@ -91,12 +91,9 @@ pass-back p lc ls lg =
       top = p .top;
       reads = on-back (p .reads) i;
       heading = p .heading;
-      claims =
-          record {
-            kc = kc-back (p .claims .kc) 0 i;
-            span = in-back (p .claims .span) 0 i;
-            sums = record { groups = sums-back (p .claims .sums .groups) lg i };
-          };
+      kc = kc-back (p .kc) 0 i;
+      span = in-back (p .span) 0 i;
+      stated = record { groups = sums-back (p .stated .groups) lg i };
       block =
           record {
             classed = on-back (p .block .classed) i;

@@ -4,10 +4,12 @@ use Prim.Native.Nat.{ℕ, _+_}
 use mathlib.Core.List.{List, [], _∷_, _++_, map}
 use lib.ListN.{getD}
 use Rattle.headings.specs.declared.Heading.{Heading}
+use Rattle.rules.specs.declared.FirstKc.{FirstKc}
+use Rattle.rules.specs.declared.FirstIn.{FirstIn}
 use Rattle.rules.specs.declared.Sum.{Sum}
+use Rattle.rules.specs.declared.Sums.{Sums}
 use Rattle.ledger.specs.declared.Ledger.{Ledger}
 use Rattle.blocks.specs.declared.Block.{Block}
-use Rattle.items.specs.declared.Claims.{Claims}
 use Rattle.items.specs.Claims.{noSum}
 use Rattle.judging.specs.declared.opening.Open.{Open}
 use Rattle.judging.specs.declared.opening.Pend.{Pend}
@@ -58,9 +60,9 @@ smallOf p said kc span s =
 unfoldable pub wordsOf : Pass → Words
 wordsOf p =
     record {
-      wide = wideOf (p .block .counts) (p .block .sums) p (flatReading (p .pend .said)) (flatKc (p .claims .kc)) (flatsOf (p .claims .sums .groups));
-      narrow = narrowOf p (flatReading (p .pend .said)) (flatKc (p .claims .kc)) (flatIn (p .claims .span)) (flatsOf (p .claims .sums .groups));
-      small = smallOf p (flatReading (p .pend .said)) (flatKc (p .claims .kc)) (flatIn (p .claims .span)) (flatsOf (p .claims .sums .groups));
+      wide = wideOf (p .block .counts) (p .block .sums) p (flatReading (p .pend .said)) (flatKc (p .kc)) (flatsOf (p .stated .groups));
+      narrow = narrowOf p (flatReading (p .pend .said)) (flatKc (p .kc)) (flatIn (p .span)) (flatsOf (p .stated .groups));
+      small = smallOf p (flatReading (p .pend .said)) (flatKc (p .kc)) (flatIn (p .span)) (flatsOf (p .stated .groups));
     }
 
 -- ---- read back
@@ -98,11 +100,11 @@ headingIn w =
       third = record { 0 = narrowAt w 11 };
     }
 
-abbrev pub kcIn : Words → Flat
-kcIn w = flat (smallAt w 3) (wideAt w 6) (narrowAt w 12) 0
+abbrev pub kcIn : Words → FirstKc
+kcIn w = kcFrom (flat (smallAt w 3) (wideAt w 6) (narrowAt w 12) 0)
 
-abbrev pub spanIn : Words → Flat
-spanIn w = flat (smallAt w 4) 0 (narrowAt w 13) (narrowAt w 14)
+abbrev pub spanIn : Words → FirstIn
+spanIn w = inFrom (flat (smallAt w 4) 0 (narrowAt w 13) (narrowAt w 14))
 
 abbrev pub groupAt : Words → ℕ → Flat
 groupAt w i = flat (smallAt w (9 + i)) (wideAt w (28 + i)) (narrowAt w (23 + i)) 0
@@ -110,11 +112,8 @@ groupAt w i = flat (smallAt w (9 + i)) (wideAt w (28 + i)) (narrowAt w (23 + i))
 abbrev pub groupIn : Words → ℕ → Sum
 groupIn w i = record { stated = sumFrom (groupAt w i) }
 
-abbrev pub groupsIn : Words → List Sum
-groupsIn w = map (groupIn w) (0 ∷ 1 ∷ 2 ∷ 3 ∷ 4 ∷ 5 ∷ 6 ∷ 7 ∷ 8 ∷ 9 ∷ [])
-
-abbrev pub claimsIn : Words → Claims
-claimsIn w = record { kc = kcFrom (kcIn w); span = inFrom (spanIn w); sums = record { groups = groupsIn w } }
+abbrev pub statedIn : Words → Sums
+statedIn w = record { groups = map (groupIn w) (0 ∷ 1 ∷ 2 ∷ 3 ∷ 4 ∷ 5 ∷ 6 ∷ 7 ∷ 8 ∷ 9 ∷ []) }
 
 abbrev pub blockIn : Words → Block
 blockIn w =
@@ -146,7 +145,9 @@ passOf w =
       top = wideAt w 5;
       reads = isOn (smallAt w 2);
       heading = headingIn w;
-      claims = claimsIn w;
+      kc = kcIn w;
+      span = spanIn w;
+      stated = statedIn w;
       block = blockIn w;
       wait = waitIn w;
       starts = startsIn w;

@@ -15,19 +15,20 @@ use flats::Flat;
 use headings::Code;
 use headings::Heading;
 use headings::ItemNo;
-use items::Claims;
 use judging::Wait;
 use judging::opening::Open;
 use judging::opening::Pend;
 use ledger::Ledger;
 use pass::Pass;
+use rules::FirstIn;
+use rules::FirstKc;
 use rules::Sum;
 use rules::Sums;
 use shutting::Starts;
 ghost use mathlib.Core.Path.{_≡_};
 ghost use Prim.Native.Nat.{_<_};
 ghost use lib.ListN.{length};
-ghost use Rattle.carried.specs.Words.{flatAt, flatsOf, wideOf, narrowOf, smallOf, wordsOf, ledgerIn, fieldIn, saidIn, pendIn, headingIn, kcIn, spanIn, groupAt, groupIn, groupsIn, claimsIn, blockIn, waitIn, startsIn, passOf};
+ghost use Rattle.carried.specs.Words.{flatAt, flatsOf, wideOf, narrowOf, smallOf, wordsOf, ledgerIn, fieldIn, saidIn, pendIn, headingIn, kcIn, spanIn, groupAt, groupIn, statedIn, blockIn, waitIn, startsIn, passOf};
 
 pub mod flats;
 
@@ -194,11 +195,10 @@ pub fn words_of(p: Pass) -> Words
     ensures { λ r. ⌜ passOf r ≡ p ⌝ }
 {
     let pend = p.pend;
-    let claims = p.claims;
     let told = pend.said;
-    let first_kc = claims.kc;
-    let first_in = claims.span;
-    let stated = claims.sums;
+    let first_kc = p.kc;
+    let first_in = p.span;
+    let stated = p.stated;
     let groups = stated.groups;
     let block = p.block;
     let counts = block.counts;
@@ -273,26 +273,28 @@ fn heading_in(w: Words) -> Heading
     }
 }
 
-fn kc_in(w: Words) -> Flat
+fn kc_in(w: Words) -> FirstKc
     ensures { λ r. ⌜ r ≡ kcIn w ⌝ }
 {
-    Flat {
+    let flat = Flat {
         tag: w.small[3],
         amount: w.wide[6],
         a: w.narrow[12],
         b: 0,
-    }
+    };
+    flats::kc_from(flat)
 }
 
-fn span_in(w: Words) -> Flat
+fn span_in(w: Words) -> FirstIn
     ensures { λ r. ⌜ r ≡ spanIn w ⌝ }
 {
-    Flat {
+    let flat = Flat {
         tag: w.small[4],
         amount: 0,
         a: w.narrow[13],
         b: w.narrow[14],
-    }
+    };
+    flats::in_from(flat)
 }
 
 fn group_at(w: Words, i: usize) -> Flat
@@ -319,8 +321,8 @@ fn group_in(w: Words, i: usize) -> Sum
     Sum { stated }
 }
 
-fn groups_in(w: Words) -> [Sum; 10]
-    ensures { λ r. ⌜ r ≡ groupsIn w ⌝ }
+fn stated_in(w: Words) -> Sums
+    ensures { λ r. ⌜ r ≡ statedIn w ⌝ }
 {
     let s0 = group_in(w, 0);
     let s1 = group_in(w, 1);
@@ -332,19 +334,8 @@ fn groups_in(w: Words) -> [Sum; 10]
     let s7 = group_in(w, 7);
     let s8 = group_in(w, 8);
     let s9 = group_in(w, 9);
-    [s0, s1, s2, s3, s4, s5, s6, s7, s8, s9]
-}
-
-fn claims_in(w: Words) -> Claims
-    ensures { λ r. ⌜ r ≡ claimsIn w ⌝ }
-{
-    let groups = groups_in(w);
-    let sums = Sums { groups };
-    let first_kc = kc_in(w);
-    let kc = flats::kc_from(first_kc);
-    let first_in = span_in(w);
-    let span = flats::in_from(first_in);
-    Claims { kc, span, sums }
+    let groups = [s0, s1, s2, s3, s4, s5, s6, s7, s8, s9];
+    Sums { groups }
 }
 
 fn block_in(w: Words) -> Block
@@ -418,7 +409,9 @@ pub fn pass_of(w: Words) -> Pass
     let field = field_in(w);
     let pend = pend_in(w);
     let heading = heading_in(w);
-    let claims = claims_in(w);
+    let kc = kc_in(w);
+    let span = span_in(w);
+    let stated = stated_in(w);
     let block = block_in(w);
     let wait = wait_in(w);
     let starts = starts_in(w);
@@ -430,7 +423,9 @@ pub fn pass_of(w: Words) -> Pass
         top,
         reads,
         heading,
-        claims,
+        kc,
+        span,
+        stated,
         block,
         wait,
         starts,

@@ -1,5 +1,4 @@
 // What an item's closed fields say that its heading needs.
-use crate::Claims;
 use fields::classes;
 use fields::readings::Reading;
 use rules::FirstIn;
@@ -9,21 +8,17 @@ use rules::Sum;
 use rules::Sums;
 ghost use mathlib.Core.Path.{_≡_};
 ghost use Rattle.rules.specs.Said.{kcBy, spanBy, statedBy};
-ghost use Rattle.items.specs.Claims.{noClaims, kcKept, spanKept, statedKept, groupClaims, claimsWith};
+ghost use Rattle.items.specs.Claims.{noSums, kcKept, kcOwn, spanKept, statedKept, groupClaims};
 
-pub fn no_claims() -> Claims
-    ensures { λ r. ⌜ r ≡ noClaims ⌝ }
+// Nothing is stated of any group.
+pub fn no_sums() -> Sums
+    ensures { λ r. ⌜ r ≡ noSums ⌝ }
 {
     let none = Sum {
         stated: FirstSum::NoSum,
     };
     let groups = [none; 10];
-    let sums = Sums { groups };
-    Claims {
-        kc: FirstKc::NoKc,
-        span: FirstIn::NoIn,
-        sums,
-    }
+    Sums { groups }
 }
 
 // What a KC line says.
@@ -51,7 +46,18 @@ pub fn kc_kept(first: FirstKc, then: FirstKc) -> FirstKc
     }
 }
 
-fn span_by(said: Reading) -> FirstIn
+// A KC is claimed at its own line: it takes any tail.
+pub fn kc_own(kc: FirstKc, ident: usize, said: Reading) -> FirstKc
+    ensures { λ r. ⌜ r ≡ kcOwn kc ident said ⌝ }
+{
+    if ident == classes::KC {
+        return kc_kept(kc, kc_by(said));
+    }
+    kc
+}
+
+// What an IN line says.
+pub fn span_by(said: Reading) -> FirstIn
     ensures { λ r. ⌜ r ≡ spanBy said ⌝ }
 {
     match said {
@@ -64,7 +70,7 @@ fn span_by(said: Reading) -> FirstIn
     }
 }
 
-fn span_kept(first: FirstIn, then: FirstIn) -> FirstIn
+pub fn span_kept(first: FirstIn, then: FirstIn) -> FirstIn
     ensures { λ r. ⌜ r ≡ spanKept first then ⌝ }
 {
     match first {
@@ -98,49 +104,16 @@ fn stated_kept(first: FirstSum, then: FirstSum) -> FirstSum
 }
 
 // The groups with what is said of one more.
-fn group_claims(groups: [Sum; 10], d: usize, said: Reading) -> [Sum; 10]
-    ensures { λ r. ⌜ r ≡ groupClaims groups d said ⌝ }
+pub fn group_claims(sums: Sums, d: usize, said: Reading) -> Sums
+    ensures { λ r. ⌜ r ≡ groupClaims sums d said ⌝ }
 {
     if 10 <= d {
-        return groups;
+        return sums;
     }
-    let mut next = groups;
-    let old = next[d];
+    let mut groups = sums.groups;
+    let old = groups[d];
     let first = old.stated;
     let stated = stated_kept(first, stated_by(said));
-    next[d] = Sum { stated };
-    next
-}
-
-// The claims with what a field of an identifier says.
-pub fn with_claim(c: Claims, ident: usize, said: Reading) -> Claims
-    ensures { λ r. ⌜ r ≡ claimsWith c ident said ⌝ }
-{
-    let kc = c.kc;
-    let sums = c.sums;
-    let span = c.span;
-    if ident == classes::KC {
-        let first = kc_kept(kc, kc_by(said));
-        return Claims {
-            kc: first,
-            span,
-            sums,
-        };
-    }
-    if ident == classes::IN {
-        let first = span_kept(span, span_by(said));
-        return Claims {
-            kc,
-            span: first,
-            sums,
-        };
-    }
-    let before = sums.groups;
-    let groups = group_claims(before, classes::sum_group(ident), said);
-    let after = Sums { groups };
-    Claims {
-        kc,
-        span,
-        sums: after,
-    }
+    groups[d] = Sum { stated };
+    Sums { groups }
 }

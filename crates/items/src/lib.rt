@@ -3,15 +3,5 @@
 // (proofs/Ideal.antt, Order.antt). `claiming` promises its results by the definitions of specs/Claims.antt, for every input; the laws say
 // that these are the first fields of the item.
 // Stands on `rules`, on `fields` for what a field says, and on `ledger` for the list.
-use rules::FirstIn;
-use rules::FirstKc;
-use rules::Sums;
 
 pub mod claiming;
-
-// What the item's closed fields say that its heading needs: the first KC, the first IN, and the first S0 to S9.
-pub struct Claims {
-    pub kc: FirstKc,
-    pub span: FirstIn,
-    pub sums: Sums,
-}

@@ -14,7 +14,7 @@ use Rattle.blocks.specs.declared.Course.{Course}
 use Rattle.blocks.specs.Model.{blockOf}
 use Rattle.account.specs.Model.{closeCourse, countsOn, sumsOn, groupsOn}
 use Rattle.account.proofs.Parts.{by-parts}
-use Rattle.items.specs.declared.Claims.{Claims}
+use Rattle.items.specs.Claims.{Claims}
 use Rattle.judging.specs.declared.Wait.{Wait}
 use Rattle.judging.specs.declared.Shut.{Shut}
 use Rattle.judging.specs.Closing.{Ended, shutAs, shutBy, closeAs, closeBy, countsBy, sumsBy}

@@ -2,10 +2,11 @@
 use mathlib.Core.Path.{_≡_, refl, sym, ap, _∙_, subst}
 use mathlib.Core.Bool.{Bool, true, false, cond, not, _||_}
 use mathlib.Core.List.{List, [], _∷_}
-use Prim.Native.Nat.{ℕ, suc}
+use Prim.Native.Nat.{ℕ, suc, _≤_}
+use native.Mathlib.Omega.{arith}
 use lib.Dec.{eqb, ltb, leb}
 use lib.ListN.{length}
-use borrow.Author.Tests.{eqb-true}
+use borrow.Author.Tests.{eqb-true, ltb-false}
 use Rattle.laws.specs.Tests.{among}
 use Rattle.fields.specs.declared.readings.Reading.{Reading}
 use Rattle.fields.specs.declared.readings.Reading.the-variants.{Broken, Plain, Paid, Span, Stated, Party}
@@ -19,20 +20,20 @@ use Rattle.fields.proofs.Places.{place-in}
 use Rattle.rules.specs.Terms.{Terms}
 use Rattle.rules.specs.Rows.{Row, FieldRow, LowRow, low, field}
 use Rattle.rules.specs.Tree.{Item, Owned}
-use Rattle.rules.specs.Said.{continuations, says, stands, headOf}
-use Rattle.items.specs.declared.Claims.{Claims}
-use Rattle.items.specs.Claims.{claimsWith}
+use Rattle.rules.specs.Said.{continuations, says, stands, headOf, kcBy, spanBy}
+use Rattle.items.specs.Claims.{Claims, claimsAs, kcKept, spanKept, groupClaims}
 use Rattle.items.proofs.Ideal.{start, early, atHead, atField, closed, push, Pieces}
 use Rattle.items.proofs.Turned.{firstUp, says-closed}
-use Rattle.items.proofs.Firsts.{claimsOf, grownClaims, claimed, claim-at}
+use Rattle.items.proofs.Firsts.{claimsOf, grownClaims, groups-same, claim-at}
+use Rattle.judging.specs.declared.opening.Open.{Open}
 use Rattle.judging.specs.declared.opening.Pend.{Pend}
-use Rattle.judging.specs.Opening.{breaksTail, fitsBy, ownClaims, closeClaims, pendOf}
+use Rattle.judging.specs.Opening.{breaksTail, fitsBy, saidClosed, spanClosed, statedClosed, ownClaims, closeClaims, pendOf}
 use Rattle.judging.proofs.Shutting.{claimsLater}
 use Rattle.judging.proofs.OpenField.{says-more, says-same, says-own, openOf, fits-is}
 
 -- ---- which fields claim when they close
 abbrev Tells : ℕ → Type 0
-Tells i = leb 5 (codeOf i) ≡ claimed i
+Tells i = (eqb (codeOf i) 5 ≡ eqb i (named "IN")) × (eqb (codeOf i) 6 ≡ ltb (sumGroup i) 10)
 
 -- an identifier that is written out is computed
 module _ (i : ℕ) where
@@ -42,27 +43,37 @@ module _ (i : ℕ) where
   -- neither KC nor IN nor a number: a group, if anything
   no-name : eqb i (named "KC") ≡ false → eqb i (named "EC") ≡ false → eqb i (named "AK") ≡ false → eqb i (named "ZK") ≡ false → eqb i (named "IN") ≡ false → Tells i
   unfolding codeOf classOf sumGroup
-  no-name k e a z n =
-      (λ j. leb 5 (codeBy (classBy (k j || false) (e j || (a j || (z j || false))) (n j || false) (among i groupFields) (among i accountFields) (among i textFields))))
-      ∙ only (among i groupFields) (among i accountFields) (among i textFields) ∙ sym (place-in i groupFields)
-      ∙ sym (λ j. k j || (n j || ltb (sumGroup i) 10))
+  no-name k e a z n = (
+    (λ j. eqb (coded j) 5) ∙ never (among i groupFields) (among i accountFields) (among i textFields) ∙ sym n,
+    (λ j. eqb (coded j) 6) ∙ only (among i groupFields) (among i accountFields) (among i textFields) ∙ sym (place-in i groupFields),
+  )
     where
-      only : (d f g : Bool) → leb 5 (codeBy (classBy false false false d f g)) ≡ d
+      coded : codeOf i ≡ codeBy (classBy false false false (among i groupFields) (among i accountFields) (among i textFields))
+      coded = λ j. codeBy (classBy (k j || false) (e j || (a j || (z j || false))) (n j || false) (among i groupFields) (among i accountFields) (among i textFields))
+
+      never : (d f g : Bool) → eqb (codeBy (classBy false false false d f g)) 5 ≡ false
+      never true f g = refl
+      never false true g = refl
+      never false false true = refl
+      never false false false = refl
+
+      only : (d f g : Bool) → eqb (codeBy (classBy false false false d f g)) 6 ≡ d
       only true f g = refl
       only false true g = refl
       only false false true = refl
       only false false false = refl
 
-  claimed-is : eqb i (named "KC") ≡ false → Tells i
+  tells : Tells i
   unfolding codeOf classOf sumGroup place
-  claimed-is k = go (eqb i (named "EC")) (eqb i (named "AK")) (eqb i (named "ZK")) (eqb i (named "IN")) refl refl refl refl
+  tells = go (eqb i (named "KC")) (eqb i (named "EC")) (eqb i (named "AK")) (eqb i (named "ZK")) (eqb i (named "IN")) refl refl refl refl refl
     where
-      go : (e a z n : Bool) → eqb i (named "EC") ≡ e → eqb i (named "AK") ≡ a → eqb i (named "ZK") ≡ z → eqb i (named "IN") ≡ n → Tells i
-      go true a z n q r t u = by-name (named "EC") q refl
-      go false true z n q r t u = by-name (named "AK") r refl
-      go false false true n q r t u = by-name (named "ZK") t refl
-      go false false false true q r t u = by-name (named "IN") u refl
-      go false false false false q r t u = no-name k q r t u
+      go : (k e a z n : Bool) → eqb i (named "KC") ≡ k → eqb i (named "EC") ≡ e → eqb i (named "AK") ≡ a → eqb i (named "ZK") ≡ z → eqb i (named "IN") ≡ n → Tells i
+      go true e a z n p q r t u = by-name (named "KC") p (refl, refl)
+      go false true a z n p q r t u = by-name (named "EC") q (refl, refl)
+      go false false true z n p q r t u = by-name (named "AK") r (refl, refl)
+      go false false false true n p q r t u = by-name (named "ZK") t (refl, refl)
+      go false false false false true p q r t u = by-name (named "IN") u (refl, refl)
+      go false false false false false p q r t u = no-name p q r t u
 
 -- ---- what is claimed with a field open
 abbrev pub claimsNow : Pieces → Claims
@@ -128,37 +139,61 @@ claims-close terms (early ups x ls) p P = refl
 claims-close terms (atHead b h ls) p P = refl
 claims-close terms (atField b h hl ups x ls) p P = go (eqb (x .ident) (named "KC")) refl
   where
-    m : ℕ
-    m = openOf terms (atField b h hl ups x ls) .marks
+    o : Open
+    o = openOf terms (atField b h hl ups x ls)
 
-    kc-code : eqb (x .ident) (named "KC") ≡ true → leb 5 (codeOf (x .ident)) ≡ false
-    kc-code e = rw (eqb-true (x .ident) (named "KC") e) (unfold codeOf classOf place in refl)
+    c : Claims
+    c = claimsOf ups
 
-    by : (t : Bool) → leb 5 (codeOf (x .ident)) ≡ t
-        → cond t (claimsWith (claimsOf ups) (p .ident) (ifFits (fitsBy m) (p .said))) (claimsOf ups) ≡ cond t (claimsWith (claimsOf ups) (x .ident) (says (closed x ls))) (claimsOf ups)
-    by true e = (λ i. claimsWith (claimsOf ups) (P e i .ident) (ifFits (fitsBy m) (P e i .said))) ∙ ap (claimsWith (claimsOf ups) (x .ident)) (said-by terms b h hl ups x ls)
-    by false e = refl
+    i : ℕ
+    i = x .ident
 
-    go : (t : Bool) → eqb (x .ident) (named "KC") ≡ t
-        → closeClaims (cond t (claimsOf (closed x ls ∷ ups)) (claimsOf ups)) (openOf terms (atField b h hl ups x ls)) p ≡ claimsOf (closed x ls ∷ ups)
-    go true e = ap (λ (t : Bool). cond t (claimsWith (claimsOf (closed x ls ∷ ups)) (p .ident) (ifFits (fitsBy m) (p .said))) (claimsOf (closed x ls ∷ ups))) (kc-code e)
+    said : Reading
+    said = says (closed x ls)
+
+    -- it was kept
+    waited : (k : ℕ) → leb 5 k ≡ true → eqb (codeOf i) k ≡ true → (p .ident ≡ i) × (saidClosed o p ≡ said)
+    waited k m e =
+        let q : p ≡ record { ident = i; said = readingOf (classOf i) (textOf (x .row .bytes)) } = P (ap (leb 5) (eqb-true (codeOf i) k e) ∙ m) in
+        (ap (λ (a : Pend). a .ident) q, ap (λ (a : Pend). ifFits (fitsBy (o .marks)) (a .said)) q ∙ said-by terms b h hl ups x ls)
+
+    span-is : spanClosed (c .span) o p ≡ cond (eqb i (named "IN")) (spanKept (c .span) (spanBy said)) (c .span)
+    span-is = by (eqb (codeOf i) 5) refl ∙ ap (λ (t : Bool). cond t (spanKept (c .span) (spanBy said)) (c .span)) (tells i .0)
+      where
+        by : (t : Bool) → eqb (codeOf i) 5 ≡ t → cond t (spanKept (c .span) (spanBy (saidClosed o p))) (c .span) ≡ cond t (spanKept (c .span) (spanBy said)) (c .span)
+        by true e = ap (λ (r : Reading). spanKept (c .span) (spanBy r)) (waited 5 refl e .1)
+        by false e = refl
+
+    groups-are : statedClosed (c .sums) o p ≡ groupClaims (c .sums) (sumGroup i) said
+    groups-are = by (eqb (codeOf i) 6) refl
+      where
+        by : (t : Bool) → eqb (codeOf i) 6 ≡ t → cond t (groupClaims (c .sums) (sumGroup (p .ident)) (saidClosed o p)) (c .sums) ≡ groupClaims (c .sums) (sumGroup i) said
+        by true e = let w = waited 6 refl e in λ j. groupClaims (c .sums) (sumGroup (w .0 j)) (w .1 j)
+        by false e = sym (groups-same (c .sums) (sumGroup i) said (ltb-false (sumGroup i) 10 (sym (tells i .1) ∙ e)))
+
+    go : (t : Bool) → eqb i (named "KC") ≡ t → closeClaims (cond t (claimsOf (closed x ls ∷ ups)) c) o p ≡ claimsOf (closed x ls ∷ ups)
+    go true e = rw (eqb-true i (named "KC") e) (unfold codeOf classOf place in refl)
     go false e =
-        by (leb 5 (codeOf (x .ident))) refl
-        ∙ ap (λ (t : Bool). cond t (claimsWith (claimsOf ups) (x .ident) (says (closed x ls))) (claimsOf ups)) (claimed-is (x .ident) e)
-        ∙ claim-at ups (x .ident) (says (closed x ls)) ∙ grown-is ups x ls
+        (λ j. claimsAs (cond (sym e j) (kcKept (c .kc) (kcBy said)) (c .kc)) (span-is j) (groups-are j)) ∙ claim-at ups i said ∙ grown-is ups x ls
 
 -- a field opens in an item
 own-claims : (ups : List (Owned FieldRow)) (y : FieldRow)
     → cond (eqb (y .ident) (named "KC")) (claimsOf (closed y [] ∷ ups)) (claimsOf ups) ≡ ownClaims (claimsOf ups) (y .ident) (readingOf (classOf (y .ident)) (textOf (y .row .bytes)))
 own-claims ups y = go (eqb (y .ident) (named "KC")) refl
   where
+    kc-other : eqb (y .ident) (named "KC") ≡ true → (eqb (y .ident) (named "IN") ≡ false) × (10 ≤ sumGroup (y .ident))
+    kc-other e = rw (eqb-true (y .ident) (named "KC") e) (unfold sumGroup place in (refl, omega arith))
+
     go : (t : Bool) → eqb (y .ident) (named "KC") ≡ t
-        → cond t (claimsOf (closed y [] ∷ ups)) (claimsOf ups) ≡ cond t (claimsWith (claimsOf ups) (y .ident) (readingOf (classOf (y .ident)) (textOf (y .row .bytes)))) (claimsOf ups)
+        → cond t (claimsOf (closed y [] ∷ ups)) (claimsOf ups)
+        ≡ claimsAs (cond t (kcKept (claimsOf ups .kc) (kcBy (readingOf (classOf (y .ident)) (textOf (y .row .bytes))))) (claimsOf ups .kc)) (claimsOf ups .span) (claimsOf ups .sums)
     go true e =
-        sym (grown-is ups y [])
-        ∙ sym (claim-at ups (y .ident) (says (closed y [])))
-        ∙ ap (λ (t : Bool). cond (t || (eqb (y .ident) (named "IN") || ltb (sumGroup (y .ident)) 10)) (claimsWith (claimsOf ups) (y .ident) (says (closed y []))) (claimsOf ups)) e
-        ∙ ap (claimsWith (claimsOf ups) (y .ident)) (says-own y)
+        let c = claimsOf ups in
+        let said = says (closed y []) in
+        let other = kc-other e in
+        sym (grown-is ups y []) ∙ sym (claim-at ups (y .ident) said)
+        ∙ (λ j. claimsAs (cond (e j) (kcKept (c .kc) (kcBy said)) (c .kc)) (cond (other .0 j) (spanKept (c .span) (spanBy said)) (c .span)) (groups-same (c .sums) (sumGroup (y .ident)) said (other .1) j))
+        ∙ ap (λ (r : Reading). claimsAs (kcKept (c .kc) (kcBy r)) (c .span) (c .sums)) (says-own y)
     go false e = refl
 
 abbrev pub headed : Pieces → Bool

@@ -25,7 +25,7 @@ use Rattle.blocks.specs.Model.{basisOf}
 use Rattle.account.specs.Model.{closeModel}
 use Rattle.account.specs.Summary.{summary, marksBy}
 use Rattle.account.proofs.Accounting.{account}
-use Rattle.items.specs.declared.Claims.{Claims}
+use Rattle.items.specs.Claims.{Claims}
 use Rattle.items.proofs.Ideal.{headAs, ends, fresh, start, early, atHead, atField, closed, item, waitsAt, outAt, waits, headsOut, Pieces}
 use Rattle.items.proofs.Puts.{above, aboveThen, itemsOut}
 use Rattle.items.proofs.Turned.{first-closed}

@@ -16,7 +16,7 @@ use Rattle.blocks.specs.declared.Basis.{Basis}
 use Rattle.blocks.specs.declared.Block.{Block}
 use Rattle.blocks.specs.declared.Course.{Course}
 use Rattle.account.specs.Model.{closeModel, closeCourse, countsOn, sumsOn}
-use Rattle.items.specs.declared.Claims.{Claims}
+use Rattle.items.specs.Claims.{Claims}
 use Rattle.judging.specs.declared.Wait.{Wait}
 use Rattle.judging.specs.declared.Shut.{Shut}
 

@@ -11,16 +11,19 @@ use Rattle.figures.specs.declared.parts.Halves.{Halves}
 use Rattle.fields.specs.declared.readings.Reading.{Reading}
 use Rattle.fields.specs.declared.readings.Reading.the-variants.{Broken, Plain, Paid, Span, Stated, Party}
 use Rattle.fields.specs.Kinds.{named}
+use Rattle.fields.specs.Classes.{sumGroup}
 use Rattle.fields.specs.Codes.{codeOf}
 use Rattle.fields.specs.Readings.{ifFits}
 use Rattle.fields.specs.Tails.{isBroken}
 use Rattle.rules.specs.declared.FirstKc.{FirstKc}
+use Rattle.rules.specs.declared.FirstIn.{FirstIn}
+use Rattle.rules.specs.declared.Sums.{Sums}
+use Rattle.rules.specs.Said.{spanBy}
 use Rattle.rules.specs.HeadingRules.{noKc}
 use Rattle.rules.specs.FieldRules.{ofParty, prefixFails, numberFails, numberZero, large}
 use Rattle.blocks.specs.declared.Basis.{Basis}
 use Rattle.blocks.specs.Model.{breaks8}
-use Rattle.items.specs.declared.Claims.{Claims}
-use Rattle.items.specs.Claims.{claimsWith}
+use Rattle.items.specs.Claims.{Claims, claimsAs, kcOwn, spanKept, groupClaims}
 use Rattle.judging.specs.declared.opening.Pend.{Pend}
 use Rattle.judging.specs.declared.opening.Open.{Open}
 
@@ -91,13 +94,22 @@ abbrev pub headingIn : Read → Heading → Heading
 headingIn (Reads h) old = h
 headingIn Unreadable old = old
 
--- a field at its own line: a KC takes any tail, so its claim is made at once
+-- the claims with a field at its own line
 abbrev pub ownClaims : Claims → ℕ → Reading → Claims
-ownClaims c ident said = cond (eqb ident (named "KC")) (claimsWith c ident said) c
+ownClaims c ident said = claimsAs (kcOwn (c .kc) ident said) (c .span) (c .sums)
 
--- a field that closes: IN and S0 to S9
+-- the claims with a field that closes: by its class an IN, or one of S0 to S9
+abbrev pub saidClosed : Open → Pend → Reading
+saidClosed o p = ifFits (fitsBy (o .marks)) (p .said)
+
+abbrev pub spanClosed : FirstIn → Open → Pend → FirstIn
+spanClosed span o p = cond (eqb (o .class) 5) (spanKept span (spanBy (saidClosed o p))) span
+
+abbrev pub statedClosed : Sums → Open → Pend → Sums
+statedClosed stated o p = cond (eqb (o .class) 6) (groupClaims stated (sumGroup (p .ident)) (saidClosed o p)) stated
+
 abbrev pub closeClaims : Claims → Open → Pend → Claims
-closeClaims c o p = cond (leb 5 (o .class)) (claimsWith c (p .ident) (ifFits (fitsBy (o .marks)) (p .said))) c
+closeClaims c o p = claimsAs (c .kc) (spanClosed (c .span) o p) (statedClosed (c .sums) o p)
 
 abbrev pub noPend : Pend
 noPend = record { ident = 0; said = Plain }

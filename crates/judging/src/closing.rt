@@ -9,9 +9,9 @@ use blocks::marks::MARK_6;
 use blocks::marks::MARK_16;
 use blocks::marks::flag;
 use headings::Read;
-use items::Claims;
 use rules::FirstIn;
 use rules::FirstKc;
+use rules::Sums;
 ghost use mathlib.Core.Path.{_≡_};
 ghost use Prim.Native.Nat.{_+_, _-_, _≤_, _<_, _^_};
 ghost use Rattle.laws.specs.Tests.{mark};
@@ -35,10 +35,9 @@ fn is_unreadable(read: Read) -> bool
 }
 
 // 30 to 39 at a 51 that reads.
-pub fn group_marks_of(counts: [u64; 10], sums: [u64; 10], claims: Claims) -> u64
-    ensures { λ r. ⌜ (r ≡ groupMarks counts sums (claims .sums .groups)) × (r ≤ 2 ^ 40 - 2 ^ 30) ⌝ }
+pub fn group_marks_of(counts: [u64; 10], sums: [u64; 10], stated: Sums) -> u64
+    ensures { λ r. ⌜ (r ≡ groupMarks counts sums (stated .groups)) × (r ≤ 2 ^ 40 - 2 ^ 30) ⌝ }
 {
-    let stated = claims.sums;
     let groups = stated.groups;
     group_marks(counts, sums, groups)
 }

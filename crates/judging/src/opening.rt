@@ -17,9 +17,10 @@ use figures::parts::Halves;
 use figures::parts::Number;
 use headings::Heading;
 use headings::Read;
-use items::Claims;
 use items::claiming;
+use rules::FirstIn;
 use rules::FirstKc;
+use rules::Sums;
 ghost use mathlib.Core.Path.{_≡_};
 ghost use mathlib.Core.Bool.{false, cond, not};
 ghost use Prim.Native.Nat.{ℕ, _+_, _≤_, _<_, _^_};
@@ -28,11 +29,10 @@ ghost use Rattle.laws.specs.Tests.{mark};
 ghost use Rattle.fields.specs.declared.classes.Class.{Class};
 ghost use Rattle.fields.specs.Classes.{classOf};
 ghost use Rattle.fields.specs.Codes.{codeBy, codeOf, claims};
-ghost use Rattle.fields.specs.Readings.{textOf, readingOf, ifFits};
+ghost use Rattle.fields.specs.Readings.{textOf, readingOf};
 ghost use Rattle.rules.specs.Said.{isUnreadable};
 ghost use Rattle.rules.specs.FieldRules.{isFailing, isZero};
-ghost use Rattle.items.specs.Claims.{claimsWith};
-ghost use Rattle.judging.specs.Opening.{breaksTail, brokenBy, noOpen, moreOpen, lowOpen, readAs, halvesMarks, plainMarks, saidMarks, fitsBy, ownClaims, closeClaims, headingIn, noPend, pendOf, openOwn, openLoose, lowMarksAt};
+ghost use Rattle.judging.specs.Opening.{breaksTail, brokenBy, noOpen, moreOpen, lowOpen, readAs, halvesMarks, plainMarks, saidMarks, saidClosed, spanClosed, statedClosed, headingIn, noPend, pendOf, openOwn, openLoose, lowMarksAt};
 
 // Its line (0: none), its marks as they stand, the number of its class, its continuations.
 pub struct Open {
@@ -162,26 +162,32 @@ pub fn said_marks(basis: Basis, first: bool, reads: bool, h: Heading, said: Read
     }
 }
 
-// The claim of a field that closes: an IN, an S0 to S9. Whether it fits is bit 6 of its marks.
-pub fn claim_closed(claims: Claims, o: Open, p: Pend) -> Claims
-    ensures { λ r. ⌜ r ≡ claimsWith claims (p .ident) (ifFits (fitsBy (o .marks)) (p .said)) ⌝ }
+// What a field says that closes, by its own line: whether it fits is bit 6 of its marks.
+fn said_closed(o: Open, p: Pend) -> Reading
+    ensures { λ r. ⌜ r ≡ saidClosed o p ⌝ }
 {
     let said = p.said;
-    claiming::with_claim(
-        claims,
-        p.ident,
-        readings::if_fits(o.marks % MARK_7 < MARK_6, said),
-    )
+    readings::if_fits(o.marks % MARK_7 < MARK_6, said)
 }
 
-// A KC is claimed at its own line.
-pub fn claim_own(claims: Claims, ident: usize, said: Reading) -> Claims
-    ensures { λ r. ⌜ r ≡ ownClaims claims ident said ⌝ }
+// The first IN, with the open field, which closes.
+pub fn span_closed(span: FirstIn, o: Open, p: Pend) -> FirstIn
+    ensures { λ r. ⌜ r ≡ spanClosed span o p ⌝ }
 {
-    if ident == classes::KC {
-        return claiming::with_claim(claims, ident, said);
+    if o.class == 5 {
+        return claiming::span_kept(span, claiming::span_by(said_closed(o, p)));
     }
-    claims
+    span
+}
+
+// The first S0 to S9, with it.
+pub fn stated_closed(stated: Sums, o: Open, p: Pend) -> Sums
+    ensures { λ r. ⌜ r ≡ statedClosed stated o p ⌝ }
+{
+    if o.class == 6 {
+        return claiming::group_claims(stated, classes::sum_group(p.ident), said_closed(o, p));
+    }
+    stated
 }
 
 // An IN or an S0 to S9 is kept until it closes.
@@ -263,16 +269,6 @@ pub fn plain_open(since: u32, no: u32, own: u64, again: bool, class: u8, line: &
         class,
         tail: 0,
     }
-}
-
-// The claims with that of the open field, which closes.
-pub fn claims_after(claims: Claims, o: Open, p: Pend) -> Claims
-    ensures { λ r. ⌜ r ≡ closeClaims claims o p ⌝ }
-{
-    if 5 <= o.class {
-        return claim_closed(claims, o, p);
-    }
-    claims
 }
 
 // The heading of the open item.

@@ -22,6 +22,9 @@ use Rattle.lines.specs.declared.Found.{Found}
 use Rattle.lines.specs.Lines.{Line, lines, taken, takenBy}
 use Rattle.lines.specs.Reading.{span, IsNext}
 use Rattle.lines.proofs.Lines.{lines-past}
+use Rattle.rules.specs.declared.FirstKc.{FirstKc}
+use Rattle.rules.specs.declared.FirstIn.{FirstIn}
+use Rattle.rules.specs.declared.Sums.{Sums}
 use Rattle.rules.specs.Terms.{Terms}
 use Rattle.rules.specs.Faults.{Fault}
 use Rattle.rules.specs.Rows.{Row, sortedAs, sorted}
@@ -35,17 +38,16 @@ use Rattle.blocks.specs.declared.Basis.{Basis}
 use Rattle.blocks.specs.declared.Block.{Block}
 use Rattle.blocks.specs.declared.Course.{Course}
 use Rattle.blocks.specs.Model.{basisOf, courseOf, blockOf}
-use Rattle.items.specs.declared.Claims.{Claims}
-use Rattle.items.specs.Claims.{noClaims}
+use Rattle.items.specs.Claims.{noSums, kcOwn}
 use Rattle.judging.specs.declared.Wait.{Wait}
 use Rattle.judging.specs.declared.opening.Open.{Open}
 use Rattle.judging.specs.declared.opening.Pend.{Pend}
-use Rattle.judging.specs.Opening.{noOpen, moreOpen, lowOpen, readAs, headingIn, ownClaims, closeClaims, pendOf, openOwn, openLoose, lowMarksAt}
+use Rattle.judging.specs.Opening.{noOpen, moreOpen, lowOpen, readAs, headingIn, spanClosed, statedClosed, closeClaims, pendOf, openOwn, openLoose, lowMarksAt}
 use Rattle.judging.specs.Closing.{closeAs, closeFaults}
 use Rattle.judging.proofs.Sets.{lineMarks}
 use Rattle.pass.specs.declared.Pass.{Pass}
 use Rattle.shutting.specs.Starts.{Stands, WaitsAt}
-use Rattle.pass.specs.Standing.{Bounded, Standing, Alike, InPlace, Fed}
+use Rattle.pass.specs.Standing.{claimsIn, Bounded, Standing, Alike, InPlace, Fed}
 use Rattle.lines.proofs.Reading.{span-long}
 use Rattle.pass.proofs.Walk.{close-few, ident-few, reads-on, own-few}
 use Rattle.pass.proofs.Standing.{afterLow, afterField, afterHead, stand-low, stand-field, stand-head}
@@ -106,7 +108,9 @@ withBlock p b = record {
   top = p .top;
   reads = p .reads;
   heading = p .heading;
-  claims = p .claims;
+  kc = p .kc;
+  span = p .span;
+  stated = p .stated;
   block = b;
   wait = p .wait;
   starts = p .starts;
@@ -234,35 +238,36 @@ module _ {s : List ℕ} {base : ℕ} {j : Basis} {ls₁ rs₁ ps₁ stood₁ : L
           tail-on false = omega (arith, F .bounded .tail-few)
 
       -- a field
-      pub feed-field : (i : ℕ) → x ≡ Field i → {cl₁ : Claims} → cl₁ ≡ closeClaims (p .claims) (p .field) (p .pend) → {a : Bool} → a ≡ ltb (p .since) (getD stood i 0)
+      pub feed-field : (i : ℕ) → x ≡ Field i → {span′ : FirstIn} → span′ ≡ spanClosed (p .span) (p .field) (p .pend)
+          → {stated′ : Sums} → stated′ ≡ statedClosed (p .stated) (p .field) (p .pend) → {a : Bool} → a ≡ ltb (p .since) (getD stood i 0)
           → {said : Reading} → said ≡ readingOf (classOf i) (textOf (span at (f .end) s))
-          → {o′ : Open} → o′ ≡ cond (eqb (p .since) 0) (openLoose (p .n + 1) own) (openOwn j (cl₁ .kc) (readAs (p .reads) (p .heading)) (p .n + 1) own a i said)
-          → {cl′ : Claims} → cl′ ≡ cond (eqb (p .since) 0) cl₁ (ownClaims cl₁ i said)
+          → {o′ : Open} → o′ ≡ cond (eqb (p .since) 0) (openLoose (p .n + 1) own) (openOwn j (p .kc) (readAs (p .reads) (p .heading)) (p .n + 1) own a i said)
+          → {kc′ : FirstKc} → kc′ ≡ cond (eqb (p .since) 0) (p .kc) (kcOwn (p .kc) i said)
           → {p′ : Pend} → p′ ≡ cond (eqb (p .since) 0) (p .pend) (pendOf (p .pend) i said)
           → {stood′ : List ℕ} → stood′ ≡ set stood i (p .n + 1)
           → {g′ : Ledger} {ls′ rs′ ps′ : List ℕ} → Entered (marked (p .field .no) (p .field .marks)) (p .ledger) ls rs g′ ls′ rs′
           → Kept (λ (off : ℕ → ℕ). off (p .field .no) ≡ p .starts .field) (p .ledger .kept) ls ps (g′ .kept) ls′ ps′ → length ps′ ≡ length ps
-          → Feeding s base j ls₁ rs₁ ps₁ stood₁ p₁ ls′ rs′ ps′ stood′ (afterField p g′ o′ p′ cl′ (base + at)) (f .next)
-      feed-field i e {cl₁} e₁ {a} ea {said} es {o′} eo′ {cl′} ec {p′} ep {stood′} et {g′} E K eps =
-          feed-on stood′ (afterField p g′ o′ p′ cl′ (base + at)) (add-one (p .n)) E (omega (arith, marked-few (p .field .no) (p .field .marks))) eps (F .bounded .calm) (rw eo′ (tail-none (eqb (p .since) 0))) (F .bounded .top-few)
-          (λ terms past ls₀ rs₀ ps₀ ej eh l A S. stand-field S l (own-of A) eh ej i (kind-of A (Field i) e) (ident-few (span at (f .end) s) ex i e) e₁ ea (es ∙ sym (A .says (classOf i))) eo′ ec ep et E K)
+          → Feeding s base j ls₁ rs₁ ps₁ stood₁ p₁ ls′ rs′ ps′ stood′ (afterField p g′ o′ p′ kc′ span′ stated′ (base + at)) (f .next)
+      feed-field i e {span′} en {stated′} et′ {a} ea {said} es {o′} eo′ {kc′} ek {p′} ep {stood′} et {g′} E K eps =
+          feed-on stood′ (afterField p g′ o′ p′ kc′ span′ stated′ (base + at)) (add-one (p .n)) E (omega (arith, marked-few (p .field .no) (p .field .marks))) eps (F .bounded .calm) (rw eo′ (tail-none (eqb (p .since) 0))) (F .bounded .top-few)
+          (λ terms past ls₀ rs₀ ps₀ ej eh l A S. stand-field S l (own-of A) eh ej i (kind-of A (Field i) e) (ident-few (span at (f .end) s) ex i e) en et′ ea (es ∙ sym (A .says (classOf i))) eo′ ek ep et E K)
         where
-          tail-none : (t : Bool) → cond t (openLoose (p .n + 1) own) (openOwn j (cl₁ .kc) (readAs (p .reads) (p .heading)) (p .n + 1) own a i said) .tail ≤ suc (p .n)
+          tail-none : (t : Bool) → cond t (openLoose (p .n + 1) own) (openOwn j (p .kc) (readAs (p .reads) (p .heading)) (p .n + 1) own a i said) .tail ≤ suc (p .n)
           tail-none true = omega arith
           tail-none false = omega arith
 
       -- a heading
       pub feed-head : x ≡ HeadingLine → {r : Read} → r ≡ headingOf (span at (f .end) s)
-          → {o′ : Open} → o′ ≡ noOpen → {h′ : Heading} → h′ ≡ headingIn r (p .heading) → {reads′ : Bool} → reads′ ≡ not (isUnreadable r) → {cl′ : Claims} → cl′ ≡ noClaims
-          → {b′ : Block} → b′ ≡ closeAs j (p .block) (p .wait) (p .since) (p .top) (readAs (p .reads) (p .heading)) (closeClaims (p .claims) (p .field) (p .pend)) .block
-          → {w′ : Wait} → w′ ≡ closeAs j (p .block) (p .wait) (p .since) (p .top) (readAs (p .reads) (p .heading)) (closeClaims (p .claims) (p .field) (p .pend)) .wait → w′ .marks < 2 ^ 41
+          → {o′ : Open} → o′ ≡ noOpen → {h′ : Heading} → h′ ≡ headingIn r (p .heading) → {reads′ : Bool} → reads′ ≡ not (isUnreadable r) → {stated′ : Sums} → stated′ ≡ noSums
+          → {b′ : Block} → b′ ≡ closeAs j (p .block) (p .wait) (p .since) (p .top) (readAs (p .reads) (p .heading)) (closeClaims (claimsIn p) (p .field) (p .pend)) .block
+          → {w′ : Wait} → w′ ≡ closeAs j (p .block) (p .wait) (p .since) (p .top) (readAs (p .reads) (p .heading)) (closeClaims (claimsIn p) (p .field) (p .pend)) .wait → w′ .marks < 2 ^ 41
           → {g′ : Ledger} {ls′ rs′ ps′ : List ℕ}
-          → Entered (marked (p .field .no) (p .field .marks) ++ closeFaults j (p .block) (p .wait) (p .since) (p .top) (readAs (p .reads) (p .heading)) (closeClaims (p .claims) (p .field) (p .pend))) (p .ledger) ls rs g′ ls′ rs′
+          → Entered (marked (p .field .no) (p .field .marks) ++ closeFaults j (p .block) (p .wait) (p .since) (p .top) (readAs (p .reads) (p .heading)) (closeClaims (claimsIn p) (p .field) (p .pend))) (p .ledger) ls rs g′ ls′ rs′
           → Kept (λ (off : ℕ → ℕ). (off (p .field .no) ≡ p .starts .field) × Stands off (p .starts) (p .since) (p .wait .line)) (p .ledger .kept) ls ps (g′ .kept) ls′ ps′
           → {k : ℕ} → WaitsAt (p .starts) (p .since) (p .wait .line) (w′ .line) k → length ps′ ≡ length ps
-          → Feeding s base j ls₁ rs₁ ps₁ stood₁ p₁ ls′ rs′ ps′ stood (afterHead p g′ o′ own reads′ h′ cl′ b′ w′ (base + at) k) (f .next)
-      feed-head e {r} er {o′} eo′ {h′} eh′ {reads′} ed {cl′} ec {b′} eb {w′} ew calm {g′} E K {k} A eps =
-          feed-on stood (afterHead p g′ o′ own reads′ h′ cl′ b′ w′ (base + at) k) (add-one (p .n)) E
-          (close-few (p .field) j (p .block) (p .wait) (p .since) (p .top) (readAs (p .reads) (p .heading)) (closeClaims (p .claims) (p .field) (p .pend))) eps calm
+          → Feeding s base j ls₁ rs₁ ps₁ stood₁ p₁ ls′ rs′ ps′ stood (afterHead p g′ o′ own reads′ h′ stated′ b′ w′ (base + at) k) (f .next)
+      feed-head e {r} er {o′} eo′ {h′} eh′ {reads′} ed {stated′} et {b′} eb {w′} ew calm {g′} E K {k} A eps =
+          feed-on stood (afterHead p g′ o′ own reads′ h′ stated′ b′ w′ (base + at) k) (add-one (p .n)) E
+          (close-few (p .field) j (p .block) (p .wait) (p .since) (p .top) (readAs (p .reads) (p .heading)) (closeClaims (claimsIn p) (p .field) (p .pend))) eps calm
           (rw eo′ (omega arith)) (rw eo (own-few (row line)))
-          (λ terms past ls₀ rs₀ ps₀ ej eh l B S. stand-head S l (own-of B) eh ej (kind-of B HeadingLine e) (er ∙ sym (B .head)) eo′ eh′ ed ec eb ew E K A)
+          (λ terms past ls₀ rs₀ ps₀ ej eh l B S. stand-head S l (own-of B) eh ej (kind-of B HeadingLine e) (er ∙ sym (B .head)) eo′ eh′ ed et eb ew E K A)

@@ -2,7 +2,7 @@
 use mathlib.Core.Path.{_≡_, refl, sym, ap, _∙_, subst}
 use mathlib.Core.Bool.{Bool, true, false, cond, not, _&&_}
 use mathlib.Core.List.{List, [], _∷_, _++_, append-nil, append-assoc}
-use Prim.Native.Nat.{ℕ, zero, suc, _+_, _-_, _≤_, _<_}
+use Prim.Native.Nat.{ℕ, suc, _+_, _-_, _<_}
 use native.Mathlib.Numerals.{add-one}
 use native.Mathlib.Omega.{arith}
 use lib.Dec.{eqb, ltb}
@@ -15,6 +15,11 @@ use Rattle.fields.specs.declared.readings.Reading.{Reading}
 use Rattle.fields.specs.Classes.{classOf}
 use Rattle.fields.specs.Readings.{textOf, readingOf}
 use Rattle.lines.specs.Lines.{Line, lines, takenBy, offsetOf}
+use Rattle.rules.specs.declared.FirstKc.{FirstKc}
+use Rattle.rules.specs.declared.FirstKc.the-variants.{NoKc}
+use Rattle.rules.specs.declared.FirstIn.{FirstIn}
+use Rattle.rules.specs.declared.FirstIn.the-variants.{NoIn}
+use Rattle.rules.specs.declared.Sums.{Sums}
 use Rattle.rules.specs.Terms.{Terms}
 use Rattle.rules.specs.Faults.{Fault, faultsIn}
 use Rattle.rules.specs.Rows.{Row, FieldRow, LowRow, Sorted, heading, field, low, sorted, rowsFrom}
@@ -33,21 +38,20 @@ use Rattle.ledger.proofs.Book.{Book, book-start, book-more, book-listed}
 use Rattle.blocks.specs.declared.Basis.{Basis}
 use Rattle.blocks.specs.declared.Block.{Block}
 use Rattle.blocks.specs.Model.{basisOf}
-use Rattle.items.specs.declared.Claims.{Claims}
-use Rattle.items.specs.Claims.{noClaims}
+use Rattle.items.specs.Claims.{Claims, claimsAs, noSums, kcOwn}
 use Rattle.items.proofs.Ideal.{start, push, out, final}
 use Rattle.items.proofs.Order.{run, emitted}
 use Rattle.items.proofs.Firsts.{no-claims-is}
 use Rattle.judging.specs.declared.Wait.{Wait}
 use Rattle.judging.specs.declared.opening.Open.{Open}
 use Rattle.judging.specs.declared.opening.Pend.{Pend}
-use Rattle.judging.specs.Opening.{noOpen, moreOpen, lowOpen, readAs, headingIn, ownClaims, closeClaims, pendOf, openOwn, openLoose, lowMarksAt}
+use Rattle.judging.specs.Opening.{noOpen, moreOpen, lowOpen, readAs, headingIn, ownClaims, spanClosed, statedClosed, closeClaims, pendOf, openOwn, openLoose, lowMarksAt}
 use Rattle.judging.specs.Closing.{lastMarks, closeAs, closeFaults}
 use Rattle.judging.proofs.Sets.{lineMarks}
 use Rattle.judging.proofs.Meaning.{Means, low-out, field-out, head-out, final-out, means-low, means-field, means-head}
 use Rattle.pass.specs.declared.Pass.{Pass}
 use Rattle.shutting.specs.Starts.{Stands, WaitsAt}
-use Rattle.pass.specs.Standing.{offIn, faultsAmong, fresh, Bounded, Placed, Standing}
+use Rattle.pass.specs.Standing.{offIn, faultsAmong, claimsIn, fresh, Bounded, Placed, Standing}
 use Rattle.pass.proofs.Walk.{reads-again, zeros, means-as, head-as}
 
 -- ---- where lines start
@@ -125,15 +129,17 @@ afterLow p g o reads = record {
   top = p .top;
   reads = reads;
   heading = p .heading;
-  claims = p .claims;
+  kc = p .kc;
+  span = p .span;
+  stated = p .stated;
   block = p .block;
   wait = p .wait;
   starts = p .starts;
   n = p .n + 1;
 }
 
-abbrev pub afterField : Pass → Ledger → Open → Pend → Claims → ℕ → Pass
-afterField p g o pend cl here = record {
+abbrev pub afterField : Pass → Ledger → Open → Pend → FirstKc → FirstIn → Sums → ℕ → Pass
+afterField p g o pend kc span stated here = record {
   ledger = g;
   field = o;
   pend = pend;
@@ -141,15 +147,17 @@ afterField p g o pend cl here = record {
   top = p .top;
   reads = p .reads;
   heading = p .heading;
-  claims = cl;
+  kc = kc;
+  span = span;
+  stated = stated;
   block = p .block;
   wait = p .wait;
   starts = record { field = here; head = p .starts .head; wait = p .starts .wait };
   n = p .n + 1;
 }
 
-abbrev pub afterHead : Pass → Ledger → Open → ℕ → Bool → Heading → Claims → Block → Wait → ℕ → ℕ → Pass
-afterHead p g o own reads h cl b w here waits = record {
+abbrev pub afterHead : Pass → Ledger → Open → ℕ → Bool → Heading → Sums → Block → Wait → ℕ → ℕ → Pass
+afterHead p g o own reads h stated b w here waits = record {
   ledger = g;
   field = o;
   pend = p .pend;
@@ -157,12 +165,19 @@ afterHead p g o own reads h cl b w here waits = record {
   top = own;
   reads = reads;
   heading = h;
-  claims = cl;
+  kc = NoKc;
+  span = NoIn;
+  stated = stated;
   block = b;
   wait = w;
   starts = record { field = 0; head = here; wait = waits };
   n = p .n + 1;
 }
+
+-- the first KC is kept apart
+parted : (t : Bool) (a b : FirstKc) (span : FirstIn) (stated : Sums) → claimsAs (cond t a b) span stated ≡ cond t (claimsAs a span stated) (claimsAs b span stated)
+parted true a b span stated = refl
+parted false a b span stated = refl
 
 same-no : (t : Bool) (o : Open) (k : ℕ) → cond t (moreOpen o k) o .no ≡ o .no
 same-no true o k = refl
@@ -179,7 +194,7 @@ module _ {terms : Terms} {past : List Line} {ls₀ rs₀ ps₀ ls rs ps stood : 
 
     stand-on : (z : Sorted) → sorted row ≡ z → (xs : List Fault) → putAll put (out terms (W .pieces) z) (W .all) ≡ insertAll xs (W .all)
         → (p′ : Pass) → p′ .n ≡ suc (p .n) → {stood′ : List ℕ}
-        → Means terms (push (W .pieces) z) (suc (p .n)) (p′ .field) (p′ .since) (p′ .top) (readAs (p′ .reads) (p′ .heading)) (p′ .claims) (p′ .pend) (p′ .block) (p′ .wait) stood′
+        → Means terms (push (W .pieces) z) (suc (p .n)) (p′ .field) (p′ .since) (p′ .top) (readAs (p′ .reads) (p′ .heading)) (claimsIn p′) (p′ .pend) (p′ .block) (p′ .wait) stood′
         → {ls′ rs′ ps′ : List ℕ} → Entered xs (p .ledger) ls rs (p′ .ledger) ls′ rs′
         → ((off : ℕ → ℕ) → off (suc (p .n)) ≡ takenBy past → Placed off ps₀ ls ps p → Placed off ps₀ ls′ ps′ p′)
         → Standing terms (past ++ (l ∷ [])) ls₀ rs₀ ps₀ ls′ rs′ ps′ stood′ p′
@@ -188,7 +203,7 @@ module _ {terms : Terms} {past : List Line} {ls₀ rs₀ ps₀ ls rs ps stood : 
       pieces = push (W .pieces) z;
       all = insertAll xs (W .all);
       counts = omega (arith, en, W .counts, length-append past (l ∷ []));
-      means = subst (λ (k : ℕ). Means terms (push (W .pieces) z) k (p′ .field) (p′ .since) (p′ .top) (readAs (p′ .reads) (p′ .heading)) (p′ .claims) (p′ .pend) (p′ .block) (p′ .wait) stood′) (sym en) M;
+      means = subst (λ (k : ℕ). Means terms (push (W .pieces) z) k (p′ .field) (p′ .since) (p′ .top) (readAs (p′ .reads) (p′ .heading)) (claimsIn p′) (p′ .pend) (p′ .block) (p′ .wait) stood′) (sym en) M;
       book = book-more (W .book) E;
       level = W .level;
       placed = λ later. subst (λ (q : List Line). Placed (offIn q) ps₀ ls′ ps′ p′) (sym (append-assoc past (l ∷ []) later))
@@ -215,11 +230,11 @@ module _ {terms : Terms} {past : List Line} {ls₀ rs₀ ps₀ ls rs ps stood : 
       stand-low t ez {m} em {o′} eo′ {reads′} er {g′} E K =
           let y : LowRow = record { row = row; continues = t } in
           stand-on (low y) ez (marked (p .n + 1) m)
-          (low-out terms (W .pieces) (p .n) (p .field) (p .since) (p .top) read (p .claims) (p .pend) (p .block) (p .wait) stood (W .means) y (W .all)
+          (low-out terms (W .pieces) (p .n) (p .field) (p .since) (p .top) read (claimsIn p) (p .pend) (p .block) (p .wait) stood (W .means) y (W .all)
           ∙ (λ i. insertAll (marked (sym (add-one (p .n)) i) (lowMarksAt (sym eo i) (p .since) (p .field .no) t)) (W .all))
           ∙ ap (λ (k : ℕ). insertAll (marked (p .n + 1) k) (W .all)) (sym em))
           (afterLow p g′ o′ reads′) (add-one (p .n))
-          (rw (eo′, er) (means-low terms (W .pieces) (p .n) (p .field) (p .since) (p .top) read (p .claims) (p .pend) (p .block) (p .wait) stood (W .means) y)) E
+          (rw (eo′, er) (means-low terms (W .pieces) (p .n) (p .field) (p .since) (p .top) read (claimsIn p) (p .pend) (p .block) (p .wait) stood (W .means) y)) E
           (λ off e P. record {
             at-field = ap (λ (o : Open). off (o .no)) eo′ ∙ ap off (same-no (t && not (eqb (p .field .no) 0)) (p .field) (length (l .bytes))) ∙ P .at-field;
             stands = P .stands;
@@ -228,27 +243,29 @@ module _ {terms : Terms} {past : List Line} {ls₀ rs₀ ps₀ ls rs ps stood : 
 
       module _ {j : Basis} (ej : j ≡ basisOf terms) where
         -- a field
-        pub stand-field : (i : ℕ) → sorted row ≡ field (record { row = row; ident = i }) → i < 1296 → {cl₁ : Claims} → cl₁ ≡ closeClaims (p .claims) (p .field) (p .pend)
+        pub stand-field : (i : ℕ) → sorted row ≡ field (record { row = row; ident = i }) → i < 1296 → {span′ : FirstIn} → span′ ≡ spanClosed (p .span) (p .field) (p .pend)
+            → {stated′ : Sums} → stated′ ≡ statedClosed (p .stated) (p .field) (p .pend)
             → {a : Bool} → a ≡ ltb (p .since) (getD stood i 0)
             → {said : Reading} → said ≡ readingOf (classOf i) (textOf (l .bytes))
-            → {o′ : Open} → o′ ≡ cond (eqb (p .since) 0) (openLoose (p .n + 1) own) (openOwn j (cl₁ .kc) read (p .n + 1) own a i said)
-            → {cl′ : Claims} → cl′ ≡ cond (eqb (p .since) 0) cl₁ (ownClaims cl₁ i said)
+            → {o′ : Open} → o′ ≡ cond (eqb (p .since) 0) (openLoose (p .n + 1) own) (openOwn j (p .kc) read (p .n + 1) own a i said)
+            → {kc′ : FirstKc} → kc′ ≡ cond (eqb (p .since) 0) (p .kc) (kcOwn (p .kc) i said)
             → {p′ : Pend} → p′ ≡ cond (eqb (p .since) 0) (p .pend) (pendOf (p .pend) i said)
             → {stood′ : List ℕ} → stood′ ≡ set stood i (p .n + 1)
             → {g′ : Ledger} {ls′ rs′ ps′ : List ℕ} → Entered (marked (p .field .no) (p .field .marks)) (p .ledger) ls rs g′ ls′ rs′
             → Kept (λ (off : ℕ → ℕ). off (p .field .no) ≡ p .starts .field) (p .ledger .kept) ls ps (g′ .kept) ls′ ps′
-            → Standing terms (past ++ (l ∷ [])) ls₀ rs₀ ps₀ ls′ rs′ ps′ stood′ (afterField p g′ o′ p′ cl′ here)
-        stand-field i ez few {cl₁} e₁ {a} ea {said} es {o′} eo′ {cl′} ec {p′} ep {stood′} et {g′} E K =
+            → Standing terms (past ++ (l ∷ [])) ls₀ rs₀ ps₀ ls′ rs′ ps′ stood′ (afterField p g′ o′ p′ kc′ span′ stated′ here)
+        stand-field i ez few {span′} en {stated′} et′ {a} ea {said} es {o′} eo′ {kc′} ek {p′} ep {stood′} et {g′} E K =
             let y : FieldRow = record { row = row; ident = i } in
+            let closes : Claims = closeClaims (claimsIn p) (p .field) (p .pend) in
             stand-on (field y) ez (marked (p .field .no) (p .field .marks))
-            (field-out terms (W .pieces) (p .n) (p .field) (p .since) (p .top) read (p .claims) (p .pend) (p .block) (p .wait) stood (W .means) y (W .all))
-            (afterField p g′ o′ p′ cl′ here) (add-one (p .n))
+            (field-out terms (W .pieces) (p .n) (p .field) (p .since) (p .top) read (claimsIn p) (p .pend) (p .block) (p .wait) stood (W .means) y (W .all))
+            (afterField p g′ o′ p′ kc′ span′ stated′ here) (add-one (p .n))
             (means-as
-            (eo′ ∙ (λ q. cond (eqb (p .since) 0) (openLoose (add-one (p .n) q) (eo q)) (openOwn (ej q) (e₁ q .kc) read (add-one (p .n) q) (eo q) (ea q) i (es q))))
-            (ec ∙ (λ q. cond (eqb (p .since) 0) (e₁ q) (ownClaims (e₁ q) i (es q))))
+            (eo′ ∙ (λ q. cond (eqb (p .since) 0) (openLoose (add-one (p .n) q) (eo q)) (openOwn (ej q) (p .kc) read (add-one (p .n) q) (eo q) (ea q) i (es q))))
+            ((λ q. claimsAs (ek q) (en q) (et′ q)) ∙ parted (eqb (p .since) 0) (p .kc) (kcOwn (p .kc) i said) _ _ ∙ (λ q. cond (eqb (p .since) 0) closes (ownClaims closes i (es q))))
             (ep ∙ (λ q. cond (eqb (p .since) 0) (p .pend) (pendOf (p .pend) i (es q))))
             (et ∙ ap (set stood i) (add-one (p .n)))
-            (means-field terms (W .pieces) (p .n) (p .field) (p .since) (p .top) read (p .claims) (p .pend) (p .block) (p .wait) stood (W .means) y refl few)) E
+            (means-field terms (W .pieces) (p .n) (p .field) (p .since) (p .top) read (claimsIn p) (p .pend) (p .block) (p .wait) stood (W .means) y refl few)) E
             (λ off e P. record {
               at-field = ap (λ (o : Open). off (o .no)) eo′ ∙ field-here off e (eqb (p .since) 0);
               stands = record { none = P .stands .none; at-head = P .stands .at-head; at-wait = P .stands .at-wait };
@@ -256,30 +273,30 @@ module _ {terms : Terms} {past : List Line} {ls₀ rs₀ ps₀ ls rs ps stood : 
             })
           where
             field-here : (off : ℕ → ℕ) → off (suc (p .n)) ≡ takenBy past → (t : Bool)
-                → off (cond t (openLoose (p .n + 1) own) (openOwn j (cl₁ .kc) read (p .n + 1) own a i said) .no) ≡ here
+                → off (cond t (openLoose (p .n + 1) own) (openOwn j (p .kc) read (p .n + 1) own a i said) .no) ≡ here
             field-here off e true = on-here off e
             field-here off e false = on-here off e
 
         -- a heading
         pub stand-head : sorted row ≡ heading row → {r : Read} → r ≡ headingOf (l .bytes)
-            → {o′ : Open} → o′ ≡ noOpen → {h′ : Heading} → h′ ≡ headingIn r (p .heading) → {reads′ : Bool} → reads′ ≡ not (isUnreadable r) → {cl′ : Claims} → cl′ ≡ noClaims
-            → {b′ : Block} → b′ ≡ closeAs j (p .block) (p .wait) (p .since) (p .top) read (closeClaims (p .claims) (p .field) (p .pend)) .block
-            → {w′ : Wait} → w′ ≡ closeAs j (p .block) (p .wait) (p .since) (p .top) read (closeClaims (p .claims) (p .field) (p .pend)) .wait
+            → {o′ : Open} → o′ ≡ noOpen → {h′ : Heading} → h′ ≡ headingIn r (p .heading) → {reads′ : Bool} → reads′ ≡ not (isUnreadable r) → {stated′ : Sums} → stated′ ≡ noSums
+            → {b′ : Block} → b′ ≡ closeAs j (p .block) (p .wait) (p .since) (p .top) read (closeClaims (claimsIn p) (p .field) (p .pend)) .block
+            → {w′ : Wait} → w′ ≡ closeAs j (p .block) (p .wait) (p .since) (p .top) read (closeClaims (claimsIn p) (p .field) (p .pend)) .wait
             → {g′ : Ledger} {ls′ rs′ ps′ : List ℕ}
-            → Entered (marked (p .field .no) (p .field .marks) ++ closeFaults j (p .block) (p .wait) (p .since) (p .top) read (closeClaims (p .claims) (p .field) (p .pend))) (p .ledger) ls rs g′ ls′ rs′
+            → Entered (marked (p .field .no) (p .field .marks) ++ closeFaults j (p .block) (p .wait) (p .since) (p .top) read (closeClaims (claimsIn p) (p .field) (p .pend))) (p .ledger) ls rs g′ ls′ rs′
             → Kept (λ (off : ℕ → ℕ). (off (p .field .no) ≡ p .starts .field) × Stands off (p .starts) (p .since) (p .wait .line)) (p .ledger .kept) ls ps (g′ .kept) ls′ ps′
             → {k : ℕ} → WaitsAt (p .starts) (p .since) (p .wait .line) (w′ .line) k
-            → Standing terms (past ++ (l ∷ [])) ls₀ rs₀ ps₀ ls′ rs′ ps′ stood (afterHead p g′ o′ own reads′ h′ cl′ b′ w′ here k)
-        stand-head ez {r} er {o′} eo′ {h′} eh′ {reads′} ed {cl′} ec {b′} eb {w′} ew {g′} E K {k} A =
-            let c : Claims = closeClaims (p .claims) (p .field) (p .pend) in
+            → Standing terms (past ++ (l ∷ [])) ls₀ rs₀ ps₀ ls′ rs′ ps′ stood (afterHead p g′ o′ own reads′ h′ stated′ b′ w′ here k)
+        stand-head ez {r} er {o′} eo′ {h′} eh′ {reads′} ed {stated′} et {b′} eb {w′} ew {g′} E K {k} A =
+            let c : Claims = closeClaims (claimsIn p) (p .field) (p .pend) in
             stand-on (heading row) ez (marked (p .field .no) (p .field .marks) ++ closeFaults j (p .block) (p .wait) (p .since) (p .top) read c)
-            (head-out terms (W .pieces) (p .n) (p .field) (p .since) (p .top) read (p .claims) (p .pend) (p .block) (p .wait) stood (W .means) row (W .all)
+            (head-out terms (W .pieces) (p .n) (p .field) (p .since) (p .top) read (claimsIn p) (p .pend) (p .block) (p .wait) stood (W .means) row (W .all)
             ∙ sym (λ i. insertAll (marked (p .field .no) (p .field .marks) ++ closeFaults (ej i) (p .block) (p .wait) (p .since) (p .top) read c) (W .all)))
-            (afterHead p g′ o′ own reads′ h′ cl′ b′ w′ here k) (add-one (p .n))
-            (head-as eo′ (add-one (p .n)) eo ((λ i. readAs (ed i) (eh′ i)) ∙ reads-again r (p .heading) ∙ er) ec
+            (afterHead p g′ o′ own reads′ h′ stated′ b′ w′ here k) (add-one (p .n))
+            (head-as eo′ (add-one (p .n)) eo ((λ i. readAs (ed i) (eh′ i)) ∙ reads-again r (p .heading) ∙ er) (ap (claimsAs NoKc NoIn) et)
             (eb ∙ (λ i. closeAs (ej i) (p .block) (p .wait) (p .since) (p .top) read c .block))
             (ew ∙ (λ i. closeAs (ej i) (p .block) (p .wait) (p .since) (p .top) read c .wait))
-            (means-head terms (W .pieces) (p .n) (p .field) (p .since) (p .top) read (p .claims) (p .pend) (p .block) (p .wait) stood (W .means) row refl)) E
+            (means-head terms (W .pieces) (p .n) (p .field) (p .since) (p .top) read (claimsIn p) (p .pend) (p .block) (p .wait) stood (W .means) row refl)) E
             (λ off e P. record {
               at-field = ap (λ (o : Open). off (o .no)) eo′ ∙ P .stands .none;
               stands = record { none = P .stands .none; at-head = on-here off e; at-wait = A off (P .stands) };
@@ -288,13 +305,13 @@ module _ {terms : Terms} {past : List Line} {ls₀ rs₀ ps₀ ls rs ps stood : 
 
   -- the file ends
   pub stand-end : {j : Basis} → j ≡ basisOf terms → {g′ : Ledger} {ls′ rs′ ps′ : List ℕ}
-      → let q = closeAs j (p .block) (p .wait) (p .since) (p .top) read (closeClaims (p .claims) (p .field) (p .pend)) in
-      Entered ((marked (p .field .no) (p .field .marks) ++ closeFaults j (p .block) (p .wait) (p .since) (p .top) read (closeClaims (p .claims) (p .field) (p .pend))) ++ marked (q .wait .line) (lastMarks (q .block .any) (q .wait))) (p .ledger) ls rs g′ ls′ rs′
+      → let q = closeAs j (p .block) (p .wait) (p .since) (p .top) read (closeClaims (claimsIn p) (p .field) (p .pend)) in
+      Entered ((marked (p .field .no) (p .field .marks) ++ closeFaults j (p .block) (p .wait) (p .since) (p .top) read (closeClaims (claimsIn p) (p .field) (p .pend))) ++ marked (q .wait .line) (lastMarks (q .block .any) (q .wait))) (p .ledger) ls rs g′ ls′ rs′
       → Kept (λ (off : ℕ → ℕ). (off (p .field .no) ≡ p .starts .field) × Stands off (p .starts) (p .since) (p .wait .line)) (p .ledger .kept) ls ps (g′ .kept) ls′ ps′
       → Listed (offIn past) (faultsAmong terms past) ls₀ rs₀ ps₀ g′ ls′ rs′ ps′
   unfolding rowsFrom
   stand-end {j} ej {g′} {ls′} {rs′} {ps′} E K =
-      let c : Claims = closeClaims (p .claims) (p .field) (p .pend) in
+      let c : Claims = closeClaims (claimsIn p) (p .field) (p .pend) in
       let xs : Basis → List Fault = λ k. marked (p .field .no) (p .field .marks) ++ closeFaults k (p .block) (p .wait) (p .since) (p .top) read c in
       let ys : Basis → List Fault = λ k. marked (closeAs k (p .block) (p .wait) (p .since) (p .top) read c .wait .line) (lastMarks (closeAs k (p .block) (p .wait) (p .since) (p .top) read c .block .any) (closeAs k (p .block) (p .wait) (p .since) (p .top) read c .wait)) in
       let whole : run terms put start [] (rowsFrom 1 past) ≡ faultsAmong terms past =
@@ -302,7 +319,7 @@ module _ {terms : Terms} {past : List Line} {ls₀ rs₀ ps₀ ls rs ps stood : 
       let done : putAll put (final terms (W .pieces)) (W .all) ≡ faultsAmong terms past =
       W .rest [] ∙ ap (λ (q : List Line). run terms put start [] (rowsFrom 1 q)) (append-nil past) ∙ whole in
       let ends : putAll put (final terms (W .pieces)) (W .all) ≡ insertAll (xs j ++ ys j) (W .all) =
-      final-out terms (W .pieces) (p .n) (p .field) (p .since) (p .top) read (p .claims) (p .pend) (p .block) (p .wait) stood (W .means) (W .all)
+      final-out terms (W .pieces) (p .n) (p .field) (p .since) (p .top) read (claimsIn p) (p .pend) (p .block) (p .wait) stood (W .means) (W .all)
       ∙ sym (λ i. insertAll (ys (ej i)) (insertAll (xs (ej i)) (W .all)))
       ∙ sym (insertAll-append (xs j) (ys j) (W .all)) in
       let P : Placed (offIn past) ps₀ ls ps p = subst (λ (q : List Line). Placed (offIn q) ps₀ ls ps p) (append-nil past) (W .placed []) in

@@ -2,11 +2,11 @@
 use mathlib.Core.Path.{_≡_, refl, sym, ap, _∙_}
 use mathlib.Core.Bool.{Bool, true, false, cond, not, _&&_, true≢false}
 use mathlib.Core.List.{List, _++_}
-use Prim.Native.Nat.{ℕ, zero, suc, _+_, _-_, _≤_, _<_}
+use Prim.Native.Nat.{ℕ, zero, suc, _+_, _≤_, _<_}
 use native.Mathlib.Omega.{arith}
 use lib.Dec.{eqb, leb}
 use lib.ListN.{length, getD, replicate, length-append}
-use borrow.Author.Tests.{le-leb, lt-leb, eq-eqb, ne-eqb}
+use borrow.Author.Tests.{eq-eqb, ne-eqb}
 use Rattle.laws.specs.Tests.{mark}
 use Rattle.laws.specs.Lists.{anyOf}
 use Rattle.laws.proofs.Any.{or-right}
@@ -20,11 +20,11 @@ use Rattle.fields.specs.declared.kinds.Kind.the-variants.{Field}
 use Rattle.fields.specs.declared.readings.Reading.{Reading}
 use Rattle.fields.specs.Kinds.{place, kindOf}
 use Rattle.fields.specs.Codes.{codeOf, claims}
-use Rattle.fields.specs.Codes.{codeOf}
-use Rattle.fields.specs.Readings.{ifFits}
 use Rattle.fields.proofs.LineKinds.{field-is}
 use Rattle.lines.specs.declared.Found.{Found}
 use Rattle.lines.specs.Reading.{span, IsNext}
+use Rattle.rules.specs.declared.FirstKc.{FirstKc}
+use Rattle.rules.specs.declared.FirstIn.{FirstIn}
 use Rattle.rules.specs.declared.Sums.{Sums}
 use Rattle.rules.specs.Terms.{Terms}
 use Rattle.rules.specs.Rows.{Row}
@@ -37,13 +37,12 @@ use Rattle.blocks.specs.declared.Block.{Block}
 use Rattle.blocks.specs.declared.Course.{Course}
 use Rattle.blocks.specs.Model.{courseOf, blockOf, groupMarks}
 use Rattle.account.specs.Model.{groupsOn}
-use Rattle.items.specs.declared.Claims.{Claims}
-use Rattle.items.specs.Claims.{claimsWith}
+use Rattle.items.specs.Claims.{Claims, kcOwn}
 use Rattle.items.proofs.Ideal.{Pieces}
 use Rattle.judging.specs.declared.Wait.{Wait}
 use Rattle.judging.specs.declared.opening.Open.{Open}
 use Rattle.judging.specs.declared.opening.Pend.{Pend}
-use Rattle.judging.specs.Opening.{lineMarksOf, fitsBy, readAs, headingIn, ownClaims, closeClaims, pendOf}
+use Rattle.judging.specs.Opening.{lineMarksOf, readAs, headingIn, spanClosed, statedClosed, pendOf}
 use Rattle.judging.specs.Closing.{Ended, closeAs, closeFaults, closeBy, byFaults, countsBy, sumsBy}
 use Rattle.judging.proofs.Cases.{not-kc}
 use Rattle.judging.proofs.ByParts.{whole, close-parts}
@@ -70,28 +69,28 @@ own-at {s} {at} {f} N {bad} {own} n eb eo =
     let bytes : List ℕ = span at (f .end) s in
     eo ∙ (λ i. lineMarksOf (eb i) (f .ended)) ∙ (λ i. lineMarksOf (N .tells i && anyOf isInadmissible bytes) (f .ended)) ∙ (λ i. lineMarksOf (odd-asked bytes i) (f .ended))
 
--- the field that closes claims, or claims nothing
-pub claims-closed : (o : Open) (p : Pend) (c : Claims) → 5 ≤ o .class → claimsWith c (p .ident) (ifFits (fitsBy (o .marks)) (p .said)) ≡ closeClaims c o p
-claims-closed o p c e = rw (le-leb 5 (o .class) e)
-
-pub claims-kept : (o : Open) (p : Pend) (c : Claims) → o .class < 5 → c ≡ closeClaims c o p
-claims-kept o p c e = rw (lt-leb 5 (o .class) e)
+-- a field that closes and claims nothing
+pub claims-kept : (o : Open) (p : Pend) (span : FirstIn) (stated : Sums) → o .class < 5 → (span ≡ spanClosed span o p) × (stated ≡ statedClosed stated o p)
+claims-kept o p span stated e =
+    let five : eqb (o .class) 5 ≡ false = ne-eqb (o .class) 5 (λ q. omega arith) in
+    let six : eqb (o .class) 6 ≡ false = ne-eqb (o .class) 6 (λ q. omega arith) in
+    (rw five, rw six)
 
 -- the field that opens stands above every heading, or claims or is kept, or neither
-module _ (since i : ℕ) (said : Reading) (c : Claims) (p : Pend) where
-  pub own-above : since ≡ 0 → (c ≡ cond (eqb since 0) c (ownClaims c i said)) × (p ≡ cond (eqb since 0) p (pendOf p i said))
+module _ (since i : ℕ) (said : Reading) (kc : FirstKc) (p : Pend) where
+  pub own-above : since ≡ 0 → (kc ≡ cond (eqb since 0) kc (kcOwn kc i said)) × (p ≡ cond (eqb since 0) p (pendOf p i said))
   own-above e = (rw (eq-eqb since 0 e), rw (eq-eqb since 0 e))
 
-  pub own-inside : (since ≡ 0 → ⊥) → {x : Claims} → x ≡ ownClaims c i said → {y : Pend} → y ≡ pendOf p i said
-      → (x ≡ cond (eqb since 0) c (ownClaims c i said)) × (y ≡ cond (eqb since 0) p (pendOf p i said))
+  pub own-inside : (since ≡ 0 → ⊥) → {x : FirstKc} → x ≡ kcOwn kc i said → {y : Pend} → y ≡ pendOf p i said
+      → (x ≡ cond (eqb since 0) kc (kcOwn kc i said)) × (y ≡ cond (eqb since 0) p (pendOf p i said))
   own-inside e ex ey = (rw (ne-eqb since 0 e) ex, rw (ne-eqb since 0 e) ey)
 
-  pub own-plain : {k : ℕ} → k ≡ codeOf i → claims k ≡ false → (c ≡ cond (eqb since 0) c (ownClaims c i said)) × (p ≡ cond (eqb since 0) p (pendOf p i said))
+  pub own-plain : {k : ℕ} → k ≡ codeOf i → claims k ≡ false → (kc ≡ cond (eqb since 0) kc (kcOwn kc i said)) × (p ≡ cond (eqb since 0) p (pendOf p i said))
   unfolding place
   own-plain {k} ek e =
-      let kc : eqb i 732 ≡ false = not-kc i (ap claims (sym ek) ∙ e) in
+      let none : eqb i 732 ≡ false = not-kc i (ap claims (sym ek) ∙ e) in
       let low : leb 5 (codeOf i) ≡ false = ap (λ (n : ℕ). leb 5 n) (sym ek) ∙ or-right (eqb k 1) (leb 5 k) e in
-      (rw kc (same (eqb since 0) c), rw low (same (eqb since 0) p))
+      (rw none (same (eqb since 0) kc), rw low (same (eqb since 0) p))
     where
       same : {A : Type 0} (b : Bool) (x : A) → x ≡ cond b x x
       same true x = refl

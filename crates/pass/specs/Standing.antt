@@ -12,6 +12,8 @@ use Rattle.fields.specs.declared.classes.Class.{Class}
 use Rattle.fields.specs.Kinds.{kindOf}
 use Rattle.fields.specs.Readings.{textOf, readingOf}
 use Rattle.lines.specs.Lines.{Line, lines, taken, takenBy}
+use Rattle.rules.specs.declared.FirstKc.the-variants.{NoKc}
+use Rattle.rules.specs.declared.FirstIn.the-variants.{NoIn}
 use Rattle.rules.specs.Terms.{Terms}
 use Rattle.rules.specs.Rows.{rowsFrom}
 use Rattle.rules.specs.Tree.{tree}
@@ -24,7 +26,7 @@ use Rattle.ledger.proofs.Book.{Book}
 use Rattle.blocks.specs.declared.Basis.{Basis}
 use Rattle.blocks.specs.Model.{basisOf}
 use Rattle.account.specs.Summary.{summary}
-use Rattle.items.specs.Claims.{noClaims}
+use Rattle.items.specs.Claims.{Claims, claimsAs, noSums}
 use Rattle.items.proofs.Ideal.{start, Pieces}
 use Rattle.items.proofs.Order.{run}
 use Rattle.judging.specs.declared.opening.Open.{Open}
@@ -41,6 +43,10 @@ offIn ls n = takenBy (take (n - 1) ls)
 abbrev pub faultsAmong : Terms → List Line → List Fault
 faultsAmong terms ls = faultsOf (spots terms (tree (rowsFrom 1 ls)))
 
+-- what the open item's fields claim
+abbrev pub claimsIn : Pass → Claims
+claimsIn p = claimsAs (p .kc) (p .span) (p .stated)
+
 -- before the first line
 abbrev pub fresh : Heading → Pass
 fresh h = record {
@@ -51,7 +57,9 @@ fresh h = record {
   top = 0;
   reads = false;
   heading = h;
-  claims = noClaims;
+  kc = NoKc;
+  span = NoIn;
+  stated = noSums;
   block = summary [];
   wait = noWait;
   starts = record { field = 0; head = 0; wait = 0 };
@@ -84,7 +92,7 @@ pub record Standing (terms : Terms) (past : List Line) (ls₀ rs₀ ps₀ ls rs 
   pub pieces : Pieces
   pub all : List Fault
   pub counts : p .n ≡ length past
-  pub means : Means terms pieces (p .n) (p .field) (p .since) (p .top) (readAs (p .reads) (p .heading)) (p .claims) (p .pend) (p .block) (p .wait) stood
+  pub means : Means terms pieces (p .n) (p .field) (p .since) (p .top) (readAs (p .reads) (p .heading)) (claimsIn p) (p .pend) (p .block) (p .wait) stood
   pub book : Book all ls₀ rs₀ (p .ledger) ls rs
   pub level : length ls₀ ≡ length ps₀
   pub placed : (later : List Line) → Placed (offIn (past ++ later)) ps₀ ls ps p

@@ -14,8 +14,6 @@ use fields::readings;
 use headings::Code;
 use headings::Heading;
 use headings::ItemNo;
-use headings::Read;
-use items::Claims;
 use items::claiming;
 use judging::Wait;
 use judging::closing;
@@ -24,23 +22,21 @@ use judging::opening;
 use judging::opening::Open;
 use judging::opening::Pend;
 use ledger::Ledger;
+use rules::FirstIn;
+use rules::FirstKc;
+use rules::Sums;
 use shutting::Starts;
 use shutting::again;
 use shutting::count_item;
 use shutting::shut_all;
 use shutting::unseen;
 ghost use mathlib.Core.Path.{_≡_};
-ghost use mathlib.Core.List.{_++_};
-ghost use Prim.Native.Nat.{_+_, _≤_, _<_, _^_};
-ghost use lib.Dec.{ltb};
-ghost use lib.ListN.{length, getD, set, replicate};
+ghost use Prim.Native.Nat.{_+_, _≤_};
+ghost use lib.ListN.{length};
 ghost use Rattle.lines.specs.Lines.{offsetOf};
 ghost use Rattle.rules.specs.Terms.{input};
 ghost use Rattle.rules.specs.Faults.{faultsIn};
-ghost use Rattle.ledger.specs.Slices.{Ready, Entered, Kept, Listed};
-ghost use Rattle.ledger.specs.Marks.{marked};
-ghost use Rattle.judging.specs.Closing.{closeAs, closeFaults};
-ghost use Rattle.judging.specs.Opening.{readAs, closeClaims};
+ghost use Rattle.ledger.specs.Slices.{Listed};
 ghost use Rattle.pass.specs.Standing.{fresh, Bounded, Fed, Finished};
 
 // No heading yet.
@@ -57,8 +53,8 @@ fn no_heading() -> Heading {
 }
 
 // All that the pass knows between two lines, but for what stands in the lent slices and in the array of identifiers: the list, the open
-// field and what it will claim, the line and the marks of the open heading, whether it reads and as what, its item's claims, the
-// account, the heading that waits, where these lines start, and how many lines there were.
+// field and what it will claim, the line and the marks of the open heading, whether it reads and as what, its item's first KC, first IN
+// and first S0 to S9, the account, the heading that waits, where these lines start, and how many lines there were.
 pub struct Pass {
     pub ledger: Ledger,
     pub field: Open,
@@ -67,7 +63,9 @@ pub struct Pass {
     pub top: u64,
     pub reads: bool,
     pub heading: Heading,
-    pub claims: Claims,
+    pub kc: FirstKc,
+    pub span: FirstIn,
+    pub stated: Sums,
     pub block: Block,
     pub wait: Wait,
     pub starts: Starts,
@@ -82,7 +80,7 @@ pub fn start() -> Pass
     let field = opening::none_open();
     let pend = opening::no_pend();
     let heading = no_heading();
-    let claims = claiming::no_claims();
+    let stated = claiming::no_sums();
     let block = account::start();
     let wait = closing::no_wait();
     let starts = Starts {
@@ -98,7 +96,9 @@ pub fn start() -> Pass
         top: 0,
         reads: false,
         heading,
-        claims,
+        kc: FirstKc::NoKc,
+        span: FirstIn::NoIn,
+        stated,
         block,
         wait,
         starts,
@@ -107,8 +107,8 @@ pub fn start() -> Pass
 }
 
 // Judges the lines of a text after all that came before it; the text begins at the offset `base` of the file. What is kept stands in
-// locals over the loop: handed on whole at each line it is slower. So is an item that closes with all its claims and the account's groups by
-// value: the groups are lent, and what it states of them is asked at a 51 alone.
+// locals over the loop: handed on whole at each line it is slower. So is an item that closes with the groups by value: those of the account are
+// lent, and what it states of them is asked at a 51 alone. A KC line touches the first KC and nothing else of the item's claims.
 pub fn feed(
     s: &[u8],
     base: u32,
@@ -134,7 +134,9 @@ pub fn feed(
     let mut top = p.top;
     let mut reads = p.reads;
     let mut h = p.heading;
-    let mut claims = p.claims;
+    let mut kc = p.kc;
+    let mut span = p.span;
+    let mut stated = p.stated;
     let whole = p.block;
     let mut course = account::course_of(whole);
     let mut counts = whole.counts;
@@ -156,14 +158,13 @@ pub fn feed(
         match x {
             Kind::Heading => {
                 if 5 <= open.class {
-                    claims = opening::claim_closed(claims, open, pend);
+                    span = opening::span_closed(span, open, pend);
+                    stated = opening::stated_closed(stated, open, pend);
                 }
                 let mut groups: u64 = 0;
                 if reads & (h.kind == 51) {
-                    groups = closing::group_marks_of(counts, sums, claims);
+                    groups = closing::group_marks_of(counts, sums, stated);
                 }
-                let kc = claims.kc;
-                let span = claims.span;
                 let t = shut_all(
                     lines,
                     rules,
@@ -191,7 +192,9 @@ pub fn feed(
                     head: here,
                     wait: t.start,
                 };
-                claims = claiming::no_claims();
+                kc = FirstKc::NoKc;
+                span = FirstIn::NoIn;
+                stated = claiming::no_sums();
                 open = opening::none_open();
                 let read = headings::reading::read(&s[from..end]);
                 h = opening::heading_in(read, h);
@@ -216,13 +219,13 @@ pub fn feed(
                 g = ledger::enter(lines, rules, offsets, g, open.no, starts.field, open.marks);
                 starts.field = here;
                 if 5 <= open.class {
-                    claims = opening::claim_closed(claims, open, pend);
+                    span = opening::span_closed(span, open, pend);
+                    stated = opening::stated_closed(stated, open, pend);
                 }
                 let stands = again(stood, ident, n, since);
                 let class = codes[ident];
                 if (class == 1) | (5 <= class) {
                     let said = readings::read_claim(class, &s[from..end]);
-                    let kc = claims.kc;
                     open = opening::field_open(
                         basis,
                         kc,
@@ -237,7 +240,7 @@ pub fn feed(
                         said,
                     );
                     if since != 0 {
-                        claims = opening::claim_own(claims, ident, said);
+                        kc = claiming::kc_own(kc, ident, said);
                         pend = opening::keep_own(pend, class, ident, said);
                     }
                 } else {
@@ -266,7 +269,9 @@ pub fn feed(
         top,
         reads,
         heading: h,
-        claims,
+        kc,
+        span,
+        stated,
         block,
         wait,
         starts,
@@ -290,19 +295,20 @@ pub fn finish(
     let open = p.field;
     let pend = p.pend;
     let h = p.heading;
-    let before = p.claims;
+    let kc = p.kc;
+    let first = p.span;
+    let before = p.stated;
     let whole = p.block;
     let course = account::course_of(whole);
     let counts = whole.counts;
     let sums = whole.sums;
     let wait = p.wait;
-    let claims = opening::claims_after(before, open, pend);
+    let span = opening::span_closed(first, open, pend);
+    let stated = opening::stated_closed(before, open, pend);
     let mut groups: u64 = 0;
     if p.reads & (h.kind == 51) {
-        groups = closing::group_marks_of(counts, sums, claims);
+        groups = closing::group_marks_of(counts, sums, stated);
     }
-    let kc = claims.kc;
-    let span = claims.span;
     let t = shut_all(
         lines,
         rules,

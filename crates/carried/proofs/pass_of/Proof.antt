@@ -27,8 +27,14 @@ pend-in-requires c κs = search needs
 heading-in-requires : tie.Need-heading-in-requires
 heading-in-requires c κs = search needs
 
-claims-in-requires : tie.Need-claims-in-requires
-claims-in-requires c κs = search needs
+kc-in-requires : tie.Need-kc-in-requires
+kc-in-requires c κs = search needs
+
+span-in-requires : tie.Need-span-in-requires
+span-in-requires c κs = search needs
+
+stated-in-requires : tie.Need-stated-in-requires
+stated-in-requires c κs = search needs
 
 block-in-requires : tie.Need-block-in-requires
 block-in-requires c κs = search needs
@@ -41,7 +47,7 @@ starts-in-requires c κs = search needs
 
 returns : tie.Need-returns
 unfolding passOf
-returns c = rw (c .starts-in .ensures, c .before .wait-in .ensures, c .before .before .block-in .ensures, c .before .before .before .claims-in .ensures, c .before .before .before .before .heading-in .ensures, c .before .before .before .before .before .pend-in .ensures, c .before .before .before .before .before .before .field-in .ensures, c .before .before .before .before .before .before .before .ledger-in .ensures)
+returns c = rw (c .starts-in .ensures, c .before .wait-in .ensures, c .before .before .block-in .ensures, c .before .before .before .stated-in .ensures, c .before .before .before .before .span-in .ensures, c .before .before .before .before .before .kc-in .ensures, c .before .before .before .before .before .before .heading-in .ensures, c .before .before .before .before .before .before .before .pend-in .ensures, c .before .before .before .before .before .before .before .before .field-in .ensures, c .before .before .before .before .before .before .before .before .before .ledger-in .ensures)
 
 pub pass-of-spec : {M : Type 1} → statement M
 pass-of-spec =
@@ -55,7 +61,9 @@ pass-of-spec =
     field-in-requires
     pend-in-requires
     heading-in-requires
-    claims-in-requires
+    kc-in-requires
+    span-in-requires
+    stated-in-requires
     block-in-requires
     wait-in-requires
     starts-in-requires

@@ -27,7 +27,7 @@ small-of-requires : tie.Need-small-of-requires
 small-of-requires c κs = search needs
 
 written : (c : tie.After-small-of) →
-    record { wide = c .before .before .wide-of .result; narrow = c .before .narrow-of .result; small = c .small-of .result } ≡ wordsOf (c .before .before .before .before .before .before .before .before .before .before .before .before .before .before .args .p)
+    record { wide = c .before .before .wide-of .result; narrow = c .before .narrow-of .result; small = c .small-of .result } ≡ wordsOf (c .before .before .before .before .before .before .before .before .before .before .before .before .before .args .p)
 unfolding wordsOf
 written c = rw (c .small-of .ensures, c .before .narrow-of .ensures, c .before .before .wide-of .ensures .0, c .before .before .before .flats-of .ensures .0, c .before .before .before .before .flat-in .ensures, c .before .before .before .before .before .flat-kc .ensures, c .before .before .before .before .before .before .flat-reading .ensures)
 

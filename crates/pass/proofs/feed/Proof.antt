@@ -14,22 +14,23 @@ use Rattle.rules.specs.Faults.{Fault}
 use Rattle.ledger.specs.Marks.{marked}
 use Rattle.blocks.specs.Model.{blockOf}
 use Rattle.account.specs.Model.{groupsOn}
-use Rattle.judging.specs.Opening.{lowOpen, readAs, closeClaims}
+use Rattle.items.specs.Claims.{claimsAs}
+use Rattle.judging.specs.Opening.{lowOpen, readAs, spanClosed, statedClosed, closeClaims}
 use Rattle.judging.proofs.Sets.{lineMarks}
 use Rattle.shutting.proofs.Waiting.{entered-list}
-use Rattle.pass.proofs.Walk.{own-at, claims-closed, claims-kept, groups-took, groups-left, shut-block, shut-wait, shut-faults, own-above, own-inside, own-plain, ident-few}
+use Rattle.pass.proofs.Walk.{own-at, claims-kept, groups-took, groups-left, shut-block, shut-wait, shut-faults, own-above, own-inside, own-plain, ident-few}
 use Rattle.pass.proofs.Feeding.{Feeding, bounded-room, bounded-tail, feed-start, feed-close, feed-end, feed-other, feed-more, feed-field, feed-head}
 use borrow.Author.Needs.{needs}
 use Rattle.pass.proofs.feed.Statement.{statement}
 use Rattle.pass.proofs.feed.Tie as tie
 
 abbrev Inv-loop : tie.InvT-loop
-Inv-loop s base basis lines₀ rules₀ offsets₀ stood₀ places table codes g₀ open₀ pend₀ since₀ top₀ reads₀ h₀ claims₀ course₀ counts₀ sums₀ wait₀ starts₀ at₀ n₀ lines rules offsets stood g «open» pend since top reads h claims course counts sums wait starts at n =
-    Feeding s base basis lines₀ rules₀ offsets₀ stood₀ (record { ledger = g₀; field = open₀; pend = pend₀; since = since₀; top = top₀; reads = reads₀; heading = h₀; claims = claims₀; block = blockOf course₀ counts₀ sums₀; wait = wait₀; starts = starts₀; n = n₀ })
-    lines rules offsets stood (record { ledger = g; field = «open»; pend = pend; since = since; top = top; reads = reads; heading = h; claims = claims; block = blockOf course counts sums; wait = wait; starts = starts; n = n }) at
+Inv-loop s base basis lines₀ rules₀ offsets₀ stood₀ places table codes g₀ open₀ pend₀ since₀ top₀ reads₀ h₀ kc₀ span₀ stated₀ course₀ counts₀ sums₀ wait₀ starts₀ at₀ n₀ lines rules offsets stood g «open» pend since top reads h kc span stated course counts sums wait starts at n =
+    Feeding s base basis lines₀ rules₀ offsets₀ stood₀ (record { ledger = g₀; field = open₀; pend = pend₀; since = since₀; top = top₀; reads = reads₀; heading = h₀; kc = kc₀; span = span₀; stated = stated₀; block = blockOf course₀ counts₀ sums₀; wait = wait₀; starts = starts₀; n = n₀ })
+    lines rules offsets stood (record { ledger = g; field = «open»; pend = pend; since = since; top = top; reads = reads; heading = h; kc = kc; span = span; stated = stated; block = blockOf course counts sums; wait = wait; starts = starts; n = n }) at
 
 abbrev μ-loop : tie.MeasureT-loop
-μ-loop s base basis lines₀ rules₀ offsets₀ stood₀ places table codes g₀ open₀ pend₀ since₀ top₀ reads₀ h₀ claims₀ course₀ counts₀ sums₀ wait₀ starts₀ at₀ n₀ lines rules offsets stood g «open» pend since top reads h claims course counts sums wait starts at n =
+μ-loop s base basis lines₀ rules₀ offsets₀ stood₀ places table codes g₀ open₀ pend₀ since₀ top₀ reads₀ h₀ kc₀ span₀ stated₀ course₀ counts₀ sums₀ wait₀ starts₀ at₀ n₀ lines rules offsets stood g «open» pend since top reads h kc span stated course counts sums wait starts at n =
     length s - at
 
 -- the line that was found
@@ -46,25 +47,25 @@ own-is : (c : tie.After-line-marks Inv-loop μ-loop)
 own-is c = own-at (next (c .before .before .before .before)) _ (c .before .holds-inadmissible .ensures) (c .line-marks .ensures .0)
 
 -- the claims are touched only where the open field makes one
-claims-at-heading : (c : tie.Joined1 Inv-loop μ-loop) → let at-loop = c .before .before .before .before .before .before .before .before .before .before .before .before .before in c .if1 .claims ≡ closeClaims (at-loop .loop .claims) (at-loop .loop .«open») (at-loop .loop .pend)
+claims-at-heading : (c : tie.Joined1 Inv-loop μ-loop) → let at-loop = c .before .before .before .before .before .before .before .before .before .before .before .before .before in (c .if1 .span ≡ spanClosed (at-loop .loop .span) (at-loop .loop .«open») (at-loop .loop .pend)) × (c .if1 .stated ≡ statedClosed (at-loop .loop .stated) (at-loop .loop .«open») (at-loop .loop .pend))
 claims-at-heading c =
     let at-loop = c .before .before .before .before .before .before .before .before .before .before .before .before .before in
-    ⊎-elim (λ w. w .2 ∙ w .1 .ensures ∙ claims-closed (at-loop .loop .«open») (at-loop .loop .pend) (at-loop .loop .claims) (w .0 .taken))
-    (λ w. w .1 ∙ claims-kept (at-loop .loop .«open») (at-loop .loop .pend) (at-loop .loop .claims) (w .0 .left)) (c .if1 .came)
+    ⊎-elim (λ w. (w .3 ∙ w .1 .ensures, w .4 ∙ w .2 .ensures))
+    (λ w. let kept = claims-kept (at-loop .loop .«open») (at-loop .loop .pend) (at-loop .loop .span) (at-loop .loop .stated) (w .0 .left) in (w .1 ∙ kept .0, w .2 ∙ kept .1)) (c .if1 .came)
 
-claims-at-field : (c : tie.Joined3 Inv-loop μ-loop) → let at-loop = c .before .before .before .before .before .before .before .before .before .before .before .before .before .before .before .before .before .before .before .before .before .before .before .before in c .if3 .claims ≡ closeClaims (at-loop .loop .claims) (at-loop .loop .«open») (at-loop .loop .pend)
+claims-at-field : (c : tie.Joined3 Inv-loop μ-loop) → let at-loop = c .before .before .before .before .before .before .before .before .before .before .before .before .before .before .before .before .before .before .before .before .before .before .before .before in (c .if3 .span ≡ spanClosed (at-loop .loop .span) (at-loop .loop .«open») (at-loop .loop .pend)) × (c .if3 .stated ≡ statedClosed (at-loop .loop .stated) (at-loop .loop .«open») (at-loop .loop .pend))
 claims-at-field c =
     let at-loop = c .before .before .before .before .before .before .before .before .before .before .before .before .before .before .before .before .before .before .before .before .before .before .before .before in
-    ⊎-elim (λ w. w .2 ∙ w .1 .ensures ∙ claims-closed (at-loop .loop .«open») (at-loop .loop .pend) (at-loop .loop .claims) (w .0 .taken))
-    (λ w. w .1 ∙ claims-kept (at-loop .loop .«open») (at-loop .loop .pend) (at-loop .loop .claims) (w .0 .left)) (c .if3 .came)
+    ⊎-elim (λ w. (w .3 ∙ w .1 .ensures, w .4 ∙ w .2 .ensures))
+    (λ w. let kept = claims-kept (at-loop .loop .«open») (at-loop .loop .pend) (at-loop .loop .span) (at-loop .loop .stated) (w .0 .left) in (w .1 ∙ kept .0, w .2 ∙ kept .1)) (c .if3 .came)
 
 -- 30 to 39 of the item that closes, and how many they are at most
 groups-are : (c : tie.Joined2 Inv-loop μ-loop)
-    → (c .if2 .groups ≡ groupsOn (c .before .before .before .before .before .before .before .before .before .before .before .before .before .before .before .loop .counts) (c .before .before .before .before .before .before .before .before .before .before .before .before .before .before .before .loop .sums) (c .before .before .if1 .claims .sums) (readAs (c .before .before .before .before .before .before .before .before .before .before .before .before .before .before .before .loop .reads) (c .before .before .before .before .before .before .before .before .before .before .before .before .before .before .before .loop .h)))
+    → (c .if2 .groups ≡ groupsOn (c .before .before .before .before .before .before .before .before .before .before .before .before .before .before .before .loop .counts) (c .before .before .before .before .before .before .before .before .before .before .before .before .before .before .before .loop .sums) (c .before .before .if1 .stated) (readAs (c .before .before .before .before .before .before .before .before .before .before .before .before .before .before .before .loop .reads) (c .before .before .before .before .before .before .before .before .before .before .before .before .before .before .before .loop .h)))
     × (c .if2 .groups ≤ 2 ^ 40 - 2 ^ 30)
 groups-are c =
     let at-loop = c .before .before .before .before .before .before .before .before .before .before .before .before .before .before .before in
-    let stated = c .before .before .if1 .claims .sums in
+    let stated = c .before .before .if1 .stated in
     ⊎-elim (λ w. (groups-took (at-loop .loop .counts) (at-loop .loop .sums) stated (at-loop .loop .reads) (at-loop .loop .h) (w .0 .taken) (w .2 ∙ w .1 .ensures .0), omega (arith, w .2, w .1 .ensures .1)))
     (λ w. (groups-left (at-loop .loop .counts) (at-loop .loop .sums) stated (at-loop .loop .reads) (at-loop .loop .h) (w .0 .left) (w .1), omega (arith, w .1))) (c .if2 .came)
 
@@ -143,8 +144,11 @@ kind-from-requires c κs =
 enum-told : tie.Need-enum-told Inv-loop μ-loop
 enum-told c = search needs
 
-claim-closed-requires : tie.Need-claim-closed-requires Inv-loop μ-loop
-claim-closed-requires c κs = search needs
+span-closed-requires : tie.Need-span-closed-requires Inv-loop μ-loop
+span-closed-requires c κs = search needs
+
+stated-closed-requires : tie.Need-stated-closed-requires Inv-loop μ-loop
+stated-closed-requires c κs = search needs
 
 group-marks-of-requires : tie.Need-group-marks-of-requires Inv-loop μ-loop
 group-marks-of-requires c κs = search needs
@@ -158,8 +162,8 @@ shut-all-requires c κs =
 count-item-requires : tie.Need-count-item-requires Inv-loop μ-loop
 count-item-requires c κs = search needs
 
-no-claims-requires : tie.Need-no-claims-requires Inv-loop μ-loop
-no-claims-requires c κs = search needs
+no-sums-requires : tie.Need-no-sums-requires Inv-loop μ-loop
+no-sums-requires c κs = search needs
 
 none-open-requires : tie.Need-none-open-requires Inv-loop μ-loop
 none-open-requires c κs = search needs
@@ -200,9 +204,10 @@ loop-again c =
     let here = c .before .before .before .before .before .before .before .before .before .before .before .before .before .before .before .before .before .before .before .before .before .before .before .before .before .before .before .before .before .before .before .before .before .before .before .before .before .loop in
     let basis = c .before .before .before .before .before .before .before .before .before .before .before .before .before .before .before .before .before .before .before .before .before .before .before .before .before .before .before .before .before .before .before .before .before .before .before .before .before .before .before .before .before .before .before .before .before .before .before .before .before .before .before .before .before .before .before .before .args .basis in
     let read = readAs (here .reads) (here .h) in
-    let claims = claims-at-heading (c .before .before .before .before .before .before .before .before .before .before .before .before .before .before .before .before .before .before .before .before .before .before .before .before) in
+    let closes = claims-at-heading (c .before .before .before .before .before .before .before .before .before .before .before .before .before .before .before .before .before .before .before .before .before .before .before .before) in
+    let claims : claimsAs (here .kc) (c .before .before .before .before .before .before .before .before .before .before .before .before .before .before .before .before .before .before .before .before .before .before .before .before .if1 .span) (c .before .before .before .before .before .before .before .before .before .before .before .before .before .before .before .before .before .before .before .before .before .before .before .before .if1 .stated) ≡ closeClaims (claimsAs (here .kc) (here .span) (here .stated)) (here .«open») (here .pend) = λ i. claimsAs (here .kc) (closes .0 i) (closes .1 i) in
     let groups = groups-are (c .before .before .before .before .before .before .before .before .before .before .before .before .before .before .before .before .before .before .before .before .before .before) .0 in
-    feed-head (c .before .before .before .before .before .before .before .before .before .before .before .before .before .before .before .before .before .before .before .before .before .before .before .before .before .before .before .before .before .before .before .before .before .before .before .before .before .loop .inv) (next (c .before .before .before .before .before .before .before .before .before .before .before .before .before .before .before .before .before .before .before .before .before .before .before .before .before .before .before .before .before .before .before .before .before .before .before)) (c .before .before .before .before .before .before .before .before .before .before .before .before .before .before .before .before .before .before .before .before .before .before .before .before .before .before .before .before .kind-from .ensures) (own-is (c .before .before .before .before .before .before .before .before .before .before .before .before .before .before .before .before .before .before .before .before .before .before .before .before .before .before .before .before .before .before .before)) (c .before .before .before .before .before .before .before .before .before .before .before .before .before .before .before .before .before .before .before .before .before .before .before .before .before .before .enum-told .given .1) (c .before .before .read .ensures .1) (c .before .before .before .before .none-open .ensures) (c .before .heading-in .ensures) (c .does-read .ensures) (c .before .before .before .before .before .no-claims .ensures)
+    feed-head (c .before .before .before .before .before .before .before .before .before .before .before .before .before .before .before .before .before .before .before .before .before .before .before .before .before .before .before .before .before .before .before .before .before .before .before .before .before .loop .inv) (next (c .before .before .before .before .before .before .before .before .before .before .before .before .before .before .before .before .before .before .before .before .before .before .before .before .before .before .before .before .before .before .before .before .before .before .before)) (c .before .before .before .before .before .before .before .before .before .before .before .before .before .before .before .before .before .before .before .before .before .before .before .before .before .before .before .before .kind-from .ensures) (own-is (c .before .before .before .before .before .before .before .before .before .before .before .before .before .before .before .before .before .before .before .before .before .before .before .before .before .before .before .before .before .before .before)) (c .before .before .before .before .before .before .before .before .before .before .before .before .before .before .before .before .before .before .before .before .before .before .before .before .before .before .enum-told .given .1) (c .before .before .read .ensures .1) (c .before .before .before .before .none-open .ensures) (c .before .heading-in .ensures) (c .does-read .ensures) (c .before .before .before .before .before .no-sums .ensures)
     (shut-block basis (here .course) (here .counts) (here .sums) (here .wait) (here .since) (here .top) read claims groups (shut .1 .0 .0) (counted .0) (counted .1))
     (shut-wait basis (here .course) (here .counts) (here .sums) (here .wait) (here .since) (here .top) read claims groups (shut .1 .0 .1)) (shut .1 .0 .2)
     (entered-list (ap (λ (xs : List Fault). marked (here .«open» .no) (here .«open» .marks) ++ xs) (shut-faults basis (here .course) (here .counts) (here .sums) (here .wait) (here .since) (here .top) read claims groups)) (shut .0)) (shut .1 .1 .0) (shut .1 .1 .1) (c .before .before .before .before .before .before .before .before .before .before .before .before .before .before .before .before .before .before .shut-all .kept .1 .1 .0)
@@ -246,8 +251,11 @@ enter-requires-2 c κs =
     let room = bounded-room (within (c .before .before .before .before .before .before .before .before .before .before .before .before .before)) B in
     (B .ready, (B .level, omega (arith, room)))
 
-claim-closed-requires-2 : tie.Need-claim-closed-requires-2 Inv-loop μ-loop
-claim-closed-requires-2 c κs = search needs
+span-closed-requires-2 : tie.Need-span-closed-requires-2 Inv-loop μ-loop
+span-closed-requires-2 c κs = search needs
+
+stated-closed-requires-2 : tie.Need-stated-closed-requires-2 Inv-loop μ-loop
+stated-closed-requires-2 c κs = search needs
 
 again-requires : tie.Need-again-requires Inv-loop μ-loop
 again-requires c κs =
@@ -286,8 +294,8 @@ field-open-requires : tie.Need-field-open-requires Inv-loop μ-loop
 field-open-requires c κs =
     (number-is (c .before .before .before), c .before .before .before .before .before .before .before .before .before .before .before .before .before .before .before .before .before .before .before .before .before .before .before .line-marks .ensures .1)
 
-claim-own-requires : tie.Need-claim-own-requires Inv-loop μ-loop
-claim-own-requires c κs = search needs
+kc-own-requires : tie.Need-kc-own-requires Inv-loop μ-loop
+kc-own-requires c κs = search needs
 
 keep-own-requires : tie.Need-keep-own-requires Inv-loop μ-loop
 keep-own-requires c κs =
@@ -307,9 +315,10 @@ loop-less-3 c =
 loop-again-3 : tie.Need-loop-again-3 Inv-loop μ-loop
 loop-again-3 c =
     let at-loop = c .before .before .before .before .before .before .before .before .before .before .before .before .before .before .before .before .before .before .before .before .before .before .before .before .before .before .before .before .before .before .before .before .before in
+    let closes = claims-at-field (c .before .before .before .before .before .before .before .before .before) in
     let asked = c .before .before .before .before .before .before .before .again .ensures in
-    let own = own-inside (at-loop .loop .since) (c .before .before .before .before .before .before .before .before .before .before .before .before .before .before .before .before .before .before .before .before .before .before .x .given .0 .0) (c .before .before .before .before .read-claim .result) (c .before .before .before .before .before .before .before .before .before .if3 .claims) (at-loop .loop .pend) (c .before .before .if5 .taken) (c .before .claim-own .ensures) (c .keep-own .ensures) in
-    feed-field (c .before .before .before .before .before .before .before .before .before .before .before .before .before .before .before .before .before .before .before .before .before .before .before .before .before .before .before .before .before .before .before .before .before .loop .inv) (next (c .before .before .before .before .before .before .before .before .before .before .before .before .before .before .before .before .before .before .before .before .before .before .before .before .before .before .before .before .before .before .before)) (c .before .before .before .before .before .before .before .before .before .before .before .before .before .before .before .before .before .before .before .before .before .before .before .before .kind-from .ensures) (own-is (c .before .before .before .before .before .before .before .before .before .before .before .before .before .before .before .before .before .before .before .before .before .before .before .before .before .before .before)) (c .before .before .before .before .before .before .before .before .before .before .before .before .before .before .before .before .before .before .before .before .before .before .x .given .0 .0) (c .before .before .before .before .before .before .before .before .before .before .before .before .before .before .before .before .before .before .before .before .before .before .x .given .1) (claims-at-field (c .before .before .before .before .before .before .before .before .before)) (asked .0) (said-is (c .before .before .before .before)) (c .before .before .before .field-open .ensures) (own .0) (own .1) (asked .1) (c .before .before .before .before .before .before .before .before .before .before .before .before .before .before .before .before .before .enter2 .ensures .0) (c .before .before .before .before .before .before .before .before .before .before .before .before .before .before .before .before .before .enter2 .ensures .1 .1) (c .before .before .before .before .before .before .before .before .before .before .before .before .before .before .before .before .before .enter2 .kept .1 .1 .0)
+    let own = own-inside (at-loop .loop .since) (c .before .before .before .before .before .before .before .before .before .before .before .before .before .before .before .before .before .before .before .before .before .before .x .given .0 .0) (c .before .before .before .before .read-claim .result) (at-loop .loop .kc) (at-loop .loop .pend) (c .before .before .if5 .taken) (c .before .kc-own .ensures) (c .keep-own .ensures) in
+    feed-field (c .before .before .before .before .before .before .before .before .before .before .before .before .before .before .before .before .before .before .before .before .before .before .before .before .before .before .before .before .before .before .before .before .before .loop .inv) (next (c .before .before .before .before .before .before .before .before .before .before .before .before .before .before .before .before .before .before .before .before .before .before .before .before .before .before .before .before .before .before .before)) (c .before .before .before .before .before .before .before .before .before .before .before .before .before .before .before .before .before .before .before .before .before .before .before .before .kind-from .ensures) (own-is (c .before .before .before .before .before .before .before .before .before .before .before .before .before .before .before .before .before .before .before .before .before .before .before .before .before .before .before)) (c .before .before .before .before .before .before .before .before .before .before .before .before .before .before .before .before .before .before .before .before .before .before .x .given .0 .0) (c .before .before .before .before .before .before .before .before .before .before .before .before .before .before .before .before .before .before .before .before .before .before .x .given .1) (closes .0) (closes .1) (asked .0) (said-is (c .before .before .before .before)) (c .before .before .before .field-open .ensures) (own .0) (own .1) (asked .1) (c .before .before .before .before .before .before .before .before .before .before .before .before .before .before .before .before .before .enter2 .ensures .0) (c .before .before .before .before .before .before .before .before .before .before .before .before .before .before .before .before .before .enter2 .ensures .1 .1) (c .before .before .before .before .before .before .before .before .before .before .before .before .before .before .before .before .before .enter2 .kept .1 .1 .0)
 
 loop-less-4 : tie.Need-loop-less-4 Inv-loop μ-loop
 loop-less-4 c =
@@ -319,9 +328,10 @@ loop-less-4 c =
 loop-again-4 : tie.Need-loop-again-4 Inv-loop μ-loop
 loop-again-4 c =
     let at-loop = c .before .before .before .before .before .before .before .before .before .before .before .before .before .before .before .before .before .before .before .before .before .before .before .before .before .before .before .before .before .before .before in
+    let closes = claims-at-field (c .before .before .before .before .before .before .before) in
     let asked = c .before .before .before .before .before .again .ensures in
-    let own = own-above (at-loop .loop .since) (c .before .before .before .before .before .before .before .before .before .before .before .before .before .before .before .before .before .before .before .before .x .given .0 .0) (c .before .before .read-claim .result) (c .before .before .before .before .before .before .before .if3 .claims) (at-loop .loop .pend) (c .if5 .left) in
-    feed-field (c .before .before .before .before .before .before .before .before .before .before .before .before .before .before .before .before .before .before .before .before .before .before .before .before .before .before .before .before .before .before .before .loop .inv) (next (c .before .before .before .before .before .before .before .before .before .before .before .before .before .before .before .before .before .before .before .before .before .before .before .before .before .before .before .before .before)) (c .before .before .before .before .before .before .before .before .before .before .before .before .before .before .before .before .before .before .before .before .before .before .kind-from .ensures) (own-is (c .before .before .before .before .before .before .before .before .before .before .before .before .before .before .before .before .before .before .before .before .before .before .before .before .before)) (c .before .before .before .before .before .before .before .before .before .before .before .before .before .before .before .before .before .before .before .before .x .given .0 .0) (c .before .before .before .before .before .before .before .before .before .before .before .before .before .before .before .before .before .before .before .before .x .given .1) (claims-at-field (c .before .before .before .before .before .before .before)) (asked .0) (said-is (c .before .before)) (c .before .field-open .ensures) (own .0) (own .1) (asked .1) (c .before .before .before .before .before .before .before .before .before .before .before .before .before .before .before .enter2 .ensures .0) (c .before .before .before .before .before .before .before .before .before .before .before .before .before .before .before .enter2 .ensures .1 .1) (c .before .before .before .before .before .before .before .before .before .before .before .before .before .before .before .enter2 .kept .1 .1 .0)
+    let own = own-above (at-loop .loop .since) (c .before .before .before .before .before .before .before .before .before .before .before .before .before .before .before .before .before .before .before .before .x .given .0 .0) (c .before .before .read-claim .result) (at-loop .loop .kc) (at-loop .loop .pend) (c .if5 .left) in
+    feed-field (c .before .before .before .before .before .before .before .before .before .before .before .before .before .before .before .before .before .before .before .before .before .before .before .before .before .before .before .before .before .before .before .loop .inv) (next (c .before .before .before .before .before .before .before .before .before .before .before .before .before .before .before .before .before .before .before .before .before .before .before .before .before .before .before .before .before)) (c .before .before .before .before .before .before .before .before .before .before .before .before .before .before .before .before .before .before .before .before .before .before .kind-from .ensures) (own-is (c .before .before .before .before .before .before .before .before .before .before .before .before .before .before .before .before .before .before .before .before .before .before .before .before .before)) (c .before .before .before .before .before .before .before .before .before .before .before .before .before .before .before .before .before .before .before .before .x .given .0 .0) (c .before .before .before .before .before .before .before .before .before .before .before .before .before .before .before .before .before .before .before .before .x .given .1) (closes .0) (closes .1) (asked .0) (said-is (c .before .before)) (c .before .field-open .ensures) (own .0) (own .1) (asked .1) (c .before .before .before .before .before .before .before .before .before .before .before .before .before .before .before .enter2 .ensures .0) (c .before .before .before .before .before .before .before .before .before .before .before .before .before .before .before .enter2 .ensures .1 .1) (c .before .before .before .before .before .before .before .before .before .before .before .before .before .before .before .enter2 .kept .1 .1 .0)
 
 sub-plain-open : tie.Need-sub-plain-open Inv-loop μ-loop
 sub-plain-open c =
@@ -350,9 +360,10 @@ loop-less-5 c =
 loop-again-5 : tie.Need-loop-again-5 Inv-loop μ-loop
 loop-again-5 c =
     let at-loop = c .before .before .before .before .before .before .before .before .before .before .before .before .before .before .before .before .before .before .before .before .before .before .before .before .before .before .before .before .before in
+    let closes = claims-at-field (c .before .before .before .before .before) in
     let asked = c .before .before .before .again .ensures in
-    let own = own-plain (at-loop .loop .since) (c .before .before .before .before .before .before .before .before .before .before .before .before .before .before .before .before .before .before .x .given .0 .0) (readingOf (classOf (c .before .before .before .before .before .before .before .before .before .before .before .before .before .before .before .before .before .before .x .given .0 .0)) (textOf (span (c .before .before .before .before .before .before .before .before .before .before .before .before .before .before .before .before .before .before .before .before .before .before .before .before .before .before .before .before .before .loop .at) (c .before .before .before .before .before .before .before .before .before .before .before .before .before .before .before .before .before .before .before .before .before .before .before .before .before .before .before .line-from .result .end) (c .before .before .before .before .before .before .before .before .before .before .before .before .before .before .before .before .before .before .before .before .before .before .before .before .before .before .before .before .before .before .before .before .before .before .before .before .before .before .before .before .before .before .before .before .before .before .before .before .args .s .now)))) (c .before .before .before .before .before .if3 .claims) (at-loop .loop .pend) (number-is (c .before .before .before)) (c .before .before .if4 .left) in
-    feed-field (c .before .before .before .before .before .before .before .before .before .before .before .before .before .before .before .before .before .before .before .before .before .before .before .before .before .before .before .before .before .loop .inv) (next (c .before .before .before .before .before .before .before .before .before .before .before .before .before .before .before .before .before .before .before .before .before .before .before .before .before .before .before)) (c .before .before .before .before .before .before .before .before .before .before .before .before .before .before .before .before .before .before .before .before .kind-from .ensures) (own-is (c .before .before .before .before .before .before .before .before .before .before .before .before .before .before .before .before .before .before .before .before .before .before .before)) (c .before .before .before .before .before .before .before .before .before .before .before .before .before .before .before .before .before .before .x .given .0 .0) (c .before .before .before .before .before .before .before .before .before .before .before .before .before .before .before .before .before .before .x .given .1) (claims-at-field (c .before .before .before .before .before)) (asked .0) refl (c .plain-open .ensures (c .before .before .before .before .before .before .before .before .before .before .before .before .before .before .before .before .before .before .before .before .before .before .before .before .before .before .before .before .before .before .before .before .before .before .before .before .before .before .before .before .before .before .before .before .before .before .before .before .args .basis) (c .before .before .before .before .before .if3 .claims .kc) (readAs (at-loop .loop .reads) (at-loop .loop .h)) (c .before .before .before .before .before .before .before .before .before .before .before .before .before .before .before .before .before .before .x .given .0 .0) (number-is (c .before .before .before)) (c .before .before .if4 .left)) (own .0) (own .1) (asked .1) (c .before .before .before .before .before .before .before .before .before .before .before .before .before .enter2 .ensures .0) (c .before .before .before .before .before .before .before .before .before .before .before .before .before .enter2 .ensures .1 .1) (c .before .before .before .before .before .before .before .before .before .before .before .before .before .enter2 .kept .1 .1 .0)
+    let own = own-plain (at-loop .loop .since) (c .before .before .before .before .before .before .before .before .before .before .before .before .before .before .before .before .before .before .x .given .0 .0) (readingOf (classOf (c .before .before .before .before .before .before .before .before .before .before .before .before .before .before .before .before .before .before .x .given .0 .0)) (textOf (span (c .before .before .before .before .before .before .before .before .before .before .before .before .before .before .before .before .before .before .before .before .before .before .before .before .before .before .before .before .before .loop .at) (c .before .before .before .before .before .before .before .before .before .before .before .before .before .before .before .before .before .before .before .before .before .before .before .before .before .before .before .line-from .result .end) (c .before .before .before .before .before .before .before .before .before .before .before .before .before .before .before .before .before .before .before .before .before .before .before .before .before .before .before .before .before .before .before .before .before .before .before .before .before .before .before .before .before .before .before .before .before .before .before .before .args .s .now)))) (at-loop .loop .kc) (at-loop .loop .pend) (number-is (c .before .before .before)) (c .before .before .if4 .left) in
+    feed-field (c .before .before .before .before .before .before .before .before .before .before .before .before .before .before .before .before .before .before .before .before .before .before .before .before .before .before .before .before .before .loop .inv) (next (c .before .before .before .before .before .before .before .before .before .before .before .before .before .before .before .before .before .before .before .before .before .before .before .before .before .before .before)) (c .before .before .before .before .before .before .before .before .before .before .before .before .before .before .before .before .before .before .before .before .kind-from .ensures) (own-is (c .before .before .before .before .before .before .before .before .before .before .before .before .before .before .before .before .before .before .before .before .before .before .before)) (c .before .before .before .before .before .before .before .before .before .before .before .before .before .before .before .before .before .before .x .given .0 .0) (c .before .before .before .before .before .before .before .before .before .before .before .before .before .before .before .before .before .before .x .given .1) (closes .0) (closes .1) (asked .0) refl (c .plain-open .ensures (c .before .before .before .before .before .before .before .before .before .before .before .before .before .before .before .before .before .before .before .before .before .before .before .before .before .before .before .before .before .before .before .before .before .before .before .before .before .before .before .before .before .before .before .before .before .before .before .before .args .basis) (c .before .before .before .before .before .before .before .before .before .before .before .before .before .before .before .before .before .before .before .before .before .before .before .before .before .before .before .before .before .loop .kc) (readAs (at-loop .loop .reads) (at-loop .loop .h)) (c .before .before .before .before .before .before .before .before .before .before .before .before .before .before .before .before .before .before .x .given .0 .0) (number-is (c .before .before .before)) (c .before .before .if4 .left)) (own .0) (own .1) (asked .1) (c .before .before .before .before .before .before .before .before .before .before .before .before .before .enter2 .ensures .0) (c .before .before .before .before .before .before .before .before .before .before .before .before .before .enter2 .ensures .1 .1) (c .before .before .before .before .before .before .before .before .before .before .before .before .before .enter2 .kept .1 .1 .0)
 
 enum-told-3 : tie.Need-enum-told-3 Inv-loop μ-loop
 enum-told-3 c = search needs
@@ -394,7 +405,7 @@ returns : tie.Need-returns Inv-loop μ-loop
 returns c =
     let here = c .before .before .loop in
     let start = c .before .before .before .before .before .before .before .before .before .before .before .before .before .before .before .before .before .before .before .before .before .args in
-    feed-close (start .s .now) (start .base) (start .basis) (start .p) (record { ledger = here .g; field = here .«open»; pend = here .pend; since = here .since; top = here .top; reads = here .reads; heading = here .h; claims = here .claims; block = blockOf (here .course) (here .counts) (here .sums); wait = here .wait; starts = here .starts; n = here .n })
+    feed-close (start .s .now) (start .base) (start .basis) (start .p) (record { ledger = here .g; field = here .«open»; pend = here .pend; since = here .since; top = here .top; reads = here .reads; heading = here .h; kc = here .kc; span = here .span; stated = here .stated; block = blockOf (here .course) (here .counts) (here .sums); wait = here .wait; starts = here .starts; n = here .n })
     (c .before .before .before .before .before .before .before .course-of .ensures) (c .block-of .ensures) (feed-end (here .inv) (omega (arith, c .before .loop-test)))
 
 pub feed-spec : {M : Type 1} → statement M
@@ -422,11 +433,12 @@ feed-spec =
     part-kind-from-end
     kind-from-requires
     enum-told
-    claim-closed-requires
+    span-closed-requires
+    stated-closed-requires
     group-marks-of-requires
     shut-all-requires
     count-item-requires
-    no-claims-requires
+    no-sums-requires
     none-open-requires
     sub-read
     part-read-start
@@ -445,7 +457,8 @@ feed-spec =
     loop-again-2
     enum-known-x
     enter-requires-2
-    claim-closed-requires-2
+    span-closed-requires-2
+    stated-closed-requires-2
     again-requires
     array-read-class
     sub-read-claim
@@ -453,7 +466,7 @@ feed-spec =
     part-read-claim-end
     read-claim-requires
     field-open-requires
-    claim-own-requires
+    kc-own-requires
     keep-own-requires
     loop-less-3
     loop-again-3

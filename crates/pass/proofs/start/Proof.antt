@@ -1,4 +1,6 @@
 use mathlib.Core.Bool.{false}
+use Rattle.rules.specs.declared.FirstKc.the-variants.{NoKc}
+use Rattle.rules.specs.declared.FirstIn.the-variants.{NoIn}
 use Rattle.pass.proofs.start.Statement.{statement}
 use borrow.Author.Needs.{needs}
 use Rattle.pass.proofs.start.Tie as tie
@@ -15,8 +17,8 @@ no-pend-requires c κs = search needs
 no-heading-requires : tie.Need-no-heading-requires
 no-heading-requires c κs = search needs
 
-no-claims-requires : tie.Need-no-claims-requires
-no-claims-requires c κs = search needs
+no-sums-requires : tie.Need-no-sums-requires
+no-sums-requires c κs = search needs
 
 start-requires : tie.Need-start-requires
 start-requires c κs = search needs
@@ -34,7 +36,9 @@ returns c =
       top = 0;
       reads = false;
       heading = c .before .before .before .no-heading .result;
-      claims = c .before .before .no-claims .ensures i;
+      kc = NoKc;
+      span = NoIn;
+      stated = c .before .before .no-sums .ensures i;
       block = c .before .start .ensures i;
       wait = c .no-wait .ensures i;
       starts = record { field = 0; head = 0; wait = 0 };
@@ -42,4 +46,4 @@ returns c =
     }
 
 pub start-spec : {M : Type 1} → statement M
-start-spec = tie.close (tie.spec empty-requires none-open-requires no-pend-requires no-heading-requires no-claims-requires start-requires no-wait-requires returns)
+start-spec = tie.close (tie.spec empty-requires none-open-requires no-pend-requires no-heading-requires no-sums-requires start-requires no-wait-requires returns)

@@ -20,15 +20,15 @@ stated-by-requires c κs = search needs
 stated-kept-requires : tie.Need-stated-kept-requires
 stated-kept-requires c κs = search needs
 
-mul-next : tie.Need-mul-next
-mul-next c = search needs
+mul-groups : tie.Need-mul-groups
+mul-groups c = search needs
 
-array-set-from-next : tie.Need-array-set-from-next
-array-set-from-next c = search needs
+array-set-from-groups : tie.Need-array-set-from-groups
+array-set-from-groups c = search needs
 
 returns-2 : tie.Need-returns-2
 unfolding groupClaims
-returns-2 c = rw (lt-leb 10 _ (c .before .before .before .if1 .left), c .stated-kept .ensures, c .before .stated-by .ensures)
+returns-2 c = rw (lt-leb 10 _ (c .before .before .before .before .if1 .left), c .stated-kept .ensures, c .before .stated-by .ensures)
 
 pub group-claims-spec : {M : Type 1} → statement M
 group-claims-spec =
@@ -39,6 +39,6 @@ group-claims-spec =
     array-copy-out-old
     stated-by-requires
     stated-kept-requires
-    mul-next
-    array-set-from-next
+    mul-groups
+    array-set-from-groups
     returns-2)

@@ -1,6 +1,6 @@
 use borrow.Author.Needs.{needs}
-use Rattle.carried.proofs.groups_in.Statement.{statement}
-use Rattle.carried.proofs.groups_in.Tie as tie
+use Rattle.carried.proofs.stated_in.Statement.{statement}
+use Rattle.carried.proofs.stated_in.Tie as tie
 
 group-in-requires : tie.Need-group-in-requires
 group-in-requires c κs = search needs
@@ -35,8 +35,8 @@ group-in-requires-10 c κs = search needs
 returns : tie.Need-returns
 returns c = rw (c .group-in10 .ensures, c .before .group-in9 .ensures, c .before .before .group-in8 .ensures, c .before .before .before .group-in7 .ensures, c .before .before .before .before .group-in6 .ensures, c .before .before .before .before .before .group-in5 .ensures, c .before .before .before .before .before .before .group-in4 .ensures, c .before .before .before .before .before .before .before .group-in3 .ensures, c .before .before .before .before .before .before .before .before .group-in2 .ensures, c .before .before .before .before .before .before .before .before .before .group-in .ensures)
 
-pub groups-in-spec : {M : Type 1} → statement M
-groups-in-spec =
+pub stated-in-spec : {M : Type 1} → statement M
+stated-in-spec =
     tie.close
     (tie.spec
     group-in-requires
