@@ -49,7 +49,7 @@ sum-take-le xs (suc j) zero h = absurd (not-suc-le-zero h)
 sum-take-le [] (suc j) (suc k) h = zero-le
 sum-take-le (x ∷ xs) (suc j) (suc k) h = omega (arith, sum-take-le xs j k (le-of-suc-le-suc h))
 
-sum-take-all : (xs : List ℕ) (j : ℕ) → sum (take j xs) ≤ sum xs
+pub sum-take-all : (xs : List ℕ) (j : ℕ) → sum (take j xs) ≤ sum xs
 sum-take-all xs zero = zero-le
 sum-take-all [] (suc j) = zero-le
 sum-take-all (x ∷ xs) (suc j) = omega (arith, sum-take-all xs j)
@@ -63,7 +63,7 @@ years-le (suc y) (suc z) h =
 within : (xs : List ℕ) (p d : ℕ) → d ≤ getD xs p 0 → sum (take p xs) + d ≤ sum (take (suc p) xs)
 within xs p d h = rw sum-more (omega arith)
 
-pred-suc : (m : ℕ) → 1 ≤ m → suc (m - 1) ≡ m
+pub pred-suc : (m : ℕ) → 1 ≤ m → suc (m - 1) ≡ m
 pred-suc m h = omega arith
 
 module _ (n : ℕ) (r : Real n) where
@@ -124,7 +124,7 @@ module _ (y m d : ℕ) (hm : m < 100) (hd : d < 100) where
   made-day = omega arith
 
   -- the running number of a day that is given by its parts
-  made-number : dayNumber (y * 10000 + m * 100 + d) ≡ daysBefore y + sum (take (m - 1) (row (isLeap y))) + d
+  pub made-number : dayNumber (y * 10000 + m * 100 + d) ≡ daysBefore y + sum (take (m - 1) (row (isLeap y))) + d
   unfolding dayNumber
   made-number = rw (made-year, made-month, made-day)
 
@@ -137,7 +137,7 @@ december true = refl
 december false = refl
 
 module _ (n : ℕ) (r : Real n) where
-  short : dateOf n < 32
+  pub short : dateOf n < 32
   unfolding monthLength
   short = omega (arith, r .day-to, month-le (isLeap (yearOf n)) (monthOf n - 1))
 
@@ -175,15 +175,15 @@ module _ (n : ℕ) (r : Real n) where
       go false p true q = in-next-month (ltb-false _ _ p) (ltb-true _ _ q)
       go false p false q = in-next-year (ltb-false _ _ p) (ltb-false _ _ q)
 
--- a month has a first day
-some-days : (b : Bool) (k : ℕ) → k < 12 → 1 ≤ getD (row b) k 0
+-- a month has 28 days or more
+pub some-days : (b : Bool) (k : ℕ) → k < 12 → 28 ≤ getD (row b) k 0
 unfolding row
-some-days true k h = leb→le _ _ (at (λ x. leb 1 x) (row true) tt k h)
-some-days false k h = leb→le _ _ (at (λ x. leb 1 x) (row false) tt k h)
+some-days true k h = leb→le _ _ (at (λ x. leb 28 x) (row true) tt k h)
+some-days false k h = leb→le _ _ (at (λ x. leb 28 x) (row false) tt k h)
 
 -- a day that is given by its parts is real
 module _ (y m d : ℕ) (y1 : 1 ≤ y) (y2 : y ≤ 9999) (m1 : 1 ≤ m) (m2 : m ≤ 12) (d1 : 1 ≤ d) (d2 : d ≤ getD (row (isLeap y)) (m - 1) 0) where
-  made-real : Real (y * 10000 + m * 100 + d)
+  pub made-real : Real (y * 10000 + m * 100 + d)
   unfolding monthLength
   made-real =
       let hm : m < 100 = omega arith in
@@ -227,10 +227,10 @@ module _ (n : ℕ) (r : Real n) (not-last : n < 99991231) where
       go false p true q =
           let l : monthOf n < 12 = ltb-true _ _ q in
           made-real (yearOf n) (monthOf n + 1) 1 (r .year-from) (r .year-to) (omega arith) (omega arith) (omega arith)
-          (some-days (isLeap (yearOf n)) (monthOf n + 1 - 1) (omega arith))
+          (omega (arith, some-days (isLeap (yearOf n)) (monthOf n + 1 - 1) (omega arith)))
       go false p false q =
           let f : (yearOf n + 1) * 10000 + 101 ≡ (yearOf n + 1) * 10000 + 1 * 100 + 1 = omega arith in
-          rw f (made-real (yearOf n + 1) 1 1 (omega arith) (not-over (ltb-false _ _ p) (ltb-false _ _ q)) (omega arith) (omega arith) (omega arith) (some-days (isLeap (yearOf n + 1)) 0 (omega arith)))
+          rw f (made-real (yearOf n + 1) 1 1 (omega arith) (not-over (ltb-false _ _ p) (ltb-false _ _ q)) (omega arith) (omega arith) (omega arith) (omega (arith, some-days (isLeap (yearOf n + 1)) 0 (omega arith))))
 
 -- the order of the day numbers is the order of the days
 module _ (a b : ℕ) (ra : Real a) (rb : Real b) where
@@ -254,10 +254,10 @@ module _ (a b : ℕ) (ra : Real a) (rb : Real b) where
       go false p false q = le-antisymm (ltb-false b a q) (ltb-false a b p)
 
 -- a day that is no later has no greater number
-no-later : (a b : ℕ) → Real a → Real b → a ≤ b → dayNumber a ≤ dayNumber b
+pub no-later : (a b : ℕ) → Real a → Real b → a ≤ b → dayNumber a ≤ dayNumber b
 no-later a b ra rb h = ⊎-elim (λ e. rw e (le-refl _)) (λ l. omega (arith, later-number a b ra rb l)) (eq-or-lt-of-le h)
 
-last-real : Real 99991231
+pub last-real : Real 99991231
 unfolding isReal monthLength row isLeap
 last-real = real-parts 99991231 refl
 
@@ -271,12 +271,16 @@ days-on (suc k) n r h =
     let t = days-on k (next n) (next-real n r m) (omega (arith, f)) in
     (t .0, omega (arith, f, t .1))
 
+-- real days and their numbers have one order
+pub one-order : (a b : ℕ) → Real a → Real b → ltb a b ≡ ltb (dayNumber a) (dayNumber b)
+one-order a b ra rb = go (ltb a b) refl
+  where
+    go : (t : Bool) → ltb a b ≡ t → t ≡ ltb (dayNumber a) (dayNumber b)
+    go true e = sym (lt-ltb _ _ (later-number a b ra rb (ltb-true _ _ e)))
+    go false e = sym (le-ltb _ _ (no-later b a rb ra (ltb-false _ _ e)))
+
 -- so 'more than k days later' says: after the day k days on
 pub later-on : (k day than : ℕ) → Real day → Real than → dayNumber than + k ≤ dayNumber 99991231 → later day than k ≡ ltb (on k than) day
 later-on k day than d t h =
     let o = days-on k than t h in
-    rw (← o .1) (go (ltb (on k than) day) refl (o .0))
-  where
-    go : (b : Bool) → ltb (on k than) day ≡ b → Real (on k than) → ltb (dayNumber (on k than)) (dayNumber day) ≡ ltb (on k than) day
-    go true e r = lt-ltb _ _ (later-number (on k than) day r d (ltb-true _ _ e)) ∙ sym e
-    go false e r = le-ltb _ _ (no-later day (on k than) d r (ltb-false _ _ e)) ∙ sym e
+    rw (← o .1) (sym (one-order (on k than) day (o .0) d))

@@ -60,3 +60,9 @@ next n =
 unfoldable pub on : ℕ → ℕ → ℕ
 on zero n = n
 on (suc k) n = on k (next n)
+
+-- the real day of a number, counted on from the first; 0 where all are later, and the last where all are earlier
+unfoldable pub dayOf : ℕ → ℕ
+dayOf n =
+    cond (ltb n (dayNumber 10101)) 0
+    (cond (ltb (dayNumber 99991231) n) 99991231 (on (n - dayNumber 10101) 10101))

@@ -67,6 +67,10 @@ fn apart(name: &[u8], from: u32, to: u32) {
     );
 }
 
+fn day_of(name: &[u8], number: u32) {
+    show(name, days::day_of(number) as u64);
+}
+
 fn days() {
     real(b"real 20240229", 20240229);
     real(b"real 20230229", 20230229);
@@ -83,6 +87,14 @@ fn days() {
     apart(b"20240304 to 20240403", 20240304, 20240403);
     apart(b"19991231 to 20000101", 19991231, 20000101);
     apart(b"20000101 to 20991231", 20000101, 20991231);
+    day_of(b"day of 366", 366);
+    day_of(b"day of 367", 367);
+    day_of(b"day of 730485", 730485);
+    day_of(b"day of 730486", 730486);
+    day_of(b"day of 730545", 730545);
+    day_of(b"day of 730546", 730546);
+    day_of(b"day of 3652425", 3652425);
+    day_of(b"day of 3652426", 3652426);
 }
 
 fn main() {
