@@ -1,16 +1,19 @@
 -- The account is only a way to compute the rules: from the summary of the items above, the step makes the summary with one item
 -- more, and the marks of its heading are those that the rules say.
-use Prim.Native.Nat.{ℕ, _+_, _<_, _≤_, min}
-use mathlib.Core.Path.{_≡_, refl, ap, sym, subst}
+use Prim.Native.Nat.{ℕ, _+_, _-_, _<_, _≤_, min}
+use mathlib.Core.Path.{_≡_, refl, ap, sym, subst, _∙_}
 use mathlib.Core.Bool.{Bool, true, false, cond, not, _&&_, _||_, or-false, and-false, Bool·not-not}
 use mathlib.Core.List.{List, [], _∷_}
+use native.Mathlib.Nat.{add-zero}
 use native.Mathlib.Omega.{arith}
-use lib.Dec.{eqb, ltb}
+use lib.Dec.{eqb, leb, ltb}
 use lib.ListN.{length, getD, set}
-use borrow.Author.Tests.{eqb-true, eq-eqb, ne-eqb, ltb-true, ltb-false, le-ltb}
+use borrow.Author.Tests.{eqb-true, eq-eqb, ne-eqb, ltb-true, ltb-false, le-ltb, le-leb}
 use Rattle.laws.specs.Tests.{among, mark}
 use Rattle.laws.specs.Lists.{sum}
-use Rattle.days.specs.Days.{isReal, dayNumber, later}
+use Rattle.days.specs.Days.{isReal, dayNumber, dayOf}
+use Rattle.days.proofs.Order.{real-parts}
+use Rattle.days.proofs.Reckoning.{not-before, by-limit, by-eleven, none-real}
 use Rattle.headings.specs.declared.Code.{Code}
 use Rattle.headings.specs.declared.Amount.{Amount}
 use Rattle.headings.specs.declared.ItemNo.{ItemNo}
@@ -33,40 +36,63 @@ use Rattle.rules.specs.FieldRules.{untilToday, untilThirty, rule8}
 use Rattle.rules.specs.HeadingRules.{rule11, rule12, rule15}
 use Rattle.rules.specs.BlockRules.{skips, unlike, spanWrong, misstated, statedIn}
 use Rattle.rules.specs.Spots.{ownTests, blockTests}
-use Rattle.blocks.specs.Model.{basisOf, breaks8, breaks11, ownMarks, breaks18, skipsTo, breaks20, breaks21, tellsCapped, misstatedCapped, groupBreaks, groupMarks, openMarks, endingMarks, closingMarks, courseOf, countCap, sumCap}
+use Rattle.blocks.specs.Model.{basisBy, basisOf, breaks8, breaks11, ownMarks, breaks18, skipsTo, breaks20, breaks21, tellsCapped, misstatedCapped, groupBreaks, groupMarks, openMarks, endingMarks, closingMarks, courseOf, countCap, sumCap}
 use Rattle.account.specs.Model.{plusAt, countsAfter, sumsAfter, kcBlock, headingBlock, touchedBlock, emptyBlock, readBlock, readMarks, closeAt, closeModel}
 use Rattle.account.specs.Summary.{priorityFirst, dayFirst, numberFirst, numberLast, ten, summary, marksBy}
 use Rattle.account.proofs.Ten.{cap-cap, get-ten, set-ten, same-ten}
 
--- ---- the accounting day, reckoned once: what `breaks_eleven` and `breaks_eight` say
-not-past : (n days : ℕ) → ltb (n + days) n ≡ false
-not-past n days = le-ltb (n + days) n (omega arith)
+-- ---- days by limits: what `breaks_eleven` and `breaks_eight` say
+-- the last day itself is not after the accounting day; and where it is not real, it is 0
+module _ (n day : ℕ) (e : eqb day (dayOf n) ≡ true) where
+  is-last : day ≡ dayOf n
+  is-last = eqb-true day (dayOf n) e
+
+  not-past : (r : isReal day ≡ true) (days : ℕ) → ltb (n + days) (dayNumber day) ≡ false
+  not-past r days =
+      let s = ltb-false n (dayNumber day) (sym (by-limit day (real-parts day r) n) ∙ le-ltb (dayOf n) day (omega (arith, is-last))) in
+      le-ltb (n + days) (dayNumber day) (omega arith)
+
+  no-day : isReal day ≡ false → day ≡ 0
+  no-day r = is-last ∙ none-real n (sym (ap isReal is-last) ∙ r)
 
 pub same-eleven : (terms : Terms) (h : Heading) → breaks11 (basisOf terms) (h .day) ≡ rule11 terms h
-unfolding breaks11 basisOf
-same-eleven terms h = go (eqb (h .day) (terms .today)) refl
+unfolding breaks11 basisOf basisBy
+same-eleven terms h = go (isReal day) refl (eqb day (dayOf n)) refl
   where
-    go : (t : Bool) → eqb (h .day) (terms .today) ≡ t
-        → cond t (not (isReal (terms .today))) (not (isReal (h .day)) || (later (h .day) (terms .today) 0 || later (terms .today) (h .day) 10))
-        ≡ (not (isReal (h .day)) || (later (h .day) (terms .today) 0 || later (terms .today) (h .day) 10))
-    go true e = rw (eqb-true (h .day) (terms .today) e, not-past (dayNumber (terms .today)) 0, not-past (dayNumber (terms .today)) 10) (sym (or-false (not (isReal (terms .today)))))
-    go false e = refl
+    day : ℕ
+    day = h .day
+
+    n : ℕ
+    n = dayNumber (terms .today)
+
+    go : (r : Bool) → isReal day ≡ r → (t : Bool) → eqb day (dayOf n) ≡ t
+        → cond t (leb day (dayOf (n - 11))) (not r || (ltb (dayOf n) day || leb day (dayOf (n - 11))))
+        ≡ (not r || (ltb (n + 0) (dayNumber day) || ltb (dayNumber day + 10) n))
+    go false q true e = le-leb day (dayOf (n - 11)) (omega (arith, no-day n day e q))
+    go false q false e = refl
+    go true q true e = rw (not-past n day e q 0) (by-eleven day (real-parts day q) n)
+    go true q false e = rw (by-limit day (real-parts day q) n, by-eleven day (real-parts day q) n, add-zero)
 
 pub same-eight : (terms : Terms) (kind day : ℕ) → breaks8 (basisOf terms) kind day ≡ rule8 terms kind day
-unfolding breaks8 basisOf
-same-eight terms kind day = ap (λ (b : Bool). isPayment kind && b) (go (eqb day (terms .today)) refl (among kind untilToday) (among kind untilThirty))
+unfolding breaks8 basisOf basisBy
+same-eight terms kind day = ap (λ (b : Bool). isPayment kind && b) (go (isReal day) refl (eqb day (dayOf n)) refl (among kind untilToday) (among kind untilThirty))
   where
-    go : (t : Bool) → eqb day (terms .today) ≡ t → (u v : Bool)
-        → cond t (not (isReal (terms .today))) (not (isReal day) || ((u && later day (terms .today) 0) || (v && later day (terms .today) 30)))
-        ≡ (not (isReal day) || ((u && later day (terms .today) 0) || (v && later day (terms .today) 30)))
-    go false e u v = refl
-    go true e u v = rw (eqb-true day (terms .today) e, not-past (dayNumber (terms .today)) 0, not-past (dayNumber (terms .today)) 30) (none u v)
-      where
-        none : (u v : Bool) → not (isReal (terms .today)) ≡ (not (isReal (terms .today)) || ((u && false) || (v && false)))
-        none true true = sym (or-false (not (isReal (terms .today))))
-        none true false = sym (or-false (not (isReal (terms .today))))
-        none false true = sym (or-false (not (isReal (terms .today))))
-        none false false = sym (or-false (not (isReal (terms .today))))
+    n : ℕ
+    n = dayNumber (terms .today)
+
+    none : (u v : Bool) → false ≡ ((u && false) || (v && false))
+    none true true = refl
+    none true false = refl
+    none false true = refl
+    none false false = refl
+
+    go : (r : Bool) → isReal day ≡ r → (t : Bool) → eqb day (dayOf n) ≡ t → (u v : Bool)
+        → cond t (eqb day 0) (not r || ((u && ltb (dayOf n) day) || (v && ltb (dayOf (n + 30)) day)))
+        ≡ (not r || ((u && ltb (n + 0) (dayNumber day)) || (v && ltb (n + 30) (dayNumber day))))
+    go false q true e u v = eq-eqb day 0 (no-day n day e q)
+    go false q false e u v = refl
+    go true q true e u v = rw (not-past n day e q 0, not-past n day e q 30) (ne-eqb day 0 (λ z. omega (arith, z, not-before day (real-parts day q))) ∙ none u v)
+    go true q false e u v = rw (by-limit day (real-parts day q) n, by-limit day (real-parts day q) (n + 30), add-zero)
 
 -- ---- each test of the account is the rule's
 same-day : (hs : List Heading) (h : Heading) → breaks18 (not (empty hs)) (dayFirst hs) (h .day) ≡ not (eqb (h .day) (oldest h hs .day))
@@ -230,7 +256,7 @@ module _ (terms : Terms) (above : List Digest) (kc : FirstKc) (span : FirstIn) (
   own-are : (h : Heading)
       → ownMarks (basisOf terms) h kc
       ≡ mark 10 (rule10 h) + mark 11 (rule11 terms h) + mark 12 (rule12 terms h) + mark 13 (rule13 h) + mark 14 (rule14 h) + mark 15 (rule15 h kc)
-  unfolding ownMarks basisOf
+  unfolding ownMarks basisOf basisBy
   own-are h = rw (same-eleven terms h)
 
   marks-open : (h : Heading) → eqb (h .kind) 51 ≡ false

@@ -1,12 +1,12 @@
 -- Model of the code, not part of the statement: what each function of `blocks` computes, one definition for each. The rules of blocks are
 -- asked of a running account here, and not of the items above.
-use Prim.Native.Nat.{ℕ, _+_, _^_}
+use Prim.Native.Nat.{ℕ, _+_, _-_, _^_}
 use mathlib.Core.Bool.{Bool, true, false, cond, not, _&&_, _||_}
 use mathlib.Core.List.{List}
-use lib.Dec.{eqb, ltb}
+use lib.Dec.{eqb, leb, ltb}
 use lib.ListN.{getD}
 use Rattle.laws.specs.Tests.{among, mark}
-use Rattle.days.specs.Days.{isReal, dayNumber}
+use Rattle.days.specs.Days.{isReal, dayNumber, dayOf}
 use Rattle.headings.specs.declared.Code.{Code}
 use Rattle.headings.specs.declared.ItemNo.{ItemNo}
 use Rattle.headings.specs.declared.Heading.{Heading}
@@ -55,22 +55,22 @@ blockOf c counts sums =
     }
 
 -- ---- the rules of one item
+-- the limits by a day's number: the last days up to it, up to thirty days after it, and more than ten days before it
+unfoldable pub basisBy : Code → ℕ → Basis
+basisBy code n = record { code = code; last = dayOf n; thirty = dayOf (n + 30); stale = dayOf (n - 11) }
+
 unfoldable pub basisOf : Terms → Basis
-basisOf terms =
-    record { code = terms .code; day = terms .today; number = dayNumber (terms .today); real = isReal (terms .today) }
+basisOf terms = basisBy (terms .code) (dayNumber (terms .today))
 
 unfoldable pub breaks8 : Basis → ℕ → ℕ → Bool
 breaks8 j kind day =
     isPayment kind
-    && cond (eqb day (j .day)) (not (j .real))
-    (not (isReal day)
-    || ((among kind untilToday && ltb (j .number + 0) (dayNumber day))
-    || (among kind untilThirty && ltb (j .number + 30) (dayNumber day))))
+    && cond (eqb day (j .last)) (eqb day 0)
+    (not (isReal day) || ((among kind untilToday && ltb (j .last) day) || (among kind untilThirty && ltb (j .thirty) day)))
 
 unfoldable pub breaks11 : Basis → ℕ → Bool
 breaks11 j day =
-    cond (eqb day (j .day)) (not (j .real))
-    (not (isReal day) || (ltb (j .number + 0) (dayNumber day) || ltb (dayNumber day + 10) (j .number)))
+    cond (eqb day (j .last)) (leb day (j .stale)) (not (isReal day) || (ltb (j .last) day || leb day (j .stale)))
 
 abbrev pub breaks12 : Basis → Code → Bool
 breaks12 j first = not (eqb (first .0) (j .code .0))

@@ -11,13 +11,14 @@ pub mod groups;
 pub mod marks;
 pub mod own_rules;
 
-// What a file is judged by: the submitter's code and the accounting day, with its day number and whether it is real, which are
-// reckoned once a file.
+// What a file is judged by: the submitter's code, and the limits that the accounting day sets, each a real day (or 0, where there is none
+// so early): the last that is not after it, the last that is at most thirty days after it, and the last that is more than ten days
+// before it. They are reckoned once a file.
 pub struct Basis {
     pub code: Code,
-    pub day: u32,
-    pub number: u32,
-    pub real: bool,
+    pub last: u32,
+    pub thirty: u32,
+    pub stale: u32,
 }
 
 // The running account but for its groups, and what is brought up to date at each heading. Of the file: whether it has a payment yet, and

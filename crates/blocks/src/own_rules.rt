@@ -8,7 +8,10 @@ use crate::marks::MARK_14;
 use crate::marks::MARK_15;
 use crate::marks::flag;
 use days::day_number;
+use days::day_of;
+use days::eleven_back;
 use days::is_real;
+use days::thirty_on;
 use headings::Amount;
 use headings::Code;
 use headings::Heading;
@@ -18,33 +21,55 @@ use headings::head_rules::breaks_thirteen;
 use headings::item_types::is_payment;
 use rules::FirstKc;
 ghost use mathlib.Core.Path.{_≡_};
-ghost use Prim.Native.Nat.{_+_, _<_, _^_};
-ghost use lib.Dec.{ltb};
+ghost use Prim.Native.Nat.{_-_, _≤_, _<_, _^_};
 ghost use Rattle.laws.specs.Tests.{among};
+ghost use Rattle.days.specs.Days.{dayOf};
 ghost use Rattle.rules.specs.Terms.{input};
 ghost use Rattle.rules.specs.FieldRules.{untilToday, untilThirty, rule9};
 ghost use Rattle.rules.specs.HeadingRules.{noKc};
-ghost use Rattle.blocks.specs.Model.{basisOf, breaks8, breaks11, breaks12, breaks15, ownMarks};
+ghost use Rattle.blocks.specs.Model.{basisBy, basisOf, breaks8, breaks11, breaks12, breaks15, ownMarks};
 
-// The accounting day is reckoned once.
-pub fn basis_of(code: Code, day: u32) -> Basis
-    ensures { λ r. ⌜ r ≡ basisOf (input (code .0) day) ⌝ }
+// The last real day that is eleven days before a number, or more.
+fn eleven_less(number: u32) -> u32
+    ensures { λ r. ⌜ r ≡ dayOf (number - 11) ⌝ }
 {
-    let number = day_number(day);
-    let real = is_real(day);
+    if number < 11 {
+        return 0;
+    }
+    day_of(number - 11)
+}
+
+// The limits by a day's number.
+fn basis_by(code: Code, number: u32) -> Basis
+    requires { ⌜ number ≤ 400001000 ⌝ }
+    ensures { λ r. ⌜ r ≡ basisBy code number ⌝ }
+{
+    let last = day_of(number);
+    let thirty = day_of(number + 30);
+    let stale = eleven_less(number);
     Basis {
         code: code,
-        day: day,
-        number: number,
-        real: real,
+        last: last,
+        thirty: thirty,
+        stale: stale,
     }
 }
 
-// A day's number is more than so many days after another.
-fn past(number: u32, than: u32, days: u32) -> bool
-    ensures { λ r. ⌜ r ≡ ltb (than + days) number ⌝ }
+// A real accounting day is the last day itself, and the other limits are a few steps from it.
+pub fn basis_of(code: Code, day: u32) -> Basis
+    ensures { λ r. ⌜ r ≡ basisOf (input (code .0) day) ⌝ }
 {
-    (than as u64) + (days as u64) < (number as u64)
+    if is_real(day) {
+        let thirty = thirty_on(day);
+        let stale = eleven_back(day);
+        return Basis {
+            code: code,
+            last: day,
+            thirty: thirty,
+            stale: stale,
+        };
+    }
+    basis_by(code, day_number(day))
 }
 
 fn until_today(kind: u32) -> bool
@@ -67,21 +92,18 @@ fn until_thirty(kind: u32) -> bool
     (kind == 32) | (kind == 33)
 }
 
-// Rule 8. The accounting day itself, which is the day of nearly every item, is not reckoned again.
+// Rule 8. The last day itself, which is the day of nearly every item, is real where it is one at all.
 pub fn breaks_eight(basis: Basis, kind: u32, day: u32) -> bool
     ensures { λ r. ⌜ r ≡ breaks8 basis kind day ⌝ }
 {
     let paying = is_payment(kind);
-    if day == basis.day {
-        return paying & !basis.real;
+    if day == basis.last {
+        return paying & (day == 0);
     }
     let real = is_real(day);
-    let n = day_number(day);
     let by_today = until_today(kind);
     let by_thirty = until_thirty(kind);
-    let after = past(n, basis.number, 0);
-    let far = past(n, basis.number, 30);
-    paying & (!real | ((by_today & after) | (by_thirty & far)))
+    paying & (!real | ((by_today & (basis.last < day)) | (by_thirty & (basis.thirty < day))))
 }
 
 pub fn breaks_nine(kind: u32, amount: Amount) -> bool
@@ -93,14 +115,10 @@ pub fn breaks_nine(kind: u32, amount: Amount) -> bool
 pub fn breaks_eleven(basis: Basis, day: u32) -> bool
     ensures { λ r. ⌜ r ≡ breaks11 basis day ⌝ }
 {
-    if day == basis.day {
-        return !basis.real;
+    if day == basis.last {
+        return day <= basis.stale;
     }
-    let real = is_real(day);
-    let n = day_number(day);
-    let after = past(n, basis.number, 0);
-    let before = past(basis.number, n, 10);
-    !real | (after | before)
+    !is_real(day) | ((basis.last < day) | (day <= basis.stale))
 }
 
 fn breaks_twelve(basis: Basis, first: Code) -> bool
