@@ -36,7 +36,7 @@ use Rattle.rules.specs.FieldRules.{untilToday, untilThirty, rule8}
 use Rattle.rules.specs.HeadingRules.{rule11, rule12, rule15}
 use Rattle.rules.specs.BlockRules.{skips, unlike, spanWrong, misstated, statedIn}
 use Rattle.rules.specs.Spots.{ownTests, blockTests}
-use Rattle.blocks.specs.Model.{basisBy, basisOf, breaks8, breaks11, ownMarks, breaks18, skipsTo, breaks20, breaks21, tellsCapped, misstatedCapped, groupBreaks, groupMarks, openMarks, endingMarks, closingMarks, courseOf, countCap, sumCap}
+use Rattle.blocks.specs.Model.{basisOf, breaks8, breaks11, ownMarks, breaks18, skipsTo, breaks20, breaks21, tellsCapped, misstatedCapped, groupBreaks, groupMarks, openMarks, endingMarks, closingMarks, courseOf, countCap, sumCap}
 use Rattle.account.specs.Model.{plusAt, countsAfter, sumsAfter, kcBlock, headingBlock, touchedBlock, emptyBlock, readBlock, readMarks, closeAt, closeModel}
 use Rattle.account.specs.Summary.{priorityFirst, dayFirst, numberFirst, numberLast, ten, summary, marksBy}
 use Rattle.account.proofs.Ten.{cap-cap, get-ten, set-ten, same-ten}
@@ -56,7 +56,7 @@ module _ (n day : ℕ) (e : eqb day (dayOf n) ≡ true) where
   no-day r = is-last ∙ none-real n (sym (ap isReal is-last) ∙ r)
 
 pub same-eleven : (terms : Terms) (h : Heading) → breaks11 (basisOf terms) (h .day) ≡ rule11 terms h
-unfolding breaks11 basisOf basisBy
+unfolding breaks11 basisOf
 same-eleven terms h = go (isReal day) refl (eqb day (dayOf n)) refl
   where
     day : ℕ
@@ -74,7 +74,7 @@ same-eleven terms h = go (isReal day) refl (eqb day (dayOf n)) refl
     go true q false e = rw (by-limit day (real-parts day q) n, by-eleven day (real-parts day q) n, add-zero)
 
 pub same-eight : (terms : Terms) (kind day : ℕ) → breaks8 (basisOf terms) kind day ≡ rule8 terms kind day
-unfolding breaks8 basisOf basisBy
+unfolding breaks8 basisOf
 same-eight terms kind day = ap (λ (b : Bool). isPayment kind && b) (go (isReal day) refl (eqb day (dayOf n)) refl (among kind untilToday) (among kind untilThirty))
   where
     n : ℕ
@@ -256,7 +256,7 @@ module _ (terms : Terms) (above : List Digest) (kc : FirstKc) (span : FirstIn) (
   own-are : (h : Heading)
       → ownMarks (basisOf terms) h kc
       ≡ mark 10 (rule10 h) + mark 11 (rule11 terms h) + mark 12 (rule12 terms h) + mark 13 (rule13 h) + mark 14 (rule14 h) + mark 15 (rule15 h kc)
-  unfolding ownMarks basisOf basisBy
+  unfolding ownMarks basisOf
   own-are h = rw (same-eleven terms h)
 
   marks-open : (h : Heading) → eqb (h .kind) 51 ≡ false

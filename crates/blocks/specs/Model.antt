@@ -55,12 +55,11 @@ blockOf c counts sums =
     }
 
 -- ---- the rules of one item
--- the limits by a day's number: the last days up to it, up to thirty days after it, and more than ten days before it
-unfoldable pub basisBy : Code → ℕ → Basis
-basisBy code n = record { code = code; last = dayOf n; thirty = dayOf (n + 30); stale = dayOf (n - 11) }
-
+-- the code, and the last days up to the accounting day's number, up to thirty more, and up to eleven less
 unfoldable pub basisOf : Terms → Basis
-basisOf terms = basisBy (terms .code) (dayNumber (terms .today))
+basisOf terms =
+    let n = dayNumber (terms .today) in
+    record { code = terms .code; last = dayOf n; thirty = dayOf (n + 30); stale = dayOf (n - 11) }
 
 unfoldable pub breaks8 : Basis → ℕ → ℕ → Bool
 breaks8 j kind day =

@@ -9,9 +9,7 @@ use crate::marks::MARK_15;
 use crate::marks::flag;
 use days::day_number;
 use days::day_of;
-use days::eleven_back;
 use days::is_real;
-use days::thirty_on;
 use headings::Amount;
 use headings::Code;
 use headings::Heading;
@@ -27,7 +25,7 @@ ghost use Rattle.days.specs.Days.{dayOf};
 ghost use Rattle.rules.specs.Terms.{input};
 ghost use Rattle.rules.specs.FieldRules.{untilToday, untilThirty, rule9};
 ghost use Rattle.rules.specs.HeadingRules.{noKc};
-ghost use Rattle.blocks.specs.Model.{basisBy, basisOf, breaks8, breaks11, breaks12, breaks15, ownMarks};
+ghost use Rattle.blocks.specs.Model.{basisOf, breaks8, breaks11, breaks12, breaks15, ownMarks};
 
 // The last real day that is eleven days before a number, or more.
 fn eleven_less(number: u32) -> u32
@@ -39,11 +37,11 @@ fn eleven_less(number: u32) -> u32
     day_of(number - 11)
 }
 
-// The limits by a day's number.
-fn basis_by(code: Code, number: u32) -> Basis
-    requires { ⌜ number ≤ 400001000 ⌝ }
-    ensures { λ r. ⌜ r ≡ basisBy code number ⌝ }
+// The limits are reckoned once a file.
+pub fn basis_of(code: Code, day: u32) -> Basis
+    ensures { λ r. ⌜ r ≡ basisOf (input (code .0) day) ⌝ }
 {
+    let number = day_number(day);
     let last = day_of(number);
     let thirty = day_of(number + 30);
     let stale = eleven_less(number);
@@ -53,23 +51,6 @@ fn basis_by(code: Code, number: u32) -> Basis
         thirty: thirty,
         stale: stale,
     }
-}
-
-// A real accounting day is the last day itself, and the other limits are a few steps from it.
-pub fn basis_of(code: Code, day: u32) -> Basis
-    ensures { λ r. ⌜ r ≡ basisOf (input (code .0) day) ⌝ }
-{
-    if is_real(day) {
-        let thirty = thirty_on(day);
-        let stale = eleven_back(day);
-        return Basis {
-            code: code,
-            last: day,
-            thirty: thirty,
-            stale: stale,
-        };
-    }
-    basis_by(code, day_number(day))
 }
 
 fn until_today(kind: u32) -> bool

@@ -8,7 +8,7 @@ use lib.ListN.{getD, take, List·getD-eq-default}
 use lib.Seq.{take-all}
 use lib.Dec.{leb, ltb, eqb, leb→le, eqb→eq}
 use mathlib.Core.Logic.{_⊎_, inl, inr, ⊎-elim}
-use borrow.Author.Tests.{le-leb, ltb-true, ltb-false, eqb-true, eqb-false}
+use borrow.Author.Tests.{le-leb, lt-leb, leb-true, leb-false, ltb-true, ltb-false, eqb-true, eqb-false}
 use Rattle.laws.proofs.Entries.{at}
 use Rattle.laws.proofs.Finite.{at as below-at}
 use Rattle.laws.proofs.Every.{one-fails}
@@ -53,9 +53,18 @@ unfolding row
 all-before true m h = ap sum (sym (take-all (m - 1) (row true) (omega arith)))
 all-before false m h = ap sum (sym (take-all (m - 1) (row false) (omega arith)))
 
--- the length of a month by the days before it and those before the next
-pub by-starts : (b : Bool) (m : ℕ) → 1 ≤ m → sum (take (m + 1 - 1) (row b)) ≡ sum (take (m - 1) (row b)) + getD (row b) (m - 1) 0
-by-starts b m h = let e : m + 1 - 1 ≡ suc (m - 1) = omega arith in rw e (sum-more (row b) (m - 1))
+after-more : (s d l : ℕ) → leb (s + d) (s + l) ≡ leb d l
+after-more s d l = go (leb d l) refl
+  where
+    go : (t : Bool) → leb d l ≡ t → leb (s + d) (s + l) ≡ t
+    go true e = le-leb (s + d) (s + l) (omega (arith, leb-true d l e))
+    go false e = lt-leb (s + d) (s + l) (omega (arith, leb-false d l e))
+
+-- the dates of a month are those that, with the days before it, do not pass the days before the next
+pub by-starts : (b : Bool) (m d : ℕ) → 1 ≤ m → leb (sum (take (m - 1) (row b)) + d) (sum (take (m + 1 - 1) (row b))) ≡ leb d (getD (row b) (m - 1) 0)
+by-starts b m d h =
+    let e : m + 1 - 1 ≡ suc (m - 1) = omega arith in
+    rw (e, sum-more) (after-more (sum (take (m - 1) (row b))) d (getD (row b) (m - 1) 0))
 
 -- the years before, by the usual count of leap years
 abbrev pub closed : ℕ → ℕ

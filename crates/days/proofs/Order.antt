@@ -175,11 +175,11 @@ module _ (n : ℕ) (r : Real n) where
       go false p true q = in-next-month (ltb-false _ _ p) (ltb-true _ _ q)
       go false p false q = in-next-year (ltb-false _ _ p) (ltb-false _ _ q)
 
--- a month has 28 days or more
-pub some-days : (b : Bool) (k : ℕ) → k < 12 → 28 ≤ getD (row b) k 0
+-- a month has a first day
+some-days : (b : Bool) (k : ℕ) → k < 12 → 1 ≤ getD (row b) k 0
 unfolding row
-some-days true k h = leb→le _ _ (at (λ x. leb 28 x) (row true) tt k h)
-some-days false k h = leb→le _ _ (at (λ x. leb 28 x) (row false) tt k h)
+some-days true k h = leb→le _ _ (at (λ x. leb 1 x) (row true) tt k h)
+some-days false k h = leb→le _ _ (at (λ x. leb 1 x) (row false) tt k h)
 
 -- a day that is given by its parts is real
 module _ (y m d : ℕ) (y1 : 1 ≤ y) (y2 : y ≤ 9999) (m1 : 1 ≤ m) (m2 : m ≤ 12) (d1 : 1 ≤ d) (d2 : d ≤ getD (row (isLeap y)) (m - 1) 0) where
@@ -227,10 +227,10 @@ module _ (n : ℕ) (r : Real n) (not-last : n < 99991231) where
       go false p true q =
           let l : monthOf n < 12 = ltb-true _ _ q in
           made-real (yearOf n) (monthOf n + 1) 1 (r .year-from) (r .year-to) (omega arith) (omega arith) (omega arith)
-          (omega (arith, some-days (isLeap (yearOf n)) (monthOf n + 1 - 1) (omega arith)))
+          (some-days (isLeap (yearOf n)) (monthOf n + 1 - 1) (omega arith))
       go false p false q =
           let f : (yearOf n + 1) * 10000 + 101 ≡ (yearOf n + 1) * 10000 + 1 * 100 + 1 = omega arith in
-          rw f (made-real (yearOf n + 1) 1 1 (omega arith) (not-over (ltb-false _ _ p) (ltb-false _ _ q)) (omega arith) (omega arith) (omega arith) (omega (arith, some-days (isLeap (yearOf n + 1)) 0 (omega arith))))
+          rw f (made-real (yearOf n + 1) 1 1 (omega arith) (not-over (ltb-false _ _ p) (ltb-false _ _ q)) (omega arith) (omega arith) (omega arith) (some-days (isLeap (yearOf n + 1)) 0 (omega arith)))
 
 -- the order of the day numbers is the order of the days
 module _ (a b : ℕ) (ra : Real a) (rb : Real b) where

@@ -1,4 +1,4 @@
--- The day of a number: its year and its month as the code finds them, how real days compare with it, and the days near a real one.
+-- The day of a number: its year and its month as the code finds them, and how real days compare with it.
 use mathlib.Core.Path.{_≡_, refl, ap, sym, subst, _∙_}
 use mathlib.Core.Bool.{Bool, true, false, cond, false≢true}
 use mathlib.Core.List.{List, [], _∷_}
@@ -12,9 +12,9 @@ use Rattle.laws.specs.Lists.{sum}
 use Rattle.laws.specs.Tests.{every}
 use Rattle.laws.proofs.Every.{each-holds}
 use Rattle.laws.proofs.Finite.{agree}
-use Rattle.days.specs.Days.{isLeap, row, isReal, daysBefore, dayNumber, yearOf, monthOf, dateOf, monthLength, on, dayOf}
-use Rattle.days.proofs.Calendar.{fewer, years, sum-more, month-le, by-starts}
-use Rattle.days.proofs.Order.{Real, real-parts, parts-real, made-real, made-number, pred-suc, no-later, one-order, short, last-real, days-on, same-day, some-days, sum-take-all}
+use Rattle.days.specs.Days.{isLeap, row, isReal, daysBefore, dayNumber, yearOf, monthOf, monthLength, on, dayOf}
+use Rattle.days.proofs.Calendar.{fewer, years, sum-more, month-le}
+use Rattle.days.proofs.Order.{Real, real-parts, parts-real, made-real, made-number, pred-suc, no-later, one-order, short, last-real, days-on, same-day, sum-take-all}
 
 -- ---- the year: the days before one are those of so many mean years, but for a day or two
 by4 : (y : ℕ) → (y ≤ 4 * ((y + 3) / 4)) × (4 * ((y + 3) / 4) ≤ y + 3)
@@ -207,41 +207,6 @@ pub made-of-rest : (n y m : ℕ) → InYear n y → InMonth (isLeap y) (n - days
 made-of-rest n y m j i =
     let e = rw (pred-suc m (i .0)) at (sum-more (row (isLeap y)) (m - 1)) in
     made y m _ (j .0) (j .1) (i .0) (i .1) (omega (arith, i)) (omega (arith, i, e)) ∙ ap dayOf (omega (arith, i, j))
-
--- ---- the days near a real one, by its parts
-module _ (n : ℕ) (r : Real n) where
-  -- in the next month
-  pub thirty-on : (l : ℕ) → l ≡ monthLength n → monthOf n < 12 → 0 < dateOf n + 30 - l → dateOf n + 30 - l < 29
-      → n + 100 + (dateOf n + 30 - l) - dateOf n ≡ dayOf (dayNumber n + 30)
-  unfolding dayNumber monthLength
-  thirty-on l e m a b =
-      let s = by-starts (isLeap (yearOf n)) (monthOf n) (r .month-from) in
-      let f : n + 100 + (dateOf n + 30 - l) - dateOf n ≡ yearOf n * 10000 + (monthOf n + 1) * 100 + (dateOf n + 30 - l) = omega arith in
-      f
-      ∙ made (yearOf n) (monthOf n + 1) (dateOf n + 30 - l) (r .year-from) (r .year-to) (omega arith) (omega arith) a
-      (omega (arith, some-days (isLeap (yearOf n)) (monthOf n + 1 - 1) (omega arith)))
-      ∙ ap dayOf (omega (arith, s, e))
-
-  -- in the same month
-  pub eleven-back : 11 < dateOf n → n - 11 ≡ dayOf (dayNumber n - 11)
-  unfolding dayNumber monthLength
-  eleven-back h =
-      let f : n - 11 ≡ yearOf n * 10000 + monthOf n * 100 + (dateOf n - 11) = omega arith in
-      f
-      ∙ made (yearOf n) (monthOf n) (dateOf n - 11) (r .year-from) (r .year-to) (r .month-from) (r .month-to) (omega arith) (omega (arith, r .day-to))
-      ∙ ap dayOf (omega arith)
-
-  -- in the month before
-  pub eleven-back-a-month : (l : ℕ) → l ≡ getD (row (isLeap (yearOf n))) (monthOf n - 1 - 1) 0 → dateOf n ≤ 11 → 1 < monthOf n
-      → n + l - 111 ≡ dayOf (dayNumber n - 11)
-  unfolding dayNumber
-  eleven-back-a-month l e h m =
-      let k = some-days (isLeap (yearOf n)) (monthOf n - 1 - 1) (omega (arith, r .month-to)) in
-      let s = rw (pred-suc (monthOf n - 1) (omega arith)) at (sum-more (row (isLeap (yearOf n))) (monthOf n - 1 - 1)) in
-      let f : n + l - 111 ≡ yearOf n * 10000 + (monthOf n - 1) * 100 + (dateOf n + l - 11) = omega (arith, k, e) in
-      f
-      ∙ made (yearOf n) (monthOf n - 1) (dateOf n + l - 11) (r .year-from) (r .year-to) (omega arith) (omega (arith, r .month-to)) (omega (arith, k, e)) (omega (arith, e))
-      ∙ ap dayOf (omega (arith, s, e, k))
 
 -- a number of 32 bits has a day number that leaves room for more
 pub number-le : (n : ℕ) → n < 4294967296 → dayNumber n ≤ 400001000

@@ -1,12 +1,11 @@
-// Days of the Gregorian calendar, each the number YYYYMMDD: which are real, the running number by which days are reckoned, the day of
-// such a number, and the days thirty after and eleven before a real one.
+// Days of the Gregorian calendar, each the number YYYYMMDD: which are real, the running number by which days are reckoned, and the day
+// of such a number.
 // Promised, for every number: the definitions of specs/Days.antt, which count years and months by the two rows of month lengths. The
 // laws say that real days and their numbers have one order, that the next day has the next number, and that a real day compares with
 // the day of a number as its own number does with that one. Stands on `laws` alone.
 ghost use mathlib.Core.Path.{_≡_};
 ghost use Prim.Native.Nat.{suc, _+_, _-_, _≤_, _<_};
-ghost use mathlib.Core.Bool.{true};
-ghost use lib.ListN.{getD, take};
+ghost use lib.ListN.{take};
 ghost use Rattle.laws.specs.Lists.{sum};
 ghost use Rattle.days.specs.Days.{isLeap, row, isReal, daysBefore, dayNumber, dayOf};
 
@@ -34,13 +33,6 @@ fn days_before(leap: bool, month: u32) -> u32
     n
 }
 
-fn month_length(leap: bool, month: u32) -> u32
-    requires { ⌜ (1 ≤ month) × (month < 100) ⌝ }
-    ensures { λ r. ⌜ (r ≡ getD (row leap) (month - 1) 0) × (r ≤ 31) ⌝ }
-{
-    days_before(leap, month + 1) - days_before(leap, month)
-}
-
 pub fn is_real(day: u32) -> bool
     ensures { λ r. ⌜ r ≡ isReal day ⌝ }
 {
@@ -63,7 +55,7 @@ pub fn is_real(day: u32) -> bool
         return false;
     }
     let leap = is_leap(year);
-    date <= month_length(leap, month)
+    days_before(leap, month) + date <= days_before(leap, month + 1)
 }
 
 // The days of the years before one.
@@ -126,35 +118,4 @@ pub fn day_of(number: u32) -> u32
     let leap = is_leap(year);
     let month = month_of(leap, rest);
     year * 10000 + month * 100 + (rest - days_before(leap, month))
-}
-
-// The real day thirty days after a real one; mostly in the next month, and then nothing is reckoned by numbers.
-pub fn thirty_on(day: u32) -> u32
-    requires { ⌜ isReal day ≡ true ⌝ }
-    ensures { λ r. ⌜ r ≡ dayOf (dayNumber day + 30) ⌝ }
-{
-    let month = day / 100 % 100;
-    let date = day % 100;
-    let leap = is_leap(day / 10000);
-    let then = date + 30 - month_length(leap, month);
-    if (month < 12) & (0 < then) & (then < 29) {
-        return day + 100 + then - date;
-    }
-    day_of(day_number(day) + 30)
-}
-
-// The real day eleven days before a real one: in the same month, in the one before, or in the year before.
-pub fn eleven_back(day: u32) -> u32
-    requires { ⌜ isReal day ≡ true ⌝ }
-    ensures { λ r. ⌜ r ≡ dayOf (dayNumber day - 11) ⌝ }
-{
-    let month = day / 100 % 100;
-    if 11 < day % 100 {
-        return day - 11;
-    }
-    if 1 < month {
-        let leap = is_leap(day / 10000);
-        return day + month_length(leap, month - 1) - 111;
-    }
-    day_of(day_number(day) - 11)
 }
