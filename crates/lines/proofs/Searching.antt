@@ -15,7 +15,7 @@ use Rattle.laws.proofs.Any.{weaker}
 use Rattle.text.specs.Characters.{isPlain, isOdd}
 use Rattle.lines.specs.Lines.{isByte, crlf}
 use Rattle.lines.specs.Reading.{after, lineAt}
-use Rattle.lines.specs.Words.{bytesOf, each, isControl, controlBit, oddByte, flagged}
+use Rattle.lines.specs.Words.{bytesOf, isControl, isAbove, Tells, Marks, flagged}
 use Rattle.lines.proofs.Reading.{line-more, line-block}
 use Rattle.lines.proofs.Words.{odds-flagged, flagged-or, none-hit, FirstControl, first-control}
 
@@ -24,7 +24,7 @@ no-cr : (b : ℕ) → isControl b ≡ false → isByte 0x0d b ≡ false
 no-cr b e = ne-eqb b 0x0d (λ q. true≢false (ap isControl (sym q) ∙ e))
 
 -- the eight bytes at i, as a word, its marks and its odd bytes
-module _ (s : List ℕ) (i w z o odd : ℕ) (fits : i + 8 ≤ length s) (holds : bytesOf 8 w ≡ take 8 (drop i s)) (ez : z ≡ each controlBit 8 w) (eo : o ≡ each oddByte 8 w) where
+module _ (s : List ℕ) (i w z o odd : ℕ) (fits : i + 8 ≤ length s) (holds : bytesOf 8 w ≡ take 8 (drop i s)) (marks : Marks w z) (tells : Tells isAbove 8 w o) where
   -- a front of them was looked at
   past : (n m : ℕ) → n ≤ 8 → anyOf isControl (take n (drop i s)) ≡ false → flagged m ≡ anyOf isOdd (take n (drop i s))
       → after (flagged odd) (lineAt s i) ≡ after (flagged (bitOr odd m)) (lineAt s (i + n))
@@ -36,8 +36,8 @@ module _ (s : List ℕ) (i w z o odd : ℕ) (fits : i + 8 ≤ length s) (holds :
   -- none
   pub all-clear : z ≡ 0 → after (flagged odd) (lineAt s i) ≡ after (flagged (bitOr odd o)) (lineAt s (i + 8))
   all-clear e =
-      let n : each controlBit 8 w ≡ 0 = sym ez ∙ e in
-      past 8 o (omega arith) (ap (anyOf isControl) (sym holds) ∙ none-hit w n) (ap flagged eo ∙ odds-flagged w n ∙ ap (anyOf isOdd) holds)
+      let n : anyOf isControl (bytesOf 8 w) ≡ false = none-hit w z marks e in
+      past 8 o (omega arith) (ap (anyOf isControl) (sym holds) ∙ n) (odds-flagged w o tells n ∙ ap (anyOf isOdd) holds)
 
   -- one among them: its place, and that what stands before it was looked at
   module _ (some : z ≡ 0 → ⊥) where
@@ -47,8 +47,8 @@ module _ (s : List ℕ) (i w z o odd : ℕ) (fits : i + 8 ≤ length s) (holds :
     abbrev m : ℕ
     m = bitXor z (z - 1) / 2
 
-    f : FirstControl w z k m
-    f = first-control w z ez some
+    f : FirstControl w o k m
+    f = first-control w z o marks tells some
 
     pub hit-inside : k < 8
     hit-inside = f .inside
@@ -65,7 +65,7 @@ module _ (s : List ℕ) (i w z o odd : ℕ) (fits : i + 8 ≤ length s) (holds :
     hit-passed =
         past k (bitAnd o m) (omega (arith, hit-inside))
         (ap (anyOf isControl) (sym front) ∙ f .clear)
-        (ap (λ (y : ℕ). flagged (bitAnd y m)) eo ∙ f .kept ∙ ap (anyOf isOdd) front)
+        (f .kept ∙ ap (anyOf isOdd) front)
 
 -- a byte below 20 where no CR LF stands is an odd byte of its line
 below-plain : (b : ℕ) → isControl b ≡ true → isPlain b ≡ false

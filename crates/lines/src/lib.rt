@@ -9,7 +9,7 @@ ghost use Rattle.laws.specs.Lists.{anyOf};
 ghost use Rattle.lines.specs.Lines.{isByte, body, crlf};
 ghost use Rattle.lines.specs.Blocks.{clear};
 ghost use Rattle.lines.specs.Reading.{restTo, after, lineAt};
-ghost use Rattle.lines.specs.Words.{bytesOf, each, controlBit, oddByte, flagged};
+ghost use Rattle.lines.specs.Words.{bytesOf, isAbove, Tells, Marks, flagged};
 
 // Whether b stands in s. A loop that only sets a flag is compiled to wide compares; one that stops early is not.
 fn holds(s: &[u8], b: u8) -> bool
@@ -122,15 +122,12 @@ fn line_by_bytes(s: &[u8], at: usize, before: bool) -> Found
     rest_to(n, odd | !text::characters::is_plain(s[i]))
 }
 
-// Words of one byte eight times: the high bit; the seven others; 01, which makes 7F reach the high bit; 9F, from which only 00 to 1F
-// leave it.
+// Words of one byte eight times: the high bit; 01, which makes 7F reach it; 20, for which only a byte below it borrows.
 const HIGH: u64 = 0x8080_8080_8080_8080;
-
-const REST: u64 = 0x7f7f_7f7f_7f7f_7f7f;
 
 const ONES: u64 = 0x0101_0101_0101_0101;
 
-const TOPS: u64 = 0x9f9f_9f9f_9f9f_9f9f;
+const SPACES: u64 = 0x2020_2020_2020_2020;
 
 fn wide(b: u8) -> u64
     ensures { λ r. ⌜ r ≡ b ⌝ }
@@ -153,18 +150,19 @@ pub fn word(s: &[u8], i: usize) -> u64
         | (wide(s[i + 7]) << 56)
 }
 
-// The high bit of each byte of a word that is below 20, as CR is: no difference of 9F and seven bits borrows from the next byte.
+// High bits alone: the first is that of the first byte of w below 20, as CR is. That one borrows from the next, so the bits after it say
+// nothing.
 fn controls(w: u64) -> u64
-    ensures { λ r. ⌜ r ≡ each controlBit 8 w ⌝ }
+    ensures { λ r. ⌜ Marks w r ⌝ }
 {
-    ((TOPS - (w & REST)) & (w ^ HIGH)) & HIGH
+    (std::num::wrapping_sub_u64(w, SPACES) & (w ^ HIGH)) & HIGH
 }
 
-// A word whose bytes have the high bit where those of w are above 7E; the other bits say nothing.
+// A word whose first high bit is that of the first byte of w above 7E. Only FF carries into the next, and it is above 7E itself.
 fn odds(w: u64) -> u64
-    ensures { λ r. ⌜ r ≡ each oddByte 8 w ⌝ }
+    ensures { λ r. ⌜ Tells isAbove 8 w r ⌝ }
 {
-    ((w & REST) + ONES) | w
+    std::num::wrapping_add_u64(w, ONES) | w
 }
 
 // Whether a byte of a word has its high bit.
@@ -195,9 +193,9 @@ fn ends_at(s: &[u8], i: usize) -> bool
     false
 }
 
-// The line at a place; at or past the end it is an empty rest at that place. Eight bytes are looked at as one word: `z` has the high bit
-// of each among them that is below 20. In a clean file that is CR alone, so these are searched for and not CR, which takes more
-// instructions; before the first of them a byte is odd where it is above 7E. The last seven bytes are looked at one by one.
+// The line at a place; at or past the end it is an empty rest at that place. Eight bytes are looked at as one word: the first bit of `z`
+// is in the first among them that is below 20. In a clean file that is a CR, so such bytes are searched for and not CR, which takes more
+// instructions; before that one a byte is odd where it is above 7E. The last seven bytes are looked at one by one.
 pub fn line_at(s: &[u8], at: usize) -> Found
     ensures { λ r. ⌜ r ≡ lineAt (now (s .entry)) at ⌝ }
 {

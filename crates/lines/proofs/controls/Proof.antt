@@ -1,12 +1,13 @@
-use Rattle.lines.proofs.Words.{less-fits, controls-are}
+use borrow.Author.Needs.{needs}
+use Rattle.lines.proofs.Words.{controls-are}
 use Rattle.lines.proofs.controls.Statement.{statement}
 use Rattle.lines.proofs.controls.Tie as tie
 
-sub-result : tie.Need-sub-result
-sub-result c = less-fits _ (c .fits .w .fits)
+wrapping-sub-u64-requires : tie.Need-wrapping-sub-u64-requires
+wrapping-sub-u64-requires c κs = search needs
 
 returns : tie.Need-returns
-returns c = controls-are _ (c .fits .w .fits)
+returns c = controls-are _ _ (c .wrapping-sub-u64 .ensures)
 
 pub controls-spec : {M : Type 1} → statement M
-controls-spec = tie.close (tie.spec sub-result returns)
+controls-spec = tie.close (tie.spec wrapping-sub-u64-requires returns)

@@ -1,12 +1,13 @@
-use Rattle.lines.proofs.Words.{more-fits, odds-are}
+use borrow.Author.Needs.{needs}
+use Rattle.lines.proofs.Words.{odds-are}
 use Rattle.lines.proofs.odds.Statement.{statement}
 use Rattle.lines.proofs.odds.Tie as tie
 
-add-result : tie.Need-add-result
-add-result c = record { fits = more-fits _ (c .fits .w .fits) }
+wrapping-add-u64-requires : tie.Need-wrapping-add-u64-requires
+wrapping-add-u64-requires c κs = search needs
 
 returns : tie.Need-returns
-returns c = odds-are _ (c .fits .w .fits)
+returns c = odds-are _ _ (c .wrapping-add-u64 .ensures)
 
 pub odds-spec : {M : Type 1} → statement M
-odds-spec = tie.close (tie.spec add-result returns)
+odds-spec = tie.close (tie.spec wrapping-add-u64-requires returns)
