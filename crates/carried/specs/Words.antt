@@ -13,7 +13,7 @@ use Rattle.blocks.specs.declared.Block.{Block}
 use Rattle.items.specs.Claims.{noSum}
 use Rattle.judging.specs.declared.opening.Open.{Open}
 use Rattle.judging.specs.declared.opening.Pend.{Pend}
-use Rattle.judging.specs.declared.Wait.{Wait}
+use Rattle.closing.specs.declared.Wait.{Wait}
 use Rattle.shutting.specs.declared.Starts.{Starts}
 use Rattle.pass.specs.declared.Pass.{Pass}
 use Rattle.carried.specs.declared.flats.Flat.{Flat}

@@ -11,11 +11,11 @@
 // In `small` stands of each enum which variant it is, and of a bool 0 or 1. Promised: what `words_of` gives of a pass reads back as that
 // pass, whatever it is; and `pass_of` reads any numbers. Stands on the crates whose values these are; it judges nothing.
 use blocks::Block;
+use closing::Wait;
 use flats::Flat;
 use headings::Code;
 use headings::Heading;
 use headings::ItemNo;
-use judging::Wait;
 use judging::opening::Open;
 use judging::opening::Pend;
 use ledger::Ledger;

@@ -28,7 +28,7 @@ use Rattle.items.proofs.Firsts.{claimsOf, grownClaims, groups-same, claim-at}
 use Rattle.judging.specs.declared.opening.Open.{Open}
 use Rattle.judging.specs.declared.opening.Pend.{Pend}
 use Rattle.judging.specs.Opening.{breaksTail, fitsBy, saidClosed, spanClosed, statedClosed, ownClaims, closeClaims, pendOf}
-use Rattle.judging.proofs.Shutting.{claimsLater}
+use Rattle.closing.proofs.Shutting.{claimsLater}
 use Rattle.judging.proofs.OpenField.{says-more, says-same, says-own, openOf, fits-is}
 
 -- ---- which fields claim when they close

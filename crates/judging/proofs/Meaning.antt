@@ -32,19 +32,19 @@ use Rattle.ledger.proofs.Insertion.{insertAll-append}
 use Rattle.ledger.proofs.Entries.{putAll, putAll-append, put}
 use Rattle.blocks.specs.declared.Block.{Block}
 use Rattle.blocks.specs.Model.{basisOf}
-use Rattle.items.specs.Claims.{Claims}
-use Rattle.items.specs.Claims.{noClaims}
+use Rattle.items.specs.Claims.{Claims, noClaims}
 use Rattle.items.proofs.Ideal.{start, early, atHead, atField, closed, push, waits, out, final, Pieces}
 use Rattle.items.proofs.Turned.{continued-closed}
 use Rattle.items.proofs.Firsts.{no-kc-is, claimsOf, no-claims-is}
 use Rattle.items.proofs.Puts.{above, aboveThen, fieldsOut, itemsOut, field-puts, head-puts, final-puts}
-use Rattle.judging.specs.declared.Wait.{Wait}
+use Rattle.closing.specs.declared.Wait.{Wait}
 use Rattle.judging.specs.declared.opening.Open.{Open}
 use Rattle.judging.specs.declared.opening.Pend.{Pend}
-use Rattle.judging.specs.Closing.{Ended, lastMarks, closeAs, closeFaults}
+use Rattle.closing.specs.Closing.{Ended, lastMarks, closeAs, closeFaults}
 use Rattle.judging.specs.Opening.{saidMarks, noOpen, lowOpen, ownClaims, closeClaims, pendOf, openOwn, openLoose, lowMarksAt}
-use Rattle.judging.proofs.Sets.{lineMarks, lowMarks, low-set}
-use Rattle.judging.proofs.Shutting.{accountOf, wait, last-out, item-says, Positive, claimsLater, ownOf, shutOf, readNow, no-zero, sinceOf}
+use Rattle.closing.proofs.Sets.{lineMarks}
+use Rattle.judging.proofs.Sets.{lowMarks, low-set}
+use Rattle.closing.proofs.Shutting.{accountOf, wait, last-out, item-says, Positive, claimsLater, ownOf, shutOf, readNow, no-zero, sinceOf}
 use Rattle.judging.proofs.OpenField.{openAt, openOf, low-open, early-open, field-open, close-open}
 use Rattle.judging.proofs.Claimed.{claimsNow, Pending, claims-low, claims-close, claims-own, pending-own, pending-low, headed}
 

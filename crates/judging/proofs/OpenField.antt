@@ -39,8 +39,9 @@ use Rattle.items.proofs.Turned.{says-closed}
 use Rattle.items.proofs.Puts.{fieldsOut}
 use Rattle.judging.specs.declared.opening.Open.{Open}
 use Rattle.judging.specs.Opening.{kcMarks, breaksTail, noOpen, brokenBy, moreOpen, lowOpen, fitsBy, partyMarks, saidMarks, lateBy}
-use Rattle.judging.proofs.Sets.{lineMarks, fieldMarks, field-set, looseMarks, loose-set}
-use Rattle.judging.proofs.Shutting.{put-none, Positive}
+use Rattle.closing.proofs.Sets.{lineMarks}
+use Rattle.judging.proofs.Sets.{fieldMarks, field-set, looseMarks, loose-set}
+use Rattle.closing.proofs.Shutting.{put-none, Positive}
 
 -- ---- a class as a number says whether a tail breaks it
 abbrev breaksAs : Class → ℕ → ℕ → Bool

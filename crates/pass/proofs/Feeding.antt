@@ -39,12 +39,12 @@ use Rattle.blocks.specs.declared.Block.{Block}
 use Rattle.blocks.specs.declared.Course.{Course}
 use Rattle.blocks.specs.Model.{basisOf, courseOf, blockOf}
 use Rattle.items.specs.Claims.{noSums, kcOwn}
-use Rattle.judging.specs.declared.Wait.{Wait}
+use Rattle.closing.specs.declared.Wait.{Wait}
 use Rattle.judging.specs.declared.opening.Open.{Open}
 use Rattle.judging.specs.declared.opening.Pend.{Pend}
 use Rattle.judging.specs.Opening.{noOpen, moreOpen, lowOpen, readAs, headingIn, spanClosed, statedClosed, closeClaims, pendOf, openOwn, openLoose, lowMarksAt}
-use Rattle.judging.specs.Closing.{closeAs, closeFaults}
-use Rattle.judging.proofs.Sets.{lineMarks}
+use Rattle.closing.specs.Closing.{closeAs, closeFaults}
+use Rattle.closing.proofs.Sets.{lineMarks}
 use Rattle.pass.specs.declared.Pass.{Pass}
 use Rattle.shutting.specs.Starts.{Stands, WaitsAt}
 use Rattle.pass.specs.Standing.{claimsIn, Bounded, Standing, Alike, InPlace, Fed}

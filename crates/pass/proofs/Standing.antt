@@ -42,12 +42,12 @@ use Rattle.items.specs.Claims.{Claims, claimsAs, noSums, kcOwn}
 use Rattle.items.proofs.Ideal.{start, push, out, final}
 use Rattle.items.proofs.Order.{run, emitted}
 use Rattle.items.proofs.Firsts.{no-claims-is}
-use Rattle.judging.specs.declared.Wait.{Wait}
+use Rattle.closing.specs.declared.Wait.{Wait}
 use Rattle.judging.specs.declared.opening.Open.{Open}
 use Rattle.judging.specs.declared.opening.Pend.{Pend}
 use Rattle.judging.specs.Opening.{noOpen, moreOpen, lowOpen, readAs, headingIn, ownClaims, spanClosed, statedClosed, closeClaims, pendOf, openOwn, openLoose, lowMarksAt}
-use Rattle.judging.specs.Closing.{lastMarks, closeAs, closeFaults}
-use Rattle.judging.proofs.Sets.{lineMarks}
+use Rattle.closing.specs.Closing.{lastMarks, closeAs, closeFaults}
+use Rattle.closing.proofs.Sets.{lineMarks}
 use Rattle.judging.proofs.Meaning.{Means, low-out, field-out, head-out, final-out, means-low, means-field, means-head}
 use Rattle.pass.specs.declared.Pass.{Pass}
 use Rattle.shutting.specs.Starts.{Stands, WaitsAt}

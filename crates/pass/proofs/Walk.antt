@@ -39,14 +39,14 @@ use Rattle.blocks.specs.Model.{courseOf, blockOf, groupMarks}
 use Rattle.account.specs.Model.{groupsOn}
 use Rattle.items.specs.Claims.{Claims, kcOwn}
 use Rattle.items.proofs.Ideal.{Pieces}
-use Rattle.judging.specs.declared.Wait.{Wait}
+use Rattle.closing.specs.declared.Wait.{Wait}
 use Rattle.judging.specs.declared.opening.Open.{Open}
 use Rattle.judging.specs.declared.opening.Pend.{Pend}
 use Rattle.judging.specs.Opening.{lineMarksOf, readAs, headingIn, spanClosed, statedClosed, pendOf}
-use Rattle.judging.specs.Closing.{Ended, closeAs, closeFaults, closeBy, byFaults, countsBy, sumsBy}
+use Rattle.closing.specs.Closing.{Ended, closeAs, closeFaults, closeBy, byFaults, countsBy, sumsBy}
 use Rattle.judging.proofs.Cases.{not-kc}
-use Rattle.judging.proofs.ByParts.{whole, close-parts}
-use Rattle.judging.proofs.Sets.{lineMarks}
+use Rattle.closing.proofs.ByParts.{whole, close-parts}
+use Rattle.closing.proofs.Sets.{lineMarks}
 use Rattle.judging.proofs.Meaning.{Means}
 
 -- no more is entered at once than leaves room to count on

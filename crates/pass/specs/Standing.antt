@@ -31,7 +31,7 @@ use Rattle.items.proofs.Ideal.{start, Pieces}
 use Rattle.items.proofs.Order.{run}
 use Rattle.judging.specs.declared.opening.Open.{Open}
 use Rattle.judging.specs.Opening.{noOpen, moreOpen, noPend, readAs}
-use Rattle.judging.specs.Closing.{noWait}
+use Rattle.closing.specs.Closing.{noWait}
 use Rattle.judging.proofs.Meaning.{Means}
 use Rattle.pass.specs.declared.Pass.{Pass}
 use Rattle.shutting.specs.Starts.{Stands}

@@ -3,10 +3,11 @@
 // Promised by `enter_faults`, for every body of at most 10,000,000 bytes and three lent slices of equal length: the slices and the
 // total are those of `faultsIn` of `rules`, beside each fault the offset of its line. It is `start`, one `feed` of the whole body and
 // `finish`; fed one text after the other the pass goes on where it stood, and what it holds means the same (specs/Standing.antt).
-// It judges no rule: lines, fields and items are judged by `judging`, and entered as they close by `shutting`. The list stands in `ledger`,
+// It judges no rule: lines and fields are judged by `judging`, items by `closing`, and entered as they close by `shutting`. The list stands in `ledger`,
 // the cut in `lines`, the table of characters in `text`.
 use blocks::Basis;
 use blocks::Block;
+use closing::Wait;
 use fields::classes;
 use fields::kinds;
 use fields::kinds::Kind;
@@ -15,8 +16,6 @@ use headings::Code;
 use headings::Heading;
 use headings::ItemNo;
 use items::claiming;
-use judging::Wait;
-use judging::closing;
 use judging::marking;
 use judging::opening;
 use judging::opening::Open;

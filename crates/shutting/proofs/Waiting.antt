@@ -17,8 +17,8 @@ use Rattle.ledger.specs.Slices.{Entered}
 use Rattle.blocks.specs.declared.Basis.{Basis}
 use Rattle.blocks.specs.declared.Course.{Course}
 use Rattle.account.specs.Model.{closeCourse}
-use Rattle.judging.specs.declared.Wait.{Wait}
-use Rattle.judging.specs.Closing.{shutBy, closeBy}
+use Rattle.closing.specs.declared.Wait.{Wait}
+use Rattle.closing.specs.Closing.{shutBy, closeBy}
 use Rattle.shutting.specs.declared.Starts.{Starts}
 use Rattle.shutting.specs.Starts.{Stands, WaitsAt, startOf}
 

@@ -1,13 +1,12 @@
 // What the pass does with lent memory. What is open closes: the field, and the item with its heading and the one that waits for rule 16 are
 // entered in the lent slices, each beside where its line starts; and an array keeps at which line each identifier last stood. Promised:
-// what is entered is what `byFaults` of `judging` says, and the third slice stays a function of the lines. It stands on `judging` and
+// what is entered is what `byFaults` of `closing` says, and the third slice stays a function of the lines. It stands on `closing`, `judging` and
 // `ledger`.
 use blocks::Basis;
 use blocks::Course;
+use closing::Wait;
 use headings::Heading;
 use headings::Read;
-use judging::Wait;
-use judging::closing;
 use judging::opening;
 use judging::opening::Open;
 use ledger::Ledger;
@@ -20,7 +19,7 @@ ghost use lib.Dec.{ltb};
 ghost use lib.ListN.{length, getD, set, replicate};
 ghost use Rattle.ledger.specs.Slices.{Ready, Entered, Kept};
 ghost use Rattle.ledger.specs.Marks.{marked};
-ghost use Rattle.judging.specs.Closing.{closeBy, byFaults, countsBy, sumsBy};
+ghost use Rattle.closing.specs.Closing.{closeBy, byFaults, countsBy, sumsBy};
 ghost use Rattle.judging.specs.Opening.{readAs};
 ghost use Rattle.shutting.specs.Starts.{Stands, WaitsAt, startOf};
 

@@ -16,7 +16,7 @@ use Rattle.blocks.specs.Model.{blockOf}
 use Rattle.account.specs.Model.{groupsOn}
 use Rattle.items.specs.Claims.{claimsAs}
 use Rattle.judging.specs.Opening.{lowOpen, readAs, spanClosed, statedClosed, closeClaims}
-use Rattle.judging.proofs.Sets.{lineMarks}
+use Rattle.closing.proofs.Sets.{lineMarks}
 use Rattle.shutting.proofs.Waiting.{entered-list}
 use Rattle.pass.proofs.Walk.{own-at, claims-kept, groups-took, groups-left, shut-block, shut-wait, shut-faults, own-above, own-inside, own-plain, ident-few}
 use Rattle.pass.proofs.Feeding.{Feeding, bounded-room, bounded-tail, feed-start, feed-close, feed-end, feed-other, feed-more, feed-field, feed-head}

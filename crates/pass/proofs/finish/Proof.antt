@@ -9,7 +9,7 @@ use Rattle.ledger.proofs.Entering.{entered-both}
 use Rattle.account.specs.Model.{groupsOn}
 use Rattle.items.specs.Claims.{claimsAs}
 use Rattle.judging.specs.Opening.{readAs, closeClaims}
-use Rattle.judging.specs.Closing.{lastMarks}
+use Rattle.closing.specs.Closing.{lastMarks}
 use Rattle.shutting.proofs.Waiting.{entered-list}
 use Rattle.pass.specs.Standing.{claimsIn}
 use Rattle.pass.proofs.Walk.{close-few, groups-took, groups-left, end-any, end-wait, end-faults}

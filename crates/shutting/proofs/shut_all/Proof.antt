@@ -2,7 +2,7 @@ use mathlib.Core.Path.{sym, _∙_}
 use native.Mathlib.Omega.{arith}
 use Rattle.ledger.proofs.Marks.{marked-few}
 use Rattle.ledger.proofs.Entering.{entered-both}
-use Rattle.judging.specs.Closing.{closeBy, byFaults}
+use Rattle.closing.specs.Closing.{closeBy, byFaults}
 use Rattle.shutting.proofs.Waiting.{entered-list}
 use Rattle.shutting.proofs.shut_all.Statement.{statement}
 use borrow.Author.Needs.{needs}

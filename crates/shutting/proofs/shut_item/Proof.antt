@@ -2,7 +2,7 @@ use mathlib.Core.Path.{sym, ap, _∙_}
 use native.Mathlib.Omega.{arith}
 use Rattle.ledger.specs.Marks.{marked}
 use Rattle.ledger.proofs.Entering.{entered-both}
-use Rattle.judging.specs.declared.Shut.{Shut}
+use Rattle.closing.specs.declared.Shut.{Shut}
 use Rattle.shutting.proofs.Waiting.{entered-list, waits-at}
 use Rattle.shutting.proofs.shut_item.Statement.{statement}
 use borrow.Author.Needs.{needs}

@@ -1,8 +1,8 @@
 use native.Mathlib.Omega.{arith}
-use Rattle.judging.specs.Closing.{lastMarks}
-use Rattle.judging.proofs.closing.last_marks.Statement.{statement}
+use Rattle.closing.specs.Closing.{lastMarks}
+use Rattle.closing.proofs.last_marks.Statement.{statement}
 use borrow.Author.Needs.{needs}
-use Rattle.judging.proofs.closing.last_marks.Tie as tie
+use Rattle.closing.proofs.last_marks.Tie as tie
 
 add-flag : tie.Need-add-flag
 add-flag c = search needs

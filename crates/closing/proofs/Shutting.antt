@@ -30,10 +30,10 @@ use Rattle.items.proofs.Ideal.{headAs, ends, fresh, start, early, atHead, atFie
 use Rattle.items.proofs.Puts.{above, aboveThen, itemsOut}
 use Rattle.items.proofs.Turned.{first-closed}
 use Rattle.items.proofs.Firsts.{claimsOf}
-use Rattle.judging.specs.declared.Wait.{Wait}
-use Rattle.judging.specs.Closing.{Ended, noWait, shut, shutAs, digestOf, closeAs, lastMarks}
-use Rattle.judging.proofs.Sets.{lineMarks, headMarks, head-set}
-use Rattle.judging.proofs.Within.{digest-within}
+use Rattle.closing.specs.declared.Wait.{Wait}
+use Rattle.closing.specs.Closing.{Ended, noWait, shut, shutAs, digestOf, closeAs, lastMarks}
+use Rattle.closing.proofs.Sets.{lineMarks, headMarks, head-set}
+use Rattle.closing.proofs.Within.{digest-within}
 
 pub no-zero : (n : ℕ) → 0 < n → eqb n 0 ≡ false
 no-zero n h = ne-eqb n 0 (λ z. omega arith)

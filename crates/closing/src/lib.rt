@@ -1,6 +1,7 @@
-// An item closes: the course of its block, its heading's marks, and the heading that waits for rule 16.
-use crate::Shut;
-use crate::Wait;
+// An item closes: the course of its block, its heading's marks, and the heading that waits for rule 16. Each function promises its result
+// by a definition of specs/Closing.antt, for every input; the rules at headings come from `blocks` by way of `lending`. The laws join what
+// is kept to the tree (proofs/Shutting.antt): what is entered of headings is what `rules` declares.
+// Stands on `blocks`, `account` and `lending`, and on `items` for the pass that is told without code.
 use account::Outline;
 use blocks::Basis;
 use blocks::Course;
@@ -17,7 +18,22 @@ ghost use Prim.Native.Nat.{_+_, _-_, _≤_, _<_, _^_};
 ghost use Rattle.laws.specs.Tests.{mark};
 ghost use Rattle.rules.specs.Said.{isUnreadable};
 ghost use Rattle.blocks.specs.Model.{groupMarks};
-ghost use Rattle.judging.specs.Closing.{noWait, lastMarks, closeBy};
+ghost use Rattle.closing.specs.Closing.{noWait, lastMarks, closeBy};
+
+// The first heading of the open block with its marks, which waits for rule 16.
+pub struct Wait {
+    pub line: u32,
+    pub marks: u64,
+}
+
+// The course of the account after an item, and who waits then; the marks of the one who waited, where the block ends; the heading's own
+// marks, where they are complete. The groups of the account are counted in apart, where they are lent.
+pub struct Shut {
+    pub course: Course,
+    pub wait: Wait,
+    pub told: u64,
+    pub marks: u64,
+}
 
 pub fn no_wait() -> Wait
     ensures { λ r. ⌜ r ≡ noWait ⌝ }

@@ -15,9 +15,9 @@ use Rattle.blocks.specs.Model.{blockOf}
 use Rattle.account.specs.Model.{closeCourse, countsOn, sumsOn, groupsOn}
 use Rattle.account.proofs.Parts.{by-parts}
 use Rattle.items.specs.Claims.{Claims}
-use Rattle.judging.specs.declared.Wait.{Wait}
-use Rattle.judging.specs.declared.Shut.{Shut}
-use Rattle.judging.specs.Closing.{Ended, shutAs, shutBy, closeAs, closeBy, countsBy, sumsBy}
+use Rattle.closing.specs.declared.Wait.{Wait}
+use Rattle.closing.specs.declared.Shut.{Shut}
+use Rattle.closing.specs.Closing.{Ended, shutAs, shutBy, closeAs, closeBy, countsBy, sumsBy}
 
 -- a course that has closed, with groups beside it
 abbrev pub whole : Shut → List ℕ → List ℕ → Ended

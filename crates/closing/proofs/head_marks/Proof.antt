@@ -1,7 +1,7 @@
 use native.Mathlib.Omega.{arith}
 use borrow.Author.Needs.{needs}
-use Rattle.judging.proofs.closing.head_marks.Statement.{statement}
-use Rattle.judging.proofs.closing.head_marks.Tie as tie
+use Rattle.closing.proofs.head_marks.Statement.{statement}
+use Rattle.closing.proofs.head_marks.Tie as tie
 
 is-unreadable-requires : tie.Need-is-unreadable-requires
 is-unreadable-requires c κs = search needs

@@ -17,8 +17,8 @@ use Rattle.blocks.specs.declared.Block.{Block}
 use Rattle.blocks.specs.declared.Course.{Course}
 use Rattle.account.specs.Model.{closeModel, closeCourse, countsOn, sumsOn}
 use Rattle.items.specs.Claims.{Claims}
-use Rattle.judging.specs.declared.Wait.{Wait}
-use Rattle.judging.specs.declared.Shut.{Shut}
+use Rattle.closing.specs.declared.Wait.{Wait}
+use Rattle.closing.specs.declared.Shut.{Shut}
 
 -- nobody waits
 abbrev pub noWait : Wait

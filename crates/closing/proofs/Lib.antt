@@ -1,0 +1,5 @@
+pub mod Cases
+pub mod Sets
+mod Within
+pub mod Shutting
+pub mod ByParts
