@@ -11,9 +11,10 @@ use Rattle.headings.specs.ItemTypes.{isClosing}
 use Rattle.rules.specs.declared.FirstKc.{FirstKc}
 use Rattle.rules.specs.declared.FirstIn.{FirstIn}
 use Rattle.rules.specs.declared.Sums.{Sums}
-use Rattle.blocks.specs.declared.Basis.{Basis}
+use Rattle.own_rules.specs.declared.Basis.{Basis}
 use Rattle.blocks.specs.declared.Course.{Course}
-use Rattle.blocks.specs.Model.{blockOf, ownMarks, openMarks, endingMarks, groupMarks, closingMarks}
+use Rattle.blocks.specs.Model.{blockOf, openMarks, endingMarks, groupMarks, closingMarks}
+use Rattle.own_rules.specs.Model.{ownMarks}
 use Rattle.account.specs.Model.{countsAfter, sumsAfter, headingBlock, touchedBlock, emptyBlock, kcBlock, readBlock, readMarks, closeAt, After, readCourse, courseMarks, closeCourse, countsOn, sumsOn, groupsOn}
 
 module _ (j : Basis) (c : Course) (counts sums : List ℕ) (kc : FirstKc) (span : FirstIn) (stated : Sums) where

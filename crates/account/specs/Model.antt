@@ -13,10 +13,11 @@ use Rattle.rules.specs.declared.FirstKc.the-variants.{NoKc, BrokenKc, Pays}
 use Rattle.rules.specs.declared.FirstIn.{FirstIn}
 use Rattle.rules.specs.declared.Sums.{Sums}
 use Rattle.rules.specs.declared.Digest.{Digest}
-use Rattle.blocks.specs.declared.Basis.{Basis}
+use Rattle.own_rules.specs.declared.Basis.{Basis}
 use Rattle.blocks.specs.declared.Block.{Block}
 use Rattle.blocks.specs.declared.Course.{Course}
-use Rattle.blocks.specs.Model.{courseOf, blockOf, countCap, sumCap, ownMarks, openMarks, endingMarks, groupMarks, closingMarks}
+use Rattle.blocks.specs.Model.{courseOf, blockOf, countCap, sumCap, openMarks, endingMarks, groupMarks, closingMarks}
+use Rattle.own_rules.specs.Model.{ownMarks}
 use Rattle.account.specs.declared.Accounted.{Accounted}
 use Rattle.account.specs.declared.Outline.{Outline}
 

@@ -4,18 +4,18 @@
 // has broken at the heading (theorem `account`).
 // It judges no rule: those are `blocks`' functions. Stands on `blocks`, on `rules`, on `ledger` for sets of marks, and on `headings` for the
 // types of items.
-use blocks::Basis;
 use blocks::Block;
 use blocks::Course;
 use blocks::block_rules::ending_marks;
 use blocks::block_rules::open_marks;
 use blocks::groups::capped;
-use blocks::own_rules::own_marks;
 use headings::Heading;
 use headings::ItemNo;
 use headings::Read;
 use headings::item_types::is_payment;
 use headings::item_types::is_priority;
+use own_rules::Basis;
+use own_rules::own_marks;
 use rules::FirstIn;
 use rules::FirstKc;
 ghost use mathlib.Core.Path.{_≡_};

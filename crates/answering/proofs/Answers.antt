@@ -14,8 +14,8 @@ use Rattle.rules.specs.Terms.{isCode, isAccountingDay, input}
 use Rattle.rules.specs.Faults.{Fault, faultsIn}
 use Rattle.ledger.specs.declared.Ledger.{Ledger}
 use Rattle.ledger.specs.Slices.{Listed}
-use Rattle.blocks.specs.declared.Basis.{Basis}
-use Rattle.blocks.specs.Model.{basisOf}
+use Rattle.own_rules.specs.declared.Basis.{Basis}
+use Rattle.own_rules.specs.Model.{basisOf}
 use Rattle.going.specs.Reached.{Done}
 use Rattle.listing.specs.declared.checking.Unchecked.{Unchecked}
 use Rattle.listing.specs.declared.checking.Unchecked.the-variants.{TooLong, NoMark, Leftovers, StartsWithMark}

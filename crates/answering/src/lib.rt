@@ -51,7 +51,7 @@ fn list_out(
     requires { ⌜ p .bytes ≤ 10000000 ⌝ }
     ensures { λ r. ⌜ HandsOut p (now (lines .entry)) (now (rules .entry)) (now (offsets .entry)) (now (stood .entry)) (now (first .entry)) (now (second .entry)) (now (third .entry)) r (now (first .exit)) (now (second .exit)) (now (third .exit)) ⌝ }
 {
-    let basis = blocks::own_rules::basis_of(Code(p.code), p.day);
+    let basis = own_rules::basis_of(Code(p.code), p.day);
     let going = p.going;
     let g = going::finish(basis, lines, rules, offsets, stood, going);
     let n = handed(g.kept);

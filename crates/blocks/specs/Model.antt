@@ -1,29 +1,21 @@
 -- Model of the code, not part of the statement: what each function of `blocks` computes, one definition for each. The rules of blocks are
 -- asked of a running account here, and not of the items above.
-use Prim.Native.Nat.{ℕ, _+_, _-_, _^_}
-use mathlib.Core.Bool.{Bool, true, false, cond, not, _&&_, _||_}
+use Prim.Native.Nat.{ℕ, _+_, _^_}
+use mathlib.Core.Bool.{Bool, true, false, not, _&&_, _||_}
 use mathlib.Core.List.{List}
-use lib.Dec.{eqb, leb, ltb}
+use lib.Dec.{eqb, ltb}
 use lib.ListN.{getD}
-use Rattle.laws.specs.Tests.{among, mark}
-use Rattle.days.specs.Days.{isReal, dayNumber, dayOf}
-use Rattle.headings.specs.declared.Code.{Code}
+use Rattle.laws.specs.Tests.{mark}
 use Rattle.headings.specs.declared.ItemNo.{ItemNo}
 use Rattle.headings.specs.declared.Heading.{Heading}
 use Rattle.headings.specs.ItemTypes.{isPayment, isPriority}
-use Rattle.headings.specs.HeadRules.{rule10, rule13, rule14}
-use Rattle.rules.specs.declared.FirstKc.{FirstKc}
 use Rattle.rules.specs.declared.FirstIn.{FirstIn}
 use Rattle.rules.specs.declared.FirstIn.the-variants.{NoIn, BrokenIn, Runs}
 use Rattle.rules.specs.declared.FirstSum.{FirstSum}
 use Rattle.rules.specs.declared.FirstSum.the-variants.{NoSum, BrokenSum, Says}
 use Rattle.rules.specs.declared.Sum.{Sum}
 use Rattle.rules.specs.declared.Sums.{Sums}
-use Rattle.rules.specs.Terms.{Terms}
-use Rattle.rules.specs.FieldRules.{untilToday, untilThirty}
-use Rattle.rules.specs.HeadingRules.{noKc}
 use Rattle.rules.specs.BlockRules.{unlike, statedIn}
-use Rattle.blocks.specs.declared.Basis.{Basis}
 use Rattle.blocks.specs.declared.Block.{Block}
 use Rattle.blocks.specs.declared.Course.{Course}
 
@@ -53,34 +45,6 @@ blockOf c counts sums =
       counts = counts;
       sums = sums;
     }
-
--- ---- the rules of one item
--- the code, and the last days up to the accounting day's number, up to thirty more, and up to eleven less
-unfoldable pub basisOf : Terms → Basis
-basisOf terms =
-    let n = dayNumber (terms .today) in
-    record { code = terms .code; last = dayOf n; thirty = dayOf (n + 30); stale = dayOf (n - 11) }
-
-unfoldable pub breaks8 : Basis → ℕ → ℕ → Bool
-breaks8 j kind day =
-    isPayment kind
-    && cond (eqb day (j .last)) (eqb day 0)
-    (not (isReal day) || ((among kind untilToday && ltb (j .last) day) || (among kind untilThirty && ltb (j .thirty) day)))
-
-unfoldable pub breaks11 : Basis → ℕ → Bool
-breaks11 j day =
-    cond (eqb day (j .last)) (leb day (j .stale)) (not (isReal day) || (ltb (j .last) day || leb day (j .stale)))
-
-abbrev pub breaks12 : Basis → Code → Bool
-breaks12 j first = not (eqb (first .0) (j .code .0))
-
-abbrev pub breaks15 : ℕ → FirstKc → Bool
-breaks15 kind kc = isPayment kind && noKc kc
-
-unfoldable pub ownMarks : Basis → Heading → FirstKc → ℕ
-ownMarks j h kc =
-    mark 10 (rule10 h) + mark 11 (breaks11 j (h .day)) + mark 12 (breaks12 j (h .first)) + mark 13 (rule13 h) + mark 14 (rule14 h)
-    + mark 15 (breaks15 (h .kind) kc)
 
 -- ---- the rules of blocks
 abbrev pub breaks18 : Bool → ℕ → ℕ → Bool

@@ -1,13 +1,13 @@
 // Runs items with faults of every kind through the account, and prints the rules that each item breaks, at its heading or at its
 // first KC. What is right stands in `stdout`, reasoned by hand from documents 01 and 02. Submitter 300, accounting day 4 March 2024.
 use account::Outline;
-use blocks::Basis;
 use blocks::Block;
 use headings::Amount;
 use headings::Code;
 use headings::Heading;
 use headings::ItemNo;
 use headings::Read;
+use own_rules::Basis;
 use rules::Digest;
 use rules::FirstIn;
 use rules::FirstKc;
@@ -110,11 +110,11 @@ fn kc_marks(basis: Basis, head: Read, kc: FirstKc) -> u64 {
             FirstKc::BrokenKc => 0,
             FirstKc::Pays(amount, day) => {
                 blocks::marks::flag(
-                    blocks::own_rules::breaks_eight(basis, h.kind, day),
+                    own_rules::breaks_eight(basis, h.kind, day),
                     blocks::marks::MARK_8,
                 )
                     + blocks::marks::flag(
-                        blocks::own_rules::breaks_nine(h.kind, amount),
+                        own_rules::breaks_nine(h.kind, amount),
                         blocks::marks::MARK_9,
                     )
             }
@@ -286,7 +286,7 @@ fn nineties(basis: Basis, start: Block) -> Block {
 }
 
 fn main() {
-    let basis = blocks::own_rules::basis_of(Code(300), 20240304);
+    let basis = own_rules::basis_of(Code(300), 20240304);
     let mut b = clean(basis, account::start());
     b = headings_of_all_kinds(basis, b);
     b = more_headings(basis, b);

@@ -9,7 +9,7 @@ use Rattle.laws.specs.Tests.{mark}
 use Rattle.headings.specs.declared.Read.{Read}
 use Rattle.rules.specs.Blocks.{closesAt}
 use Rattle.rules.specs.Said.{isUnreadable}
-use Rattle.blocks.specs.declared.Basis.{Basis}
+use Rattle.own_rules.specs.declared.Basis.{Basis}
 use Rattle.blocks.specs.declared.Course.{Course}
 use Rattle.blocks.specs.Model.{blockOf}
 use Rattle.account.specs.Model.{closeCourse, countsOn, sumsOn, groupsOn}

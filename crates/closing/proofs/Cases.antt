@@ -9,7 +9,7 @@ use Rattle.rules.specs.declared.FirstKc.{FirstKc}
 use Rattle.rules.specs.declared.FirstIn.{FirstIn}
 use Rattle.rules.specs.Blocks.{closesAt}
 use Rattle.rules.specs.Said.{isUnreadable}
-use Rattle.blocks.specs.declared.Basis.{Basis}
+use Rattle.own_rules.specs.declared.Basis.{Basis}
 use Rattle.blocks.specs.declared.Course.{Course}
 use Rattle.account.specs.declared.Accounted.{Accounted}
 use Rattle.account.specs.Model.{closeCourse}

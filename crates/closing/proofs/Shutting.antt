@@ -21,7 +21,7 @@ use Rattle.ledger.specs.Marks.{marked, insertAll}
 use Rattle.ledger.proofs.Marks.{no-rules}
 use Rattle.ledger.proofs.Entries.{putAll, putAll-append, put}
 use Rattle.blocks.specs.declared.Block.{Block}
-use Rattle.blocks.specs.Model.{basisOf}
+use Rattle.own_rules.specs.Model.{basisOf}
 use Rattle.account.specs.Model.{closeModel}
 use Rattle.account.specs.Summary.{summary, marksBy}
 use Rattle.account.proofs.Accounting.{account}

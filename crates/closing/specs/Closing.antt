@@ -12,7 +12,7 @@ use Rattle.rules.specs.Faults.{Fault}
 use Rattle.rules.specs.Blocks.{closesAt}
 use Rattle.rules.specs.Said.{isUnreadable}
 use Rattle.ledger.specs.Marks.{marked}
-use Rattle.blocks.specs.declared.Basis.{Basis}
+use Rattle.own_rules.specs.declared.Basis.{Basis}
 use Rattle.blocks.specs.declared.Block.{Block}
 use Rattle.blocks.specs.declared.Course.{Course}
 use Rattle.account.specs.Model.{closeModel, closeCourse, countsOn, sumsOn}

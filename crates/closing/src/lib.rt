@@ -3,13 +3,13 @@
 // is kept to the tree (proofs/Shutting.antt): what is entered of headings is what `rules` declares.
 // Stands on `blocks`, `account` and `lending`, and on `items` for the pass that is told without code.
 use account::Outline;
-use blocks::Basis;
 use blocks::Course;
 use blocks::groups::group_marks;
 use blocks::marks::MARK_6;
 use blocks::marks::MARK_16;
 use blocks::marks::flag;
 use headings::Read;
+use own_rules::Basis;
 use rules::FirstIn;
 use rules::FirstKc;
 use rules::Sums;

@@ -8,8 +8,8 @@ use Rattle.rules.specs.Terms.{Terms}
 use Rattle.rules.specs.Faults.{faultsIn}
 use Rattle.ledger.specs.declared.Ledger.{Ledger}
 use Rattle.ledger.specs.Slices.{Listed}
-use Rattle.blocks.specs.declared.Basis.{Basis}
-use Rattle.blocks.specs.Model.{basisOf}
+use Rattle.own_rules.specs.declared.Basis.{Basis}
+use Rattle.own_rules.specs.Model.{basisOf}
 use Rattle.pass.specs.declared.Pass.{Pass}
 use Rattle.pass.specs.Standing.{Bounded, Standing}
 use Rattle.joining.specs.Whole.{whole, rest}

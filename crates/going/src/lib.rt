@@ -5,9 +5,9 @@
 // make (`go_on`); at the end the faults of that text are listed, beside each the offset of its line (`finish`), as `pass` lists those
 // of a whole body. Proved over a list of pieces in proofs/Reached.antt (`over-all`, `all-listed`). No rule is judged here: lines are
 // judged by `pass`, and what of a text is whole and what is kept of it is said by `joining`.
-use blocks::Basis;
 use joining::Held;
 use ledger::Ledger;
+use own_rules::Basis;
 use pass::Pass;
 ghost use mathlib.Core.Path.{_≡_};
 ghost use Prim.Native.Nat.{_+_, _≤_};

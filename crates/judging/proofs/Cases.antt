@@ -21,8 +21,8 @@ use Rattle.fields.specs.Codes.{codeOf, claims}
 use Rattle.rules.specs.declared.FirstKc.{FirstKc}
 use Rattle.rules.specs.HeadingRules.{noKc}
 use Rattle.rules.specs.FieldRules.{rule9}
-use Rattle.blocks.specs.declared.Basis.{Basis}
-use Rattle.blocks.specs.Model.{breaks8}
+use Rattle.own_rules.specs.declared.Basis.{Basis}
+use Rattle.own_rules.specs.Model.{breaks8}
 use Rattle.judging.specs.declared.opening.Open.{Open}
 use Rattle.judging.specs.Opening.{readAs, halvesMarks, plainMarks, saidMarks, kcMarks, openOwn}
 

@@ -31,7 +31,7 @@ use Rattle.ledger.specs.Marks.{insertAll, marked}
 use Rattle.ledger.proofs.Insertion.{insertAll-append}
 use Rattle.ledger.proofs.Entries.{putAll, putAll-append, put}
 use Rattle.blocks.specs.declared.Block.{Block}
-use Rattle.blocks.specs.Model.{basisOf}
+use Rattle.own_rules.specs.Model.{basisOf}
 use Rattle.items.specs.Claims.{Claims, noClaims}
 use Rattle.items.proofs.Ideal.{start, early, atHead, atField, closed, push, waits, out, final, Pieces}
 use Rattle.items.proofs.Turned.{continued-closed}

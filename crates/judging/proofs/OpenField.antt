@@ -32,7 +32,7 @@ use Rattle.rules.specs.LineRules.{rule1}
 use Rattle.rules.specs.FieldRules.{ofParty, prefixFails, numberFails, numberZero, rule6, late, large}
 use Rattle.ledger.specs.Marks.{insertAll, marked}
 use Rattle.ledger.proofs.Entries.{putAll, put}
-use Rattle.blocks.specs.Model.{basisOf}
+use Rattle.own_rules.specs.Model.{basisOf}
 use Rattle.account.proofs.Accounting.{same-eight}
 use Rattle.items.proofs.Ideal.{start, early, atHead, atField, closed, push, Pieces}
 use Rattle.items.proofs.Turned.{says-closed}

@@ -21,8 +21,8 @@ use Rattle.rules.specs.declared.Sums.{Sums}
 use Rattle.rules.specs.Said.{spanBy}
 use Rattle.rules.specs.HeadingRules.{noKc}
 use Rattle.rules.specs.FieldRules.{ofParty, prefixFails, numberFails, numberZero, large}
-use Rattle.blocks.specs.declared.Basis.{Basis}
-use Rattle.blocks.specs.Model.{breaks8}
+use Rattle.own_rules.specs.declared.Basis.{Basis}
+use Rattle.own_rules.specs.Model.{breaks8}
 use Rattle.items.specs.Claims.{Claims, claimsAs, kcOwn, spanKept, groupClaims}
 use Rattle.judging.specs.declared.opening.Pend.{Pend}
 use Rattle.judging.specs.declared.opening.Open.{Open}

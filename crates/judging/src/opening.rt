@@ -1,5 +1,4 @@
 // The open field: it is judged at its own line, and only its marks are kept. A continuation can only break it.
-use blocks::Basis;
 use blocks::marks::MARK_2;
 use blocks::marks::MARK_3;
 use blocks::marks::MARK_5;
@@ -18,6 +17,7 @@ use figures::parts::Number;
 use headings::Heading;
 use headings::Read;
 use items::claiming;
+use own_rules::Basis;
 use rules::FirstIn;
 use rules::FirstKc;
 use rules::Sums;
@@ -148,11 +148,11 @@ pub fn said_marks(basis: Basis, first: bool, reads: bool, h: Heading, said: Read
         Reading::Plain => 0,
         Reading::Paid(amount, day) => {
             flag(
-                (first & reads) & blocks::own_rules::breaks_eight(basis, h.kind, day),
+                (first & reads) & own_rules::breaks_eight(basis, h.kind, day),
                 MARK_8,
             )
                 + flag(
-                    (first & reads) & blocks::own_rules::breaks_nine(h.kind, amount),
+                    (first & reads) & own_rules::breaks_nine(h.kind, amount),
                     MARK_9,
                 )
         }
@@ -226,7 +226,7 @@ pub fn field_open(
             tail: 0,
         };
     }
-    let first = (ident == classes::KC) & blocks::own_rules::has_no_kc(kc);
+    let first = (ident == classes::KC) & own_rules::has_no_kc(kc);
     Open {
         no,
         marks: own + flag(again, MARK_5) + said_marks(basis, first, reads, h, said),

@@ -3,14 +3,14 @@ use mir.Val.{Val}
 use denote.Struct.Laws as LL
 use Rattle.account.specs.declared.Outline.{Outline}
 use Rattle.blocks.specs.declared.Course.{Course}
-use Rattle.blocks.specs.declared.Basis.{Basis}
+use Rattle.own_rules.specs.declared.Basis.{Basis}
 use Rattle.account.specs.declared.Accounted.{Accounted}
 use Rattle.blocks.proofs.Course as TB
 use Rattle.blocks.proofs.Course.Laws as TB′
 use Rattle.account.proofs.Outline as TI
 use Rattle.account.proofs.Outline.Laws as TI′
-use Rattle.blocks.proofs.Basis as TJ
-use Rattle.blocks.proofs.Basis.Laws as TJ′
+use Rattle.own_rules.proofs.Basis as TJ
+use Rattle.own_rules.proofs.Basis.Laws as TJ′
 use Rattle.account.proofs.Accounted as TC
 use Rattle.account.proofs.Accounted.Laws as TC′
 

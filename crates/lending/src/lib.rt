@@ -5,8 +5,8 @@
 use account::Accounted;
 use account::Outline;
 use account::close_item;
-use blocks::Basis;
 use blocks::Course;
+use own_rules::Basis;
 ghost use mathlib.Core.Path.{_≡_};
 ghost use Prim.Native.Nat.{_<_, _^_};
 ghost use Rattle.account.specs.Model.{courseModel};

@@ -34,10 +34,11 @@ use Rattle.ledger.specs.declared.Ledger.{Ledger}
 use Rattle.ledger.specs.Marks.{marked}
 use Rattle.ledger.specs.Slices.{Entered, Kept}
 use Rattle.ledger.proofs.Marks.{marked-few}
-use Rattle.blocks.specs.declared.Basis.{Basis}
+use Rattle.own_rules.specs.declared.Basis.{Basis}
 use Rattle.blocks.specs.declared.Block.{Block}
 use Rattle.blocks.specs.declared.Course.{Course}
-use Rattle.blocks.specs.Model.{basisOf, courseOf, blockOf}
+use Rattle.blocks.specs.Model.{courseOf, blockOf}
+use Rattle.own_rules.specs.Model.{basisOf}
 use Rattle.items.specs.Claims.{noSums, kcOwn}
 use Rattle.closing.specs.declared.Wait.{Wait}
 use Rattle.judging.specs.declared.opening.Open.{Open}

@@ -35,9 +35,9 @@ use Rattle.ledger.proofs.Insertion.{insertAll-append}
 use Rattle.ledger.proofs.Entries.{putAll, put, put-comm, in-line-order}
 use Rattle.ledger.proofs.Beside.{beside-start}
 use Rattle.ledger.proofs.Book.{Book, book-start, book-more, book-listed}
-use Rattle.blocks.specs.declared.Basis.{Basis}
+use Rattle.own_rules.specs.declared.Basis.{Basis}
 use Rattle.blocks.specs.declared.Block.{Block}
-use Rattle.blocks.specs.Model.{basisOf}
+use Rattle.own_rules.specs.Model.{basisOf}
 use Rattle.items.specs.Claims.{Claims, claimsAs, noSums, kcOwn}
 use Rattle.items.proofs.Ideal.{start, push, out, final}
 use Rattle.items.proofs.Order.{run, emitted}

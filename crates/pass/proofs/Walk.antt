@@ -32,7 +32,7 @@ use Rattle.rules.specs.LineRules.{rule1}
 use Rattle.rules.specs.Said.{isUnreadable}
 use Rattle.ledger.specs.Marks.{marked}
 use Rattle.ledger.proofs.Marks.{marked-few}
-use Rattle.blocks.specs.declared.Basis.{Basis}
+use Rattle.own_rules.specs.declared.Basis.{Basis}
 use Rattle.blocks.specs.declared.Block.{Block}
 use Rattle.blocks.specs.declared.Course.{Course}
 use Rattle.blocks.specs.Model.{courseOf, blockOf, groupMarks}

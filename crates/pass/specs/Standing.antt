@@ -23,8 +23,8 @@ use Rattle.ledger.specs.declared.Ledger.{Ledger}
 use Rattle.ledger.specs.Slices.{Ready, Beside, Listed}
 use Rattle.ledger.proofs.Entries.{put}
 use Rattle.ledger.proofs.Book.{Book}
-use Rattle.blocks.specs.declared.Basis.{Basis}
-use Rattle.blocks.specs.Model.{basisOf}
+use Rattle.own_rules.specs.declared.Basis.{Basis}
+use Rattle.own_rules.specs.Model.{basisOf}
 use Rattle.account.specs.Summary.{summary}
 use Rattle.items.specs.Claims.{Claims, claimsAs, noSums}
 use Rattle.items.proofs.Ideal.{start, Pieces}

@@ -5,7 +5,6 @@
 // `finish`; fed one text after the other the pass goes on where it stood, and what it holds means the same (specs/Standing.antt).
 // It judges no rule: lines and fields are judged by `judging`, items by `closing`, and entered as they close by `shutting`. The list stands in `ledger`,
 // the cut in `lines`, the table of characters in `text`.
-use blocks::Basis;
 use blocks::Block;
 use closing::Wait;
 use fields::classes;
@@ -21,6 +20,7 @@ use judging::opening;
 use judging::opening::Open;
 use judging::opening::Pend;
 use ledger::Ledger;
+use own_rules::Basis;
 use rules::FirstIn;
 use rules::FirstKc;
 use rules::Sums;
@@ -345,7 +345,7 @@ pub fn enter_faults(
     requires { ⌜ length (now lines) ≡ length (now offsets) ⌝ }
     ensures { λ r. ⌜ Listed (offsetOf (now (s .entry))) (faultsIn (input code day) (now (s .entry))) (now (lines .entry)) (now (rules .entry)) (now (offsets .entry)) r (now (lines .exit)) (now (rules .exit)) (now (offsets .exit)) ⌝ }
 {
-    let basis = blocks::own_rules::basis_of(Code(code), day);
+    let basis = own_rules::basis_of(Code(code), day);
     let mut stood = unseen();
     let first = start();
     let p = feed(s, 0, basis, lines, rules, offsets, &mut stood, first);

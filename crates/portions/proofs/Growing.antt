@@ -11,8 +11,8 @@ use Rattle.laws.proofs.Any.{any-append}
 use Rattle.lines.specs.Lines.{isByte, hasMark, body}
 use Rattle.lines.proofs.Body.{body-take, body-le, body-whole, body-shorter}
 use Rattle.rules.specs.Terms.{input}
-use Rattle.blocks.specs.declared.Basis.{Basis}
-use Rattle.blocks.specs.Model.{basisOf}
+use Rattle.own_rules.specs.declared.Basis.{Basis}
+use Rattle.own_rules.specs.Model.{basisOf}
 use Rattle.going.specs.declared.Going.{Going}
 use Rattle.going.specs.Reached.{Sound, Reached, Gone}
 use Rattle.portions.specs.declared.Portions.{Portions}

@@ -46,7 +46,7 @@ fn read_on(
     ensures { λ r. ⌜ GoesOn (now (s .entry)) p (now (lines .entry)) (now (rules .entry)) (now (offsets .entry)) (now (stood .entry)) r (now (lines .exit)) (now (rules .exit)) (now (offsets .exit)) (now (stood .exit)) ⌝ }
 {
     let n = lines::body_len(s);
-    let basis = blocks::own_rules::basis_of(Code(p.code), p.day);
+    let basis = own_rules::basis_of(Code(p.code), p.day);
     let before = p.going;
     let going = going::go_on(&s[..n], basis, lines, rules, offsets, stood, before);
     Portions {

@@ -14,7 +14,7 @@ use Rattle.rules.specs.Said.{isUnreadable}
 use Rattle.rules.specs.Blocks.{closesAt}
 use Rattle.ledger.specs.declared.Ledger.{Ledger}
 use Rattle.ledger.specs.Slices.{Entered}
-use Rattle.blocks.specs.declared.Basis.{Basis}
+use Rattle.own_rules.specs.declared.Basis.{Basis}
 use Rattle.blocks.specs.declared.Course.{Course}
 use Rattle.account.specs.Model.{closeCourse}
 use Rattle.closing.specs.declared.Wait.{Wait}

@@ -2,7 +2,6 @@
 // entered in the lent slices, each beside where its line starts; and an array keeps at which line each identifier last stood. Promised:
 // what is entered is what `byFaults` of `closing` says, and the third slice stays a function of the lines. It stands on `closing`, `judging` and
 // `ledger`.
-use blocks::Basis;
 use blocks::Course;
 use closing::Wait;
 use headings::Heading;
@@ -10,6 +9,7 @@ use headings::Read;
 use judging::opening;
 use judging::opening::Open;
 use ledger::Ledger;
+use own_rules::Basis;
 use rules::FirstIn;
 use rules::FirstKc;
 ghost use mathlib.Core.Path.{_≡_};

@@ -3,8 +3,6 @@
 // the statement of `delivery`. Stands on `vetting` for an item's lines, on `turning` and `outcome_tables` for its derived heading, on `account` for
 // groups, and on `item_reader`.
 use account::add_amount;
-use blocks::Basis;
-use blocks::own_rules::basis_of;
 use headings::Code;
 use headings::Heading;
 use headings::ItemNo;
@@ -13,6 +11,8 @@ use headings::item_types::is_priority;
 use outcome_tables::in_class;
 use outgoing_lines::as_derived;
 use outgoing_lines::at_or_zero;
+use own_rules::Basis;
+use own_rules::basis_of;
 use turning::Turned;
 use turning::turn;
 use vetting::Taken;
@@ -24,7 +24,7 @@ ghost use lib.ListN.{length, replicate};
 ghost use Rattle.text.specs.Characters.{answers};
 ghost use Rattle.rules.specs.Terms.{Terms, input};
 ghost use Rattle.rules.specs.BlockRules.{unlike};
-ghost use Rattle.blocks.specs.Model.{basisOf};
+ghost use Rattle.own_rules.specs.Model.{basisOf};
 ghost use Rattle.item_reader.specs.Slips.{Headed};
 ghost use Rattle.vetting.specs.Vetting.{Stamped};
 ghost use Rattle.outgoing_lines.specs.Outgoing.{Orders};

@@ -25,7 +25,7 @@ use Rattle.rules.specs.Said.{continuations, says, stands}
 use Rattle.rules.specs.LineRules.{inside, rule1, rule4}
 use Rattle.rules.specs.FieldRules.{rule5, rule6, rule7, rule8At, rule9At, rule23, rule24, ofParty, prefixFails, numberFails, numberZero, isFailing, isZero, late, large, rule9}
 use Rattle.rules.specs.Spots.{lowTests, lowSpot, lows, fieldTests}
-use Rattle.blocks.specs.Model.{basisOf, breaks8}
+use Rattle.own_rules.specs.Model.{basisOf, breaks8}
 use Rattle.account.proofs.Accounting.{same-eight}
 use Rattle.judging.specs.Opening.{saidMarks, kcMarks}
 use Rattle.vetting.specs.Vetting.{bars, anyBarred}

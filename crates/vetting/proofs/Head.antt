@@ -28,7 +28,7 @@ use Rattle.rules.specs.LineRules.{inside, rule1, rule4}
 use Rattle.rules.specs.HeadingRules.{rule15}
 use Rattle.rules.specs.Said.{continued, headOf, isUnreadable, digest}
 use Rattle.rules.specs.Spots.{fieldTests, fieldSpot, lows, fields, ownTests, blockTests, headTests, rule16At, inner}
-use Rattle.blocks.specs.Model.{basisOf, breaks11}
+use Rattle.own_rules.specs.Model.{basisOf, breaks11}
 use Rattle.account.proofs.Accounting.{same-eleven}
 use Rattle.item_reader.specs.Slips.{kcAmong, fileFrom, Headed}
 use Rattle.vetting.specs.Vetting.{anyBarred, itemBarred}

@@ -26,7 +26,7 @@ use Rattle.rules.specs.Rows.{FieldRow, LowRow, field}
 use Rattle.rules.specs.Tree.{Owned, File, _▹_}
 use Rattle.rules.specs.Said.{continuations, says, stands, orElse, ifThere, firstSaid, is, kcBy, kcOf}
 use Rattle.rules.specs.Spots.{lows}
-use Rattle.blocks.specs.Model.{basisOf}
+use Rattle.own_rules.specs.Model.{basisOf}
 use Rattle.items.specs.Claims.{kcKept}
 use Rattle.items.proofs.Firsts.{kc-first}
 use Rattle.judging.proofs.OpenField.{says-own}

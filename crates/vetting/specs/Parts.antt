@@ -29,8 +29,8 @@ use Rattle.rules.specs.Tests.{brokenOf}
 use Rattle.rules.specs.LineRules.{inside}
 use Rattle.rules.specs.HeadingRules.{rule15}
 use Rattle.rules.specs.Spots.{fieldTests, lows}
-use Rattle.blocks.specs.declared.Basis.{Basis}
-use Rattle.blocks.specs.Model.{breaks11}
+use Rattle.own_rules.specs.declared.Basis.{Basis}
+use Rattle.own_rules.specs.Model.{breaks11}
 use Rattle.items.specs.Claims.{kcKept}
 use Rattle.judging.specs.Opening.{saidMarks}
 use Rattle.item_reader.specs.Slips.{kcAmong, fileFrom, Headed}

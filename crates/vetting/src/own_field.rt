@@ -4,13 +4,13 @@ use crate::own_line::continues;
 use crate::own_line::judged_at;
 use crate::own_line::kind_at;
 use crate::own_line::low_at;
-use blocks::Basis;
 use fields::classes;
 use fields::readings;
 use fields::readings::Reading;
 use headings::Heading;
 use items::claiming;
 use judging::opening;
+use own_rules::Basis;
 use rules::FirstKc;
 ghost use mathlib.Core.Path.{_≡_};
 ghost use Prim.Native.Nat.{suc, min, _≤_, _<_};
@@ -22,7 +22,7 @@ ghost use Rattle.fields.specs.Kinds.{kindOf};
 ghost use Rattle.fields.specs.Codes.{codeBy, codeOf};
 ghost use Rattle.fields.specs.Readings.{textOf, readingOf};
 ghost use Rattle.rules.specs.Terms.{Terms};
-ghost use Rattle.blocks.specs.Model.{basisOf};
+ghost use Rattle.own_rules.specs.Model.{basisOf};
 ghost use Rattle.vetting.specs.Parts.{ownBreaks, kcHere, TailTo, FieldTo, FieldLeads};
 
 // Where a field's continuations stop, or that they break it, or one of the lines a rule of its own.

@@ -1,19 +1,19 @@
 // A heading, and the rules that look at it alone.
 use crate::own_line::judged_at;
 use crate::own_line::low_at;
-use blocks::Basis;
-use blocks::own_rules::breaks_eleven;
 use headings::Heading;
 use headings::Read;
 use headings::head_rules::breaks_fourteen;
 use headings::head_rules::breaks_ten;
 use headings::head_rules::breaks_thirteen;
+use own_rules::Basis;
+use own_rules::breaks_eleven;
 ghost use mathlib.Core.Path.{_≡_};
 ghost use Prim.Native.Nat.{_<_};
 ghost use lib.ListN.{length};
 ghost use Rattle.text.specs.Characters.{answers};
 ghost use Rattle.rules.specs.Terms.{Terms};
-ghost use Rattle.blocks.specs.Model.{basisOf};
+ghost use Rattle.own_rules.specs.Model.{basisOf};
 ghost use Rattle.item_reader.specs.Slips.{Headed};
 ghost use Rattle.vetting.specs.Parts.{headBreaks, HeadTo, HeadLeads};
 

@@ -41,7 +41,7 @@ use denote.Triple.Clauses.{ensured, lasts}
 use denote.Exit.{yes}
 use Rattle.account.specs.declared.Outline.{Outline}
 use Rattle.blocks.specs.declared.Course.{Course}
-use Rattle.blocks.specs.declared.Basis.{Basis}
+use Rattle.own_rules.specs.declared.Basis.{Basis}
 use Rattle.account.specs.declared.Accounted.{Accounted}
 use Rattle.account.specs.Model.{courseModel}
 use Rattle.account.proofs.close_item.Symbol.{name as #close-item}
@@ -51,8 +51,8 @@ use Rattle.blocks.proofs.Course as TB
 use Rattle.blocks.proofs.Course.Laws as TB′
 use Rattle.account.proofs.Outline as TI
 use Rattle.account.proofs.Outline.Laws as TI′
-use Rattle.blocks.proofs.Basis as TJ
-use Rattle.blocks.proofs.Basis.Laws as TJ′
+use Rattle.own_rules.proofs.Basis as TJ
+use Rattle.own_rules.proofs.Basis.Laws as TJ′
 use Rattle.account.proofs.Accounted as TC
 use Rattle.account.proofs.Accounted.Laws as TC′
 use Rattle.account.proofs.close_item as close

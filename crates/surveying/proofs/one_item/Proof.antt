@@ -4,7 +4,7 @@ use mathlib.Core.Path.{_≡_, sym, ap, subst, _∙_}
 use mathlib.Core.Bool.{Bool, _||_}
 use Rattle.rules.specs.Terms.{Terms}
 use Rattle.rules.specs.BlockRules.{unlike}
-use Rattle.blocks.specs.Model.{basisOf}
+use Rattle.own_rules.specs.Model.{basisOf}
 use Rattle.vetting.specs.declared.Taken.{Taken}
 use Rattle.vetting.specs.Vetting.{Stamped, Takes}
 use Rattle.surveying.specs.declared.Step.the-variants.{On}

@@ -8,7 +8,7 @@ use Rattle.fields.specs.declared.kinds.Kind.the-variants.{Field}
 use Rattle.fields.specs.Kinds.{kindOf}
 use Rattle.rules.specs.declared.FirstKc.{FirstKc}
 use Rattle.rules.specs.Terms.{Terms}
-use Rattle.blocks.specs.Model.{basisOf}
+use Rattle.own_rules.specs.Model.{basisOf}
 use Rattle.vetting.specs.Vetting.{Stamped}
 use Rattle.vetting.specs.declared.Passed.the-variants.{By}
 use Rattle.vetting.specs.Parts.{identBy, lowAt, FieldTo, Leads, FieldLeads}

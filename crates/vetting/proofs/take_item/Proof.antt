@@ -1,6 +1,6 @@
 use mathlib.Core.Path.{_≡_, sym, subst, _∙_}
 use Rattle.rules.specs.Terms.{Terms}
-use Rattle.blocks.specs.Model.{basisOf}
+use Rattle.own_rules.specs.Model.{basisOf}
 use Rattle.vetting.specs.declared.Passed.the-variants.{By}
 use Rattle.vetting.specs.declared.own_heading.Started.the-variants.{With}
 use Rattle.vetting.specs.Parts.{FieldsTo, Leads, HeadTo, HeadLeads}

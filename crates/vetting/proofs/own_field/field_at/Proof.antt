@@ -8,7 +8,7 @@ use Rattle.fields.specs.Codes.{codeOf}
 use Rattle.fields.specs.Readings.{textOf, readingOf}
 use Rattle.rules.specs.declared.FirstKc.{FirstKc}
 use Rattle.rules.specs.Terms.{Terms}
-use Rattle.blocks.specs.Model.{basisOf}
+use Rattle.own_rules.specs.Model.{basisOf}
 use Rattle.vetting.specs.declared.Passed.the-variants.{By}
 use Rattle.vetting.specs.declared.own_line.Judged.{Judged}
 use Rattle.vetting.specs.declared.own_field.Stop.the-variants.{At, Breaks}

@@ -7,8 +7,8 @@ use Rattle.lines.specs.Reading.{lineAt, span, IsNext}
 use Rattle.headings.specs.Reading.{headingOf}
 use Rattle.laws.proofs.Any.{or-left, or-right}
 use Rattle.rules.specs.Terms.{Terms}
-use Rattle.blocks.specs.declared.Basis.{Basis}
-use Rattle.blocks.specs.Model.{basisOf}
+use Rattle.own_rules.specs.declared.Basis.{Basis}
+use Rattle.own_rules.specs.Model.{basisOf}
 use Rattle.vetting.specs.declared.own_line.Judged.{Judged}
 use Rattle.vetting.specs.Parts.{badAt, lowAt, headBreaks, HeadAt}
 use Rattle.vetting.proofs.Here.{here}

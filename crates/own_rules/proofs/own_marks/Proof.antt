@@ -1,8 +1,8 @@
 use native.Mathlib.Omega.{arith}
-use Rattle.blocks.specs.Model.{ownMarks}
-use Rattle.blocks.proofs.own_rules.own_marks.Statement.{statement}
+use Rattle.own_rules.specs.Model.{ownMarks}
+use Rattle.own_rules.proofs.own_marks.Statement.{statement}
 use borrow.Author.Needs.{needs}
-use Rattle.blocks.proofs.own_rules.own_marks.Tie as tie
+use Rattle.own_rules.proofs.own_marks.Tie as tie
 
 breaks-ten-requires : tie.Need-breaks-ten-requires
 breaks-ten-requires c κs = search needs

@@ -1,7 +1,7 @@
 use Rattle.laws.proofs.OneOf.{one-of}
 use Rattle.rules.specs.FieldRules.{untilThirty}
-use Rattle.blocks.proofs.own_rules.until_thirty.Statement.{statement}
-use Rattle.blocks.proofs.own_rules.until_thirty.Tie as tie
+use Rattle.own_rules.proofs.until_thirty.Statement.{statement}
+use Rattle.own_rules.proofs.until_thirty.Tie as tie
 
 returns : tie.Need-returns
 returns c = one-of (c .args .kind) untilThirty

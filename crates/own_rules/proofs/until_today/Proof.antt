@@ -1,7 +1,7 @@
 use Rattle.laws.proofs.OneOf.{one-of}
 use Rattle.rules.specs.FieldRules.{untilToday}
-use Rattle.blocks.proofs.own_rules.until_today.Statement.{statement}
-use Rattle.blocks.proofs.own_rules.until_today.Tie as tie
+use Rattle.own_rules.proofs.until_today.Statement.{statement}
+use Rattle.own_rules.proofs.until_today.Tie as tie
 
 returns : tie.Need-returns
 returns c = one-of (c .args .kind) untilToday

@@ -1,8 +1,8 @@
 use borrow.Author.Needs.{needs}
 use borrow.Author.Tests.{eq-eqb, ne-eqb}
-use Rattle.blocks.specs.Model.{breaks11}
-use Rattle.blocks.proofs.own_rules.breaks_eleven.Statement.{statement}
-use Rattle.blocks.proofs.own_rules.breaks_eleven.Tie as tie
+use Rattle.own_rules.specs.Model.{breaks11}
+use Rattle.own_rules.proofs.breaks_eleven.Statement.{statement}
+use Rattle.own_rules.proofs.breaks_eleven.Tie as tie
 
 returns : tie.Need-returns
 unfolding breaks11

@@ -1,9 +1,9 @@
 use native.Mathlib.Omega.{arith}
 use borrow.Author.Needs.{needs}
 use Rattle.days.proofs.Reckoning.{number-le}
-use Rattle.blocks.specs.Model.{basisOf}
-use Rattle.blocks.proofs.own_rules.basis_of.Statement.{statement}
-use Rattle.blocks.proofs.own_rules.basis_of.Tie as tie
+use Rattle.own_rules.specs.Model.{basisOf}
+use Rattle.own_rules.proofs.basis_of.Statement.{statement}
+use Rattle.own_rules.proofs.basis_of.Tie as tie
 
 day-number-requires : tie.Need-day-number-requires
 day-number-requires c κs = search needs

@@ -1,8 +1,8 @@
 use borrow.Author.Needs.{needs}
 use borrow.Author.Tests.{eq-eqb, ne-eqb}
-use Rattle.blocks.specs.Model.{breaks8}
-use Rattle.blocks.proofs.own_rules.breaks_eight.Statement.{statement}
-use Rattle.blocks.proofs.own_rules.breaks_eight.Tie as tie
+use Rattle.own_rules.specs.Model.{breaks8}
+use Rattle.own_rules.proofs.breaks_eight.Statement.{statement}
+use Rattle.own_rules.proofs.breaks_eight.Tie as tie
 
 is-payment-requires : tie.Need-is-payment-requires
 is-payment-requires c κs = search needs

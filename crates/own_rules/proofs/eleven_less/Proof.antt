@@ -1,8 +1,8 @@
 use borrow.Author.Needs.{needs}
 use native.Mathlib.Omega.{arith}
 use Rattle.days.proofs.Reckoning.{before-first}
-use Rattle.blocks.proofs.own_rules.eleven_less.Statement.{statement}
-use Rattle.blocks.proofs.own_rules.eleven_less.Tie as tie
+use Rattle.own_rules.proofs.eleven_less.Statement.{statement}
+use Rattle.own_rules.proofs.eleven_less.Tie as tie
 
 returns : tie.Need-returns
 returns c = before-first _ (omega arith)

@@ -1,12 +1,14 @@
-// The rules that look at one item alone.
-use crate::Basis;
-use crate::marks::MARK_10;
-use crate::marks::MARK_11;
-use crate::marks::MARK_12;
-use crate::marks::MARK_13;
-use crate::marks::MARK_14;
-use crate::marks::MARK_15;
-use crate::marks::flag;
+// The rules that look at one item alone, as functions: 8 and 9 at its first KC, and 10 to 15 at its heading. The days of 8 and 11 are
+// compared with limits that are reckoned once a file.
+// Each promises its result by a definition of specs/Model.antt, for every input; the crate `account` proves that these are the rules.
+// Stands on `days`, on the types and rules of `headings`, on `rules`, and on the marks of `blocks`.
+use blocks::marks::MARK_10;
+use blocks::marks::MARK_11;
+use blocks::marks::MARK_12;
+use blocks::marks::MARK_13;
+use blocks::marks::MARK_14;
+use blocks::marks::MARK_15;
+use blocks::marks::flag;
 use days::day_number;
 use days::day_of;
 use days::is_real;
@@ -25,7 +27,17 @@ ghost use Rattle.days.specs.Days.{dayOf};
 ghost use Rattle.rules.specs.Terms.{input};
 ghost use Rattle.rules.specs.FieldRules.{untilToday, untilThirty, rule9};
 ghost use Rattle.rules.specs.HeadingRules.{noKc};
-ghost use Rattle.blocks.specs.Model.{basisOf, breaks8, breaks11, breaks12, breaks15, ownMarks};
+ghost use Rattle.own_rules.specs.Model.{basisOf, breaks8, breaks11, breaks12, breaks15, ownMarks};
+
+// What a file is judged by: the submitter's code, and the limits that the accounting day sets, each a real day (or 0, where there is none
+// so early): the last that is not after it, the last that is at most thirty days after it, and the last that is more than ten days
+// before it. They are reckoned once a file.
+pub struct Basis {
+    pub code: Code,
+    pub last: u32,
+    pub thirty: u32,
+    pub stale: u32,
+}
 
 // The last real day that is eleven days before a number, or more.
 fn eleven_less(number: u32) -> u32

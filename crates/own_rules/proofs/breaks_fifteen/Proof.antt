@@ -1,6 +1,6 @@
 use borrow.Author.Needs.{needs}
-use Rattle.blocks.proofs.own_rules.breaks_fifteen.Statement.{statement}
-use Rattle.blocks.proofs.own_rules.breaks_fifteen.Tie as tie
+use Rattle.own_rules.proofs.breaks_fifteen.Statement.{statement}
+use Rattle.own_rules.proofs.breaks_fifteen.Tie as tie
 
 has-no-kc-requires : tie.Need-has-no-kc-requires
 has-no-kc-requires c κs = search needs
