@@ -1,11 +1,12 @@
 -- Classes as numbers: the table of them, held to the classes at each identifier, and the class that a number tells.
 use mathlib.Core.Path.{_≡_, refl, ap, sym, _∙_}
-use mathlib.Core.Bool.{true, false, true≢false, false≢true, cond}
+use mathlib.Core.Bool.{Bool, true, false, true≢false, false≢true, cond, _&&_}
 use mathlib.Core.List.{List, [], _∷_}
-use Prim.Native.Nat.{ℕ, _<_}
-use lib.ListN.{getD, set, replicate}
-use lib.Dec.{eqb, eqb→eq}
-use Rattle.laws.proofs.Finite.{at}
+use Prim.Native.Nat.{ℕ, zero, suc, _+_, _<_}
+use native.Mathlib.Nat.{add-zero, zero-add, add-suc, suc-add, not-suc-le-zero, le-of-suc-le-suc}
+use lib.ListN.{length, getD, set, replicate}
+use lib.Dec.{T, eqb, eqb→eq}
+use Rattle.laws.proofs.Entries.{and-left, and-right}
 use Rattle.fields.specs.declared.classes.Class.{Class}
 use Rattle.fields.specs.declared.classes.Class.the-variants.{Money, Number, Range, Group, Account, Text, Free}
 use Rattle.fields.specs.Kinds.{place}
@@ -21,9 +22,20 @@ fill (k ∷ ks) v l = fill ks v (set l k v)
 abbrev table : List ℕ
 table = fill moneyFields 1 (fill numberFields 2 (fill rangeFields 5 (fill groupFields 6 (fill accountFields 3 (fill textFields 4 (replicate 1296 0))))))
 
+-- a list holds g's numbers from i on: one walk over it computes that, and then each place can be asked
+abbrev holds : (ℕ → ℕ) → ℕ → List ℕ → Bool
+holds g i [] = true
+holds g i (x ∷ l) = eqb x (g i) && holds g (suc i) l
+
+held : (g : ℕ → ℕ) (i : ℕ) (l : List ℕ) → T (holds g i l) → (k : ℕ) → k < length l → getD l k 0 ≡ g (i + k)
+held g i [] t k h = absurd (not-suc-le-zero h)
+held g i (x ∷ l) t zero h = eqb→eq x (g i) (and-left (eqb x (g i)) (holds g (suc i) l) t) ∙ ap g (sym (add-zero i))
+held g i (x ∷ l) t (suc k) h =
+    held g (suc i) l (and-right (eqb x (g i)) (holds g (suc i) l) t) k (le-of-suc-le-suc h) ∙ ap g (suc-add i k ∙ sym (add-suc i k))
+
 pub codes-are : (i : ℕ) → i < 1296 → getD table i 0 ≡ codeOf i
 unfolding place classOf codeOf
-codes-are i h = eqb→eq _ _ (at (λ j. eqb (getD table j 0) (codeOf j)) 1296 tt i h)
+codes-are i h = held codeOf 0 table tt i h ∙ ap codeOf (zero-add i)
 
 -- no two classes have one number: it tells the class
 abbrev classAt : ℕ → Class
