@@ -38,7 +38,8 @@ use Rattle.rules.specs.BlockRules.{skips, unlike, spanWrong, misstated, statedI
 use Rattle.rules.specs.Spots.{ownTests, blockTests}
 use Rattle.blocks.specs.Model.{breaks18, skipsTo, breaks20, breaks21, tellsCapped, misstatedCapped, groupBreaks, groupMarks, openMarks, endingMarks, closingMarks, courseOf, countCap, sumCap}
 use Rattle.own_rules.specs.Model.{basisOf, breaks8, breaks11, ownMarks}
-use Rattle.account.specs.Model.{plusAt, countsAfter, sumsAfter, kcBlock, headingBlock, touchedBlock, emptyBlock, readBlock, readMarks, closeAt, closeModel}
+use Rattle.group_sums.specs.Model.{plusAt}
+use Rattle.account.specs.Model.{countsAfter, sumsAfter, kcBlock, headingBlock, touchedBlock, emptyBlock, readBlock, readMarks, closeAt, closeModel}
 use Rattle.account.specs.Summary.{priorityFirst, dayFirst, numberFirst, numberLast, ten, summary, marksBy}
 use Rattle.account.proofs.Ten.{cap-cap, get-ten, set-ten, same-ten}
 

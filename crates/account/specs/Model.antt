@@ -1,9 +1,8 @@
 -- Model of the code, not part of the statement: what each function of `account` computes of an account and an item.
-use Prim.Native.Nat.{ℕ, _+_, min}
+use Prim.Native.Nat.{ℕ, _+_}
 use mathlib.Core.Bool.{Bool, true, false, cond, not, _&&_, _||_}
 use mathlib.Core.List.{List, []}
-use lib.Dec.{ltb}
-use lib.ListN.{getD, set, replicate}
+use lib.ListN.{replicate}
 use Rattle.headings.specs.declared.Heading.{Heading}
 use Rattle.headings.specs.declared.Read.{Read}
 use Rattle.headings.specs.declared.Read.the-variants.{Reads, Unreadable}
@@ -18,11 +17,9 @@ use Rattle.blocks.specs.declared.Block.{Block}
 use Rattle.blocks.specs.declared.Course.{Course}
 use Rattle.blocks.specs.Model.{courseOf, blockOf, countCap, sumCap, openMarks, endingMarks, groupMarks, closingMarks}
 use Rattle.own_rules.specs.Model.{ownMarks}
+use Rattle.group_sums.specs.Model.{plusAt}
 use Rattle.account.specs.declared.Accounted.{Accounted}
 use Rattle.account.specs.declared.Outline.{Outline}
-
-unfoldable pub plusAt : ℕ → List ℕ → ℕ → ℕ → List ℕ
-plusAt cap xs d a = cond (ltb d 10) (set xs d (min cap (getD xs d 0 + a))) xs
 
 unfoldable pub countsAfter : List ℕ → ℕ → FirstKc → List ℕ
 countsAfter xs kind NoKc = xs

@@ -2,13 +2,13 @@
 // for every account, item and basis: the account and the marks that `closeModel` says (specs/Model.antt; by parts: `by-parts`), which
 // are those of the items themselves: the account is the summary of the items above, and the marks are the set of the tests that `rules`
 // has broken at the heading (theorem `account`).
-// It judges no rule: those are `blocks`' functions. Stands on `blocks`, on `rules`, on `ledger` for sets of marks, and on `headings` for the
-// types of items.
+// It judges no rule: those are the functions of `blocks` and `own_rules`. Stands on these, on `group_sums`, on `rules`, on `ledger` for sets of marks,
+// and on `headings` for the types of items.
 use blocks::Block;
 use blocks::Course;
 use blocks::block_rules::ending_marks;
 use blocks::block_rules::open_marks;
-use blocks::groups::capped;
+use group_sums::add_amount;
 use headings::Heading;
 use headings::ItemNo;
 use headings::Read;
@@ -22,10 +22,9 @@ ghost use mathlib.Core.Path.{_≡_};
 ghost use mathlib.Core.Bool.{cond};
 ghost use mathlib.Core.List.{[]};
 ghost use Prim.Native.Nat.{_<_, _^_};
-ghost use Rattle.headings.specs.ItemTypes.{groupOf};
 ghost use Rattle.rules.specs.Blocks.{closesAt};
-ghost use Rattle.blocks.specs.Model.{courseOf, blockOf, countCap, sumCap};
-ghost use Rattle.account.specs.Model.{plusAt, countsAfter, sumsAfter, headingBlock, touchedBlock, emptyBlock, readCourse, courseMarks, courseModel, countsOn, sumsOn};
+ghost use Rattle.blocks.specs.Model.{courseOf, blockOf};
+ghost use Rattle.account.specs.Model.{countsAfter, sumsAfter, headingBlock, touchedBlock, emptyBlock, readCourse, courseMarks, courseModel, countsOn, sumsOn};
 ghost use Rattle.account.specs.Summary.{summary};
 
 // An item as the course of its block needs it: its heading, and its first KC and IN.
@@ -48,18 +47,6 @@ pub fn closes_block(head: Read) -> bool
     match head {
         Read::Reads(h) => h.kind == 51,
         Read::Unreadable => false,
-    }
-}
-
-// One amount more in the group of a type.
-pub fn add_amount(counts: &mut [u64; 10], sums: &mut [u64; 10], kind: u32, amount: u64)
-    ensures { λ _. ⌜ now (counts .exit) ≡ plusAt countCap (now (counts .entry)) (groupOf kind) 1 ⌝ }
-    ensures { λ _. ⌜ now (sums .exit) ≡ plusAt sumCap (now (sums .entry)) (groupOf kind) amount ⌝ }
-{
-    let d = (kind / 10) as usize;
-    if d < 10 {
-        counts[d] = capped(10000000, counts[d], 1);
-        sums[d] = capped(100000000000000000, sums[d], amount);
     }
 }
 

@@ -17,8 +17,8 @@ use Rattle.headings.specs.declared.Heading.{Heading}
 use Rattle.headings.specs.declared.Read.{Read}
 use Rattle.headings.specs.declared.Read.the-variants.{Reads, Unreadable}
 use Rattle.headings.specs.Reading.{headingOf}
-use Rattle.headings.specs.Writing.{fitsHeading}
-use Rattle.headings.proofs.RoundTrips.{fits-read}
+use Rattle.heading_writer.specs.Writing.{fitsHeading}
+use Rattle.heading_writer.proofs.RoundTrips.{fits-read}
 use Rattle.rules.specs.Rows.{Row}
 use Rattle.rules.specs.Tree.{Owned, Item}
 use Rattle.rules.specs.Said.{continued, headOf}

@@ -9,7 +9,7 @@ use lib.ListN.{length, take, drop}
 use borrow.Author.Tests.{ltb-true, lt-ltb, le-ltb, eq-eqb, ne-eqb, not-true, not-false}
 use Rattle.laws.specs.Refusals.{first}
 use Rattle.lines.specs.Lines.{hasMark, body, offsetOf}
-use Rattle.lines.proofs.Body.{body-take, body-whole, body-shorter}
+use Rattle.file_body.proofs.Body.{body-take, body-whole, body-shorter}
 use Rattle.rules.specs.Terms.{isCode, isAccountingDay, input}
 use Rattle.rules.specs.Faults.{Fault, faultsIn}
 use Rattle.ledger.specs.declared.Ledger.{Ledger}
@@ -26,7 +26,7 @@ use Rattle.listing.proofs.Answers.{too-long, no-mark, leftovers, starts-with-ma
 use Rattle.portions.specs.declared.Portions.{Portions}
 use Rattle.answering.specs.declared.Closing.the-variants.{Done as Answered, Late}
 use Rattle.portions.specs.Usable.{isOpen}
-use Rattle.portions.specs.Jobs.{Rooms, HasRead, Holds, shutOf}
+use Rattle.portions.specs.States.{Rooms, HasRead, Holds, shutOf}
 use Rattle.answering.specs.Closing.{fileRefusals, Settles, HandsOut, Closes}
 use Rattle.handing.proofs.Handed.{handed}
 

@@ -10,11 +10,13 @@ use Rattle.going.proofs.Pieces.{Thens, held-all}
 use Rattle.listing.specs.Checking.{Checks}
 use Rattle.listing.proofs.Unique.{check-unique}
 use Rattle.portions.specs.declared.Portions.{Portions}
-use Rattle.portions.specs.declared.opening.Opened.{Opened}
-use Rattle.portions.specs.declared.adding.Added.{Added}
+use Rattle.portions_opening.specs.declared.Opened.{Opened}
+use Rattle.portions_adding.specs.declared.Added.{Added}
 use Rattle.answering.specs.declared.Closed.{Closed}
 use Rattle.portions.specs.Usable.{isOpen}
-use Rattle.portions.specs.Jobs.{Rooms, Holds, openRefusals, Opens, Adds}
+use Rattle.portions.specs.States.{Rooms, Holds}
+use Rattle.portions_opening.specs.Opening.{openRefusals, Opens}
+use Rattle.portions_adding.specs.Adding.{Adds}
 use Rattle.answering.specs.Closing.{checkedIn, Closes}
 use Rattle.portions.proofs.Bounds.{shut-shut}
 

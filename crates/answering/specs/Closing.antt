@@ -19,7 +19,7 @@ use Rattle.answering.specs.declared.Closing.{Closing}
 use Rattle.answering.specs.declared.Closing.the-variants.{Done, Late}
 use Rattle.answering.specs.declared.Closed.{Closed}
 use Rattle.portions.specs.Usable.{isOpen}
-use Rattle.portions.specs.Jobs.{Rooms, Holds, shutOf}
+use Rattle.portions.specs.States.{Rooms, Holds, shutOf}
 
 -- ---- closing: '3, 5 and 6 at closing; 18, .. a second closing call after closing', and A10's 9
 

@@ -14,7 +14,7 @@ ghost use mathlib.Core.Path.{_≡_};
 ghost use mathlib.Core.Bool.{true};
 ghost use Prim.Native.Nat.{_≤_, min};
 ghost use Rattle.portions.specs.Usable.{isOpen};
-ghost use Rattle.portions.specs.Jobs.{shutOf};
+ghost use Rattle.portions.specs.States.{shutOf};
 ghost use Rattle.answering.specs.Closing.{HandsOut, Settles, Closes, closingNumber, closingOr};
 
 // Checking's answer, or 18.

@@ -8,6 +8,7 @@ use lib.Dec.{eqb}
 use borrow.Author.Tests.{le-leb, eqb-true}
 use Rattle.laws.specs.Ascii.{ascii}
 use Rattle.laws.specs.Lists.{anyOf}
+use Rattle.laws.specs.Tests.{isByte}
 use Rattle.laws.proofs.Any.{or-left, weaker, any-append}
 use Rattle.text.specs.Characters.{isInadmissible, isOdd}
 use Rattle.text.specs.Digits.{allDigits}
@@ -15,7 +16,6 @@ use Rattle.text.specs.Decimals.{decimal}
 use Rattle.text.proofs.Admissible.{odd-asked}
 use Rattle.text.proofs.Widths.{digit-parts}
 use Rattle.text.proofs.Shortest.{decimal-digits}
-use Rattle.lines.specs.Lines.{isByte}
 use Rattle.lines.proofs.Texts.{free}
 use Rattle.closing_lines.specs.Closing.{inText, sumText, sumTextsFrom, closingTexts}
 

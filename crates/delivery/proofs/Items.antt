@@ -11,7 +11,7 @@ use Rattle.laws.specs.Refusals.{_if_, first}
 use Rattle.laws.proofs.Any.{or-right}
 use Rattle.lines.specs.Lines.{lines}
 use Rattle.lines.specs.Texts.{fileOf}
-use Rattle.headings.specs.Writing.{headingText}
+use Rattle.heading_writer.specs.Writing.{headingText}
 use Rattle.rules.specs.Terms.{Terms, input}
 use Rattle.rules.specs.Rows.{rowsFrom}
 use Rattle.item_reader.specs.Slips.{Headed}

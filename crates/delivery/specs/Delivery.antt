@@ -11,7 +11,7 @@ use Rattle.laws.specs.Refusals.{Refusal, _if_, first}
 use Rattle.lines.specs.Lines.{lines}
 use Rattle.lines.specs.Texts.{fileOf}
 use Rattle.headings.specs.declared.Heading.{Heading}
-use Rattle.headings.specs.Writing.{headingText}
+use Rattle.heading_writer.specs.Writing.{headingText}
 use Rattle.rules.specs.Terms.{isCode, isAccountingDay, input}
 use Rattle.rules.specs.Rows.{rowsFrom}
 use Rattle.rules.specs.Tree.{Item}

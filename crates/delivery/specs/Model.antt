@@ -8,7 +8,7 @@ use lib.ListN.{length, drop}
 use Rattle.laws.specs.Refusals.{Refusal, _if_}
 use Rattle.lines.specs.Lines.{lines}
 use Rattle.lines.specs.Texts.{fileOf}
-use Rattle.headings.specs.Writing.{headingText}
+use Rattle.heading_writer.specs.Writing.{headingText}
 use Rattle.rules.specs.Rows.{rowsFrom}
 use Rattle.outgoing_lines.specs.Outgoing.{Orders, textsFrom}
 use Rattle.surveying.specs.Items.{itemsOf, mixed}

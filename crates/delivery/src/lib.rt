@@ -3,10 +3,10 @@
 // of the items, on `outgoing_lines` and `closing_lines` for the lines, on `headings` for the 51, and on `listing` for what a code and an accounting
 // day are. specs/Model.antt has what the parts promise each other.
 use closing_lines::put_closing;
+use heading_writer::put_heading;
 use headings::Code;
 use headings::Heading;
 use headings::ItemNo;
-use headings::writing::put_heading;
 use listing::checking;
 use outgoing_lines::at_or_zero;
 use outgoing_lines::put_lines;

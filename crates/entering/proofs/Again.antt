@@ -20,7 +20,7 @@ use Rattle.rules.specs.Terms.{isCode, isAccountingDay, Terms, input}
 use Rattle.rules.specs.HeadingRules.{rule11}
 use Rattle.rules.specs.Faults.{faults}
 use Rattle.lines.specs.Lines.{body}
-use Rattle.lines.proofs.Body.{body-take}
+use Rattle.file_body.proofs.Body.{body-take}
 use Rattle.item_reader.specs.declared.Slip.{Slip}
 use Rattle.item_reader.specs.Slips.{slipsFrom}
 use Rattle.item_reader.specs.Accepted.{Fine, Each, Readable}

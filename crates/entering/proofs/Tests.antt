@@ -11,7 +11,7 @@ use Rattle.laws.specs.Refusals.{Refusal, _if_, first}
 use Rattle.laws.proofs.Put.{put-is}
 use Rattle.text.specs.Strings.{Wrote}
 use Rattle.lines.specs.Lines.{body}
-use Rattle.lines.proofs.Body.{body-take}
+use Rattle.file_body.proofs.Body.{body-take}
 use Rattle.rules.specs.Terms.{input}
 use Rattle.rules.specs.Faults.{faults}
 use Rattle.item_reader.specs.Slips.{slipsFrom}

@@ -11,20 +11,20 @@ use lib.Dec.{leb}
 use Rattle.laws.specs.Refusals.{first}
 use Rattle.laws.proofs.Truth.{and-parts}
 use Rattle.text.specs.Digits.{isDigit, value}
-use Rattle.figures.specs.declared.numbers.Run.{Run}
-use Rattle.figures.specs.declared.numbers.Two.the-variants.{Found, NotTwo}
+use Rattle.number_reader.specs.declared.Run.{Run}
+use Rattle.number_reader.specs.declared.Two.the-variants.{Found, NotTwo}
 use Rattle.fields.specs.declared.classes.Class.{Class}
 use Rattle.fields.specs.declared.classes.Class.the-variants.{Number, Account, Text, Free}
 use Rattle.fields.specs.declared.readings.Reading.{Reading}
 use Rattle.fields.specs.declared.readings.Reading.the-variants.{Broken, Plain, Party}
 use Rattle.figures.specs.Layouts.{Part, num, space, run, headIs, fits, part, maybeName}
-use Rattle.figures.specs.Numbers.{numberAt, twoOf}
+use Rattle.number_reader.specs.Numbers.{numberAt, twoOf}
 use Rattle.figures.specs.declared.parts.Halves.{Halves}
 use Rattle.figures.specs.declared.accounts.Account.the-variants.{Judged}
 use Rattle.figures.specs.Accounts.{halvesOf, areDigits, accountOf, accountRefusals}
 use Rattle.fields.specs.Readings.{textOf, layoutOf, saidBy, ifFits, readingOf}
 use Rattle.figures.proofs.Runs.{run-length, run-again}
-use Rattle.figures.proofs.Told.{tests, not-found, known, size, first-is, second-is}
+use Rattle.number_reader.proofs.Told.{tests, not-found, known, size, first-is, second-is}
 use Rattle.figures.proofs.Endings.{bytes-are, empty-past}
 
 module _ (k : Class) (l₁ h₁ l₂ h₂ : ℕ) (ps : List Part) (t : List ℕ) (lay : layoutOf k .own ≡ num l₁ h₁ ∷ space ∷ num l₂ h₂ ∷ ps) where

@@ -1,11 +1,10 @@
 // What a field's own text says, class by class.
 use crate::classes::Class;
-use figures::numbers;
-use figures::numbers::Two;
 use figures::parts;
 use figures::parts::Halves;
 use headings::Amount;
 use headings::ItemNo;
+use number_reader::Two;
 ghost use mathlib.Core.Path.{_≡_};
 ghost use mathlib.Core.Bool.{true, false};
 ghost use Prim.Native.Nat.{_≤_};
@@ -67,7 +66,7 @@ fn ends_or_name(t: &[u8], at: usize) -> bool
 fn read_money(t: &[u8]) -> Reading
     ensures { λ r. ⌜ r ≡ readingOf Class.Money (now (t .entry)) ⌝ }
 {
-    match numbers::read_two(t, 1, 15, 8, 8) {
+    match number_reader::read_two(t, 1, 15, 8, 8) {
         Two::Found {
             first,
             mid: _,
@@ -86,7 +85,7 @@ fn read_money(t: &[u8]) -> Reading
 fn read_range(t: &[u8]) -> Reading
     ensures { λ r. ⌜ r ≡ readingOf Class.Range (now (t .entry)) ⌝ }
 {
-    match numbers::read_two(t, 1, 7, 1, 7) {
+    match number_reader::read_two(t, 1, 7, 1, 7) {
         Two::Found {
             first,
             mid: _,
@@ -105,7 +104,7 @@ fn read_range(t: &[u8]) -> Reading
 fn read_group(t: &[u8]) -> Reading
     ensures { λ r. ⌜ r ≡ readingOf Class.Group (now (t .entry)) ⌝ }
 {
-    match numbers::read_two(t, 1, 7, 1, 17) {
+    match number_reader::read_two(t, 1, 7, 1, 17) {
         Two::Found {
             first,
             mid: _,
@@ -145,7 +144,7 @@ fn read_account(t: &[u8]) -> Reading
 fn read_number(t: &[u8]) -> Reading
     ensures { λ r. ⌜ r ≡ readingOf Class.Number (now (t .entry)) ⌝ }
 {
-    let n = numbers::number_at(t, 0, 10);
+    let n = number_reader::number_at(t, 0, 10);
     let end = n.end;
     if_fits((1 <= end) & ends(t, end), Reading::Plain)
 }

@@ -8,8 +8,11 @@ use lib.ListN.{length, drop, getD, drop-of-length-le, length-drop}
 use lib.Seq.{drop-cons, drop-drop}
 use lib.Dec.{leb, eqb, leb·zero, leb·suc-zero, leb·suc-suc}
 use borrow.Author.Tests.{leb-true, leb-false, eq-eqb, ne-eqb}
-use Rattle.figures.specs.Layouts.{bytes, anyByte, run, isEmpty, fits, noMore, maybeRest, maybeName}
-use Rattle.figures.proofs.Pairs.{head-at}
+use Rattle.figures.specs.Layouts.{bytes, anyByte, run, isEmpty, headIs, fits, noMore, maybeRest, maybeName}
+
+pub head-at : (x : ℕ) (t : List ℕ) (m : ℕ) → m < length t → headIs x (drop m t) ≡ eqb (getD t m 0) x
+unfolding headIs
+head-at x t m h = rw (drop-cons t m 0)
 
 pub empty-past : (t : List ℕ) (k : ℕ) → length t ≤ k → isEmpty (drop k t) ≡ true
 unfolding isEmpty

@@ -1,5 +1,4 @@
 // The two parts of an account, and what each is as a half of it.
-use crate::numbers;
 ghost use mathlib.Core.Path.{_≡_};
 ghost use Prim.Native.Nat.{_+_, _≤_, min};
 ghost use lib.ListN.{length};
@@ -11,6 +10,12 @@ pub struct Weighed {
     pub sum: u64,
     pub any: u64,
     pub end: usize,
+}
+
+pub fn wide(b: u8) -> u64
+    ensures { λ r. ⌜ r ≡ b ⌝ }
+{
+    b as u64
 }
 
 // Where so many bytes from a place on end, or the text does.
@@ -39,7 +44,7 @@ pub fn weighed_at(t: &[u8], at: usize, most: usize) -> Weighed
         if 9 < e {
             return Weighed { sum, any, end: i };
         }
-        let d = numbers::wide(e);
+        let d = wide(e);
         sum = 2 * sum + d;
         any = any | d;
         i += 1;

@@ -1,4 +1,3 @@
 pub mod ItemTypes
 pub mod HeadRules
 pub mod Reading
-pub mod Writing

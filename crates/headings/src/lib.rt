@@ -1,10 +1,8 @@
-// Headings of items: their types and parts, the rules on those parts, and the 54 bytes in which they are read and written. Reading
-// and writing are open jobs: they take every input, refuse by document 01's numbers, and a refusal changes no lent byte. Stands on
-// `text` (digits, strings, layouts) and on `laws`.
+// Headings of items: their types and parts, the rules on those parts, and the 54 bytes that they are read from. Reading is an open job:
+// it takes every input, and refuses by document 01's number. Stands on `text` (digits, strings, layouts) and on `laws`.
 pub mod head_rules;
 pub mod item_types;
 pub mod reading;
-pub mod writing;
 
 // A participant's code.
 pub struct Code(pub u32);

@@ -8,20 +8,20 @@ use mathlib.Core.Logic.{_⊎_, inl, inr}
 use lib.ListN.{length, take, drop, replicate, length-take, length-drop}
 use lib.Seq.{take-take, drop-drop}
 use Rattle.laws.specs.Lists.{anyOf}
+use Rattle.laws.specs.Tests.{isByte}
 use Rattle.text.specs.Characters.{isOdd}
 use Rattle.text.specs.Digits.{allDigits, value}
 use Rattle.text.specs.Forms.{template, partAt, numbers}
 use Rattle.text.proofs.Pieces.{ready, placed}
-use Rattle.lines.specs.Lines.{isByte, Line, lines}
+use Rattle.lines.specs.Lines.{Line, lines}
 use Rattle.lines.specs.Reading.{lineAt, span, after, IsNext}
-use Rattle.lines.specs.Words.{bytesOf}
+use Rattle.words.specs.Words.{bytesOf}
 use Rattle.lines.specs.declared.Found.{Found}
 use Rattle.lines.proofs.Reading.{is-next, line-block}
 use Rattle.headings.specs.declared.Heading.{Heading}
 use Rattle.headings.specs.declared.Read.the-variants.{Reads, Unreadable}
 use Rattle.headings.specs.Reading.{layout, headingFrom, isHeading, headingOf}
-use Rattle.headings.proofs.Places.{found}
-use Rattle.headings.proofs.RoundTrips.{read-size}
+use Rattle.headings.proofs.Places.{found, read-size}
 use Rattle.item_reader.specs.Slips.{slipsFrom, Headed, IsFirst, IsHead}
 use Rattle.item_reader.specs.Search.{readsTo, IsPast}
 use Rattle.item_reader.specs.Accepted.{Each, Readable, IsNumbered}

@@ -8,10 +8,11 @@ use lib.Dec.{eqb}
 use lib.ListN.{take}
 use borrow.Author.Tests.{eqb-true}
 use Rattle.laws.specs.Ascii.{ascii}
+use Rattle.laws.specs.Tests.{isByte}
 use Rattle.laws.proofs.Truth.{never-true, both-left, both-right}
 use Rattle.text.specs.Strings.{begins}
 use Rattle.text.specs.Digits.{isDigit, value}
-use Rattle.lines.specs.Lines.{isByte, Line, crlf, onto, lines}
+use Rattle.lines.specs.Lines.{Line, crlf, onto, lines}
 use Rattle.lines.proofs.Lines.{lines-cut, lines-on, crlf-not}
 use Rattle.headings.specs.declared.Read.the-variants.{Unreadable}
 use Rattle.headings.specs.Reading.{headingOf}

@@ -13,12 +13,13 @@ use lib.Seq.{drop-cons, drop-drop}
 use borrow.Author.Tests.{eqb-true, ltb-true, ltb-false}
 use Rattle.laws.specs.Ascii.{ascii}
 use Rattle.laws.specs.Lists.{anyOf}
+use Rattle.laws.specs.Tests.{isByte}
 use Rattle.laws.proofs.Truth.{never-true, both-left, both-right}
 use Rattle.laws.proofs.Any.{or-left, or-right}
 use Rattle.text.specs.Strings.{begins}
 use Rattle.text.specs.Characters.{isOdd}
 use Rattle.text.specs.Forms.{template, fitsByte, hasForm, numbers}
-use Rattle.lines.specs.Lines.{isByte, Line, crlf, lines}
+use Rattle.lines.specs.Lines.{Line, crlf, lines}
 use Rattle.lines.specs.Reading.{lineAt, span, after, IsNext}
 use Rattle.lines.specs.declared.Found.{Found}
 use Rattle.lines.proofs.Lines.{lines-past, lines-cut}
@@ -27,7 +28,7 @@ use Rattle.headings.specs.declared.Read.{Read}
 use Rattle.headings.specs.declared.Read.the-variants.{Reads, Unreadable}
 use Rattle.headings.specs.declared.Heading.{Heading}
 use Rattle.headings.specs.Reading.{layout, headingFrom, isHeading, headingOf}
-use Rattle.headings.proofs.RoundTrips.{read-size}
+use Rattle.headings.proofs.Places.{read-size}
 use Rattle.fields.specs.declared.kinds.Kind.the-variants.{Continuation, Field, Other}
 use Rattle.fields.specs.declared.kinds.Kind.the-variants.{Heading as HeadingKind}
 use Rattle.fields.specs.Kinds.{kindOf}

@@ -8,10 +8,10 @@ use lib.Dec.{eqb}
 use lib.ListN.{length, getD}
 use borrow.Author.Tests.{eqb-true, eq-eqb}
 use Rattle.laws.specs.Ascii.{ascii}
-use Rattle.laws.specs.Tests.{among}
+use Rattle.laws.specs.Tests.{among, isByte}
 use Rattle.laws.proofs.Truth.{both-left, both-right}
 use Rattle.text.specs.Strings.{begins}
-use Rattle.lines.specs.Lines.{isByte, Line, crlf, onto, lines}
+use Rattle.lines.specs.Lines.{Line, crlf, onto, lines}
 use Rattle.lines.proofs.Lines.{lines-none, lines-cut, lines-on}
 use Rattle.fields.specs.declared.kinds.Kind.{Kind}
 use Rattle.fields.specs.declared.kinds.Kind.the-variants.{Heading, Continuation, Field, Other}

@@ -5,7 +5,7 @@ use mathlib.Core.Path.{_≡_}
 use mathlib.Core.Bool.{true, false}
 use mathlib.Core.List.{List, [], _∷_}
 use Rattle.text.specs.Digits.{value}
-use Rattle.lines.specs.Words.{bytesOf}
+use Rattle.words.specs.Words.{bytesOf}
 use Rattle.headings.specs.declared.Heading.{Heading}
 use Rattle.headings.specs.declared.Amount.{Amount}
 use Rattle.headings.specs.declared.Read.the-variants.{Reads}

@@ -7,8 +7,9 @@ use native.Mathlib.Omega.{arith}
 use lib.ListN.{length, take, drop, getD, length-drop, take-append-drop}
 use lib.Seq.{drop-cons, take-suc}
 use borrow.Author.Tests.{eqb-true}
+use Rattle.laws.specs.Tests.{isByte}
 use Rattle.laws.proofs.Truth.{and-parts}
-use Rattle.lines.specs.Lines.{Line, isByte, crlf, onto, lines, takenBy}
+use Rattle.lines.specs.Lines.{Line, crlf, onto, lines, takenBy}
 use Rattle.lines.proofs.Lines.{lines-none, crlf-short}
 use Rattle.lines.proofs.Reading.{crlf-in}
 use Rattle.joining.specs.Whole.{endedOnes, openOne, whole, rest}

@@ -7,10 +7,11 @@ use native.Mathlib.Omega.{arith}
 use borrow.Author.Tests.{eqb-true}
 use lib.Seq.{take-all}
 use lib.ListN.{length, take, drop, length-append, length-take}
+use Rattle.laws.specs.Tests.{isByte}
 use Rattle.laws.proofs.Truth.{and-parts}
 use Rattle.text.specs.Strings.{begins}
 use Rattle.lines.specs.declared.Found.{Found}
-use Rattle.lines.specs.Lines.{Line, isByte, crlf, lines, takenBy}
+use Rattle.lines.specs.Lines.{Line, crlf, lines, takenBy}
 use Rattle.lines.specs.Reading.{lineAt}
 use Rattle.lines.proofs.Lines.{lines-none, lines-cut}
 use Rattle.lines.proofs.Reading.{is-next}

@@ -10,6 +10,7 @@ use lib.ListN.{length, take, drop, set, getD, replicate, length-append, length-t
 use lib.Seq.{take-all, take-length, drop-length, take-append-le, drop-append-le, take-append-add, drop-append-add, set-split}
 use borrow.Author.Tests.{leb-true, leb-false, eqb-true, eq-eqb, ne-eqb, lt-ltb, le-ltb}
 use Rattle.laws.specs.Lists.{put, anyOf}
+use Rattle.laws.specs.Tests.{isByte}
 use Rattle.laws.proofs.Any.{any-append}
 use Rattle.laws.proofs.Put.{put-is, length-put, take-put, put-both, put-none}
 use Rattle.laws.proofs.Parts.{drop-min}
@@ -17,7 +18,6 @@ use Rattle.laws.proofs.Truth.{and-parts}
 use Rattle.text.specs.Characters.{isInadmissible}
 use Rattle.text.specs.Strings.{Wrote}
 use Rattle.text.proofs.Wrote.{then}
-use Rattle.lines.specs.Lines.{isByte}
 use Rattle.joining.specs.declared.Text.{Text}
 use Rattle.joining.specs.declared.Held.{Held}
 use Rattle.joining.specs.Short.{sign, shortTo, short, endsCr, crIf, withoutCr, keptText, added}

@@ -7,9 +7,10 @@ use Prim.Native.Nat.{ℕ, _+_, _-_, _≤_, min}
 use native.Mathlib.Omega.{arith}
 use borrow.Author.Tests.{eqb-true}
 use lib.ListN.{length, take, drop, length-append, length-take}
+use Rattle.laws.specs.Tests.{isByte}
 use Rattle.text.specs.Strings.{begins}
 use Rattle.lines.specs.declared.Found.{Found}
-use Rattle.lines.specs.Lines.{Line, isByte, lines, takenBy}
+use Rattle.lines.specs.Lines.{Line, lines, takenBy}
 use Rattle.lines.specs.Reading.{firstAt, lineAt}
 use Rattle.lines.proofs.Lines.{lines-none}
 use Rattle.lines.proofs.Reading.{is-next}

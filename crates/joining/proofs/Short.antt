@@ -8,9 +8,10 @@ use borrow.Author.Tests.{eqb-true}
 use lib.ListN.{length, take, drop, take-append-drop, drop-of-length-le}
 use lib.Seq.{take-all}
 use Rattle.laws.specs.Lists.{anyOf}
+use Rattle.laws.specs.Tests.{isByte}
 use Rattle.laws.proofs.Any.{any-append}
 use Rattle.text.specs.Characters.{isAdmissible, isInadmissible}
-use Rattle.lines.specs.Lines.{isByte, crlf, lines}
+use Rattle.lines.specs.Lines.{crlf, lines}
 use Rattle.lines.proofs.Lines.{crlf-not}
 use Rattle.joining.specs.Short.{sign, shortTo, short, endsCr, crIf, withoutCr, kept, keptText}
 use Rattle.joining.proofs.Cutting.{crlf-two, Clear, ahead, clear-lines}

@@ -4,8 +4,8 @@ use mathlib.Core.Bool.{Bool, false, cond}
 use mathlib.Core.List.{List, [], _∷_, _++_}
 use lib.ListN.{length, take, drop}
 use Rattle.laws.specs.Lists.{anyOf}
+use Rattle.laws.specs.Tests.{isByte}
 use Rattle.text.specs.Characters.{isInadmissible}
-use Rattle.lines.specs.Lines.{isByte}
 
 -- one byte that stands for all of a text: 7F where an inadmissible byte stands in it, else a space; none for none
 unfoldable pub sign : List ℕ → List ℕ

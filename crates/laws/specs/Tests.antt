@@ -4,6 +4,10 @@ use mathlib.Core.Bool.{Bool, true, false, cond, _&&_, _||_}
 use mathlib.Core.List.{List, [], _∷_}
 use lib.Dec.{eqb}
 
+-- x is the byte b
+abbrev pub isByte : ℕ → ℕ → Bool
+isByte b x = eqb x b
+
 -- a rule that is a list of tests holds where every one of them does
 abbrev pub every : List Bool → Bool
 every [] = true

@@ -5,7 +5,8 @@ use mathlib.Core.List.{List, [], _∷_}
 use Prim.Native.Nat.{ℕ, suc, _+_, _<_, _≤_}
 use native.Mathlib.Omega.{arith}
 use lib.ListN.{length, take, drop, drop-of-length-le}
-use Rattle.lines.specs.Lines.{isByte, Line, crlf, onto, lines, taken}
+use Rattle.laws.specs.Tests.{isByte}
+use Rattle.lines.specs.Lines.{Line, crlf, onto, lines, taken}
 
 pub lines-none : lines [] ≡ []
 unfolding lines

@@ -10,10 +10,11 @@ use native.Mathlib.Omega.{arith}
 use lib.ListN.{length, take, drop, getD, length-drop}
 use lib.Seq.{length-take-le, drop-cons, drop-drop}
 use Rattle.laws.specs.Lists.{anyOf}
+use Rattle.laws.specs.Tests.{isByte}
 use Rattle.laws.proofs.Any.{or-left, or-right}
 use Rattle.text.specs.Characters.{isPlain, isOdd}
 use Rattle.lines.specs.declared.Found.{Found}
-use Rattle.lines.specs.Lines.{isByte, Line, crlf, onto, lines, taken}
+use Rattle.lines.specs.Lines.{Line, crlf, onto, lines, taken}
 use Rattle.lines.specs.Reading.{restTo, firstAt, after, lineAt, span, IsNext}
 use Rattle.lines.proofs.Lines.{lines-past, lines-cut, lines-on, crlf-short, crlf-not, Cut, cut}
 

@@ -12,12 +12,13 @@ use lib.Seq.{getD-drop, getD-take, take-take}
 use borrow.Author.Tests.{ne-eqb}
 use Rattle.laws.specs.Lists.{anyOf}
 use Rattle.laws.proofs.Any.{weaker}
+use Rattle.laws.specs.Tests.{isByte}
 use Rattle.text.specs.Characters.{isPlain, isOdd}
-use Rattle.lines.specs.Lines.{isByte, crlf}
+use Rattle.lines.specs.Lines.{crlf}
 use Rattle.lines.specs.Reading.{after, lineAt}
-use Rattle.lines.specs.Words.{bytesOf, isControl, isAbove, Tells, Marks, flagged}
+use Rattle.words.specs.Words.{bytesOf, isControl, isAbove, Tells, Marks, flagged}
 use Rattle.lines.proofs.Reading.{line-more, line-block}
-use Rattle.lines.proofs.Words.{odds-flagged, flagged-or, none-hit, FirstControl, first-control}
+use Rattle.words.proofs.Words.{odds-flagged, flagged-or, none-hit, FirstControl, first-control}
 
 -- CR is below 20
 no-cr : (b : ℕ) → isControl b ≡ false → isByte 0x0d b ≡ false

@@ -6,9 +6,10 @@ use mathlib.Core.List.{List, [], _∷_, _++_, append-assoc}
 use lib.Dec.{eqb}
 use borrow.Author.Tests.{eqb-true}
 use Rattle.laws.specs.Lists.{anyOf}
+use Rattle.laws.specs.Tests.{isByte}
 use Rattle.laws.proofs.Truth.{both-left, both-right}
 use Rattle.laws.proofs.Any.{or-left, or-right, any-append}
-use Rattle.lines.specs.Lines.{isByte, hasMark, body, Line, crlf, onto, lines}
+use Rattle.lines.specs.Lines.{hasMark, body, Line, crlf, onto, lines}
 use Rattle.lines.specs.Texts.{lineText, linesText, endedLines, fileOf}
 use Rattle.lines.proofs.Lines.{lines-none, lines-cut, lines-on, crlf-not}
 

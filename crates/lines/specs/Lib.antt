@@ -1,5 +1,3 @@
 pub mod Lines
-pub mod Blocks
 pub mod Reading
-pub mod Words
 pub mod Texts

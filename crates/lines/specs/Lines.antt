@@ -3,13 +3,10 @@
 use Prim.Native.Nat.{ℕ, _+_, _-_}
 use mathlib.Core.Bool.{Bool, true, false, cond, _&&_}
 use mathlib.Core.List.{List, [], _∷_}
-use lib.Dec.{ltb, eqb}
+use lib.Dec.{ltb}
 use lib.ListN.{length, take}
 use Rattle.laws.specs.Lists.{anyOf}
-
--- x is the byte b
-abbrev pub isByte : ℕ → ℕ → Bool
-isByte b x = eqb x b
+use Rattle.laws.specs.Tests.{isByte}
 
 -- there is a byte 1A in the file (if not: refusal 5)
 abbrev pub hasMark : List ℕ → Bool

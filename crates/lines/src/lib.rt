@@ -1,68 +1,15 @@
-// How a file is cut into lines: the bytes before the first 1A, cut at each CR LF. `body_len` says how far a file is read;
-// `line_from` gives the line at a place, and by the same look whether it holds a byte that is not plain, by a reader that carries
-// the lent file and that place; `line_near` gives the same, byte by byte. Promised, for every file and place: they give what `body` and
-// `lines` of specs/Lines.antt say. `word` gives eight bytes as one number, which callers compare. It stands on crates `laws` and `text`.
+// How a file is cut into lines: at each CR LF. `line_from` gives the line at a place, and by the same look whether it holds a byte that
+// is not plain, by a reader that carries the lent file and that place; `line_near` gives the same, byte by byte. Promised, for every
+// file and place: they give what `lines` of specs/Lines.antt says. It stands on crates `laws`, `text` and `words`.
+use words::controls;
+use words::has_high;
+use words::odds;
+use words::word;
 ghost use mathlib.Core.Path.{_≡_};
-ghost use Prim.Native.Nat.{_+_, _-_, _<_, _≤_};
-ghost use lib.ListN.{length, take, drop};
-ghost use Rattle.laws.specs.Lists.{anyOf};
-ghost use Rattle.lines.specs.Lines.{isByte, body, crlf};
-ghost use Rattle.lines.specs.Blocks.{clear};
+ghost use Prim.Native.Nat.{_+_, _-_, _<_};
+ghost use lib.ListN.{length, drop};
+ghost use Rattle.lines.specs.Lines.{crlf};
 ghost use Rattle.lines.specs.Reading.{restTo, after, lineAt};
-ghost use Rattle.lines.specs.Words.{bytesOf, isAbove, Tells, Marks, flagged};
-
-// Whether b stands in s. A loop that only sets a flag is compiled to wide compares; one that stops early is not.
-fn holds(s: &[u8], b: u8) -> bool
-    ensures { λ r. ⌜ r ≡ anyOf (isByte b) (now (s .entry)) ⌝ }
-{
-    let mut found = false;
-    let mut i = 0;
-    while i < s.len() {
-        if s[i] == b {
-            found = true;
-        }
-        i += 1;
-    }
-    found
-}
-
-// Whether n bytes stand at i, and b is not among them.
-fn clear_of(s: &[u8], i: usize, n: usize, b: u8) -> bool
-    ensures { λ r. ⌜ r ≡ clear (now (s .entry)) i n b ⌝ }
-{
-    if s.len() < i {
-        return false;
-    }
-    if s.len() - i < n {
-        return false;
-    }
-    !holds(&s[i..i + n], b)
-}
-
-// The place of the first 1A from a place on, byte by byte; where there is none, the end, or that place if it is past the end.
-fn mark_from(file: &[u8], at: usize) -> usize
-    ensures { λ r. ⌜ r ≡ at + length (body (drop at (now (file .entry)))) ⌝ }
-{
-    let mut i = at;
-    while i < file.len() {
-        if file[i] == 0x1a {
-            return i;
-        }
-        i += 1;
-    }
-    i
-}
-
-// How many bytes stand before the first 1A, or all where there is none.
-pub fn body_len(file: &[u8]) -> usize
-    ensures { λ r. ⌜ r ≡ length (body (now (file .entry))) ⌝ }
-{
-    let mut i = 0;
-    while clear_of(file, i, 64, 0x1a) {
-        i += 64;
-    }
-    mark_from(file, i)
-}
 
 // A line that was found: where it ends, where the next one starts, whether CR LF stands between, and whether a byte that is not
 // plain stands in it.
@@ -120,56 +67,6 @@ fn line_by_bytes(s: &[u8], at: usize, before: bool) -> Found
         i += 1;
     }
     rest_to(n, odd | !text::characters::is_plain(s[i]))
-}
-
-// Words of one byte eight times: the high bit; 01, which makes 7F reach it; 20, for which only a byte below it borrows.
-const HIGH: u64 = 0x8080_8080_8080_8080;
-
-const ONES: u64 = 0x0101_0101_0101_0101;
-
-const SPACES: u64 = 0x2020_2020_2020_2020;
-
-fn wide(b: u8) -> u64
-    ensures { λ r. ⌜ r ≡ b ⌝ }
-{
-    b as u64
-}
-
-// The eight bytes from a place on as one word, the first one lowest: compiled to one load.
-pub fn word(s: &[u8], i: usize) -> u64
-    requires { ⌜ i + 8 ≤ length (now s) ⌝ }
-    ensures { λ r. ⌜ bytesOf 8 r ≡ take 8 (drop i (now (s .entry))) ⌝ }
-{
-    wide(s[i])
-        | (wide(s[i + 1]) << 8)
-        | (wide(s[i + 2]) << 16)
-        | (wide(s[i + 3]) << 24)
-        | (wide(s[i + 4]) << 32)
-        | (wide(s[i + 5]) << 40)
-        | (wide(s[i + 6]) << 48)
-        | (wide(s[i + 7]) << 56)
-}
-
-// High bits alone: the first is that of the first byte of w below 20, as CR is. That one borrows from the next, so the bits after it say
-// nothing.
-fn controls(w: u64) -> u64
-    ensures { λ r. ⌜ Marks w r ⌝ }
-{
-    (std::num::wrapping_sub_u64(w, SPACES) & (w ^ HIGH)) & HIGH
-}
-
-// A word whose first high bit is that of the first byte of w above 7E. Only FF carries into the next, and it is above 7E itself.
-fn odds(w: u64) -> u64
-    ensures { λ r. ⌜ Tells isAbove 8 w r ⌝ }
-{
-    std::num::wrapping_add_u64(w, ONES) | w
-}
-
-// Whether a byte of a word has its high bit.
-fn has_high(w: u64) -> bool
-    ensures { λ r. ⌜ r ≡ flagged w ⌝ }
-{
-    w & HIGH != 0
 }
 
 // The first place at which no eight bytes stand.

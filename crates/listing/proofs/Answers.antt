@@ -10,7 +10,7 @@ use borrow.Author.Tests.{lt-ltb, le-ltb, ltb-true, ltb-false, eq-eqb, ne-eqb, eq
 use Rattle.laws.specs.Refusals.{first}
 use Rattle.laws.proofs.Refusals.{none-applies}
 use Rattle.lines.specs.Lines.{body, hasMark, hasLeftovers, startsWithMark, offsetOf}
-use Rattle.lines.proofs.Body.{body-take, body-shorter, leftovers-long, body-empty}
+use Rattle.file_body.proofs.Body.{body-take, body-shorter, leftovers-long, body-empty}
 use Rattle.rules.specs.Terms.{isCode, isAccountingDay, Terms}
 use Rattle.rules.specs.Faults.{faults, faultsIn}
 use Rattle.ledger.specs.declared.Ledger.{Ledger}

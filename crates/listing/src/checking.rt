@@ -62,7 +62,7 @@ pub fn check(
     if !are_level(lines.len(), rules.len(), offsets.len()) {
         return Checked::Refused(Unchecked::UnequalRooms);
     }
-    let n = lines::body_len(file);
+    let n = file_body::body_len(file);
     if file.len() <= n {
         return Checked::Refused(Unchecked::NoMark);
     }

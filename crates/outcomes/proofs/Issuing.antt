@@ -8,7 +8,7 @@ use borrow.Author.Tests.{lt-ltb, le-ltb}
 use Rattle.laws.specs.Refusals.{first}
 use Rattle.headings.specs.declared.ItemNo.{ItemNo}
 use Rattle.headings.specs.declared.Heading.{Heading}
-use Rattle.headings.specs.Writing.{headingText}
+use Rattle.heading_writer.specs.Writing.{headingText}
 use Rattle.outcome_tables.specs.Outcomes.{inClass}
 use Rattle.outcomes.specs.Deriving.{numbered, issueRefusals, issuedTarget}
 

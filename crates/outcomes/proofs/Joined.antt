@@ -11,7 +11,7 @@ use Rattle.headings.specs.declared.Heading.{Heading}
 use Rattle.headings.specs.declared.Read.{Read}
 use Rattle.headings.specs.declared.Read.the-variants.{Reads, Unreadable}
 use Rattle.headings.specs.Reading.{headingOf}
-use Rattle.headings.specs.Writing.{headingText, targetAfter}
+use Rattle.heading_writer.specs.Writing.{headingText, targetAfter}
 use Rattle.outcomes.specs.declared.Derived.{Derived}
 use Rattle.outcomes.specs.declared.Derived.the-variants.{NoHeading}
 use Rattle.turning.specs.Turning.{barredTo, isOutcome, isStanding, isMissing, turned, turnRefusals}

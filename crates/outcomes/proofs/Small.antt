@@ -9,7 +9,7 @@ use borrow.Author.Tests.{lt-ltb, ltb-true}
 use Rattle.laws.proofs.Every.{each-holds}
 use Rattle.text.specs.Forms.{numbersFit}
 use Rattle.headings.specs.declared.Heading.{Heading}
-use Rattle.headings.specs.Writing.{fitsHeading}
+use Rattle.heading_writer.specs.Writing.{fitsHeading}
 
 pub record Small (h : Heading) : Type 0 where
   pub kind : h .kind < 100

@@ -16,9 +16,9 @@ use Rattle.headings.specs.declared.Heading.{Heading}
 use Rattle.headings.specs.declared.Read.the-variants.{Reads}
 use Rattle.headings.specs.ItemTypes.{isTrilateral, isPriority}
 use Rattle.headings.specs.Reading.{headingOf}
-use Rattle.headings.specs.Writing.{headingText}
-use Rattle.headings.proofs.Answers.{text-size}
-use Rattle.headings.proofs.RoundTrips.{read-written, fits-read}
+use Rattle.heading_writer.specs.Writing.{headingText}
+use Rattle.heading_writer.proofs.Answers.{text-size}
+use Rattle.heading_writer.proofs.RoundTrips.{read-written, fits-read}
 use Rattle.outcome_tables.specs.Outcomes.{codes, inClass}
 use Rattle.turning.specs.Turning.{turned}
 use Rattle.outcomes.specs.Deriving.{numbered, deriveRefusals, derivedTarget}

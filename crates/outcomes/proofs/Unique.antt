@@ -5,7 +5,7 @@ use Prim.Native.Nat.{ℕ, _-_}
 use lib.ListN.{getD}
 use Rattle.headings.specs.declared.Code.{Code}
 use Rattle.headings.specs.declared.ItemNo.{ItemNo}
-use Rattle.headings.proofs.Unique.{same}
+use Rattle.heading_writer.proofs.Unique.{same}
 use Rattle.outcomes.specs.declared.Told.{Told}
 use Rattle.outcomes.specs.declared.Told.the-variants as telling
 use Rattle.outcomes.specs.declared.Derived.{Derived}

@@ -18,8 +18,8 @@ use Rattle.headings.specs.declared.Read.the-variants.{Reads, Unreadable}
 use Rattle.headings.specs.ItemTypes.{isClosing, isInput, isTrilateral}
 use Rattle.headings.specs.HeadRules.{rule10, rule13, rule14}
 use Rattle.headings.specs.Reading.{headingOf}
-use Rattle.headings.specs.Writing.{headingText as headingTextOf}
-use Rattle.headings.proofs.RoundTrips.{written-read}
+use Rattle.heading_writer.specs.Writing.{headingText as headingTextOf}
+use Rattle.heading_writer.proofs.RoundTrips.{written-read}
 use Rattle.outcome_tables.specs.declared.Codes.{Codes}
 use Rattle.outcomes.specs.declared.Derived.{Derived}
 use Rattle.outcome_tables.specs.Outcomes.{outgoing, codes, inClass}

@@ -13,7 +13,7 @@ use Rattle.headings.specs.declared.Heading.{Heading}
 use Rattle.headings.specs.declared.Read.{Read}
 use Rattle.headings.specs.declared.Read.the-variants.{Reads, Unreadable}
 use Rattle.headings.specs.Reading.{headingOf}
-use Rattle.headings.specs.Writing.{headingText, targetAfter}
+use Rattle.heading_writer.specs.Writing.{headingText, targetAfter}
 use Rattle.outcome_tables.specs.Outcomes.{inClass}
 use Rattle.turning.specs.Turning.{turned, turnRefusals}
 use Rattle.outcomes.specs.declared.Told.{Told}

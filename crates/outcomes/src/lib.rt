@@ -4,12 +4,12 @@
 // Promised, for every text, outcome, standing, number and target: they refuse by document 01's numbers, 11 to 14 and 11 to 16, or
 // tell of and write the heading that the tables of `outcome_tables` give, and a refusal changes no lent byte. Stands on these two, on reading
 // and writing of `headings`, on the layouts of `text`, and on `laws`.
+use heading_writer::put_heading;
 use headings::Code;
 use headings::Heading;
 use headings::ItemNo;
 use headings::Read;
 use headings::reading::read;
-use headings::writing::put_heading;
 use outcome_tables::in_class;
 use turning::Turned;
 use turning::turn;

@@ -6,7 +6,6 @@ use headings::Heading;
 use headings::ItemNo;
 use headings::item_types;
 use headings::reading;
-use headings::writing;
 
 // The least output number of a type's class.
 fn least(kind: u32) -> u32 {
@@ -40,7 +39,7 @@ fn print_refused(number: u32) {
 // What deriving gives for one type and one outcome.
 fn print_cell(kind: u32, outcome: u32, standing: u32, third: u32) {
     let mut text = [0u8; 54];
-    writing::write(heading(kind, 0, third), &mut text);
+    heading_writer::write(heading(kind, 0, third), &mut text);
     let mut out = [0u8; 54];
     let refusal = outcomes::number_of(outcomes::derive(
         &text,
@@ -80,7 +79,7 @@ fn print_row(kind: u32, standing: u32, third: u32) {
 // What telling answers for one type, outcome and standing.
 fn print_told(kind: u32, outcome: u32, standing: u32, third: u32) {
     let mut text = [0u8; 54];
-    writing::write(heading(kind, 0, third), &mut text);
+    heading_writer::write(heading(kind, 0, third), &mut text);
     let told = outcomes::tell(&text, outcome, standing);
     io::write_all(1, b"telling ");
     io::write_all(1, &text[3..5]);
@@ -103,7 +102,7 @@ fn print_told(kind: u32, outcome: u32, standing: u32, third: u32) {
 // What deriving refuses a heading with.
 fn print_derived(label: &[u8], kind: u32, output: u32, outcome: u32, standing: u32, number: u32) {
     let mut text = [0u8; 54];
-    writing::write(heading(kind, output, 0), &mut text);
+    heading_writer::write(heading(kind, output, 0), &mut text);
     let mut out = [0u8; 54];
     io::write_all(1, label);
     print_refused(outcomes::number_of(outcomes::derive(
@@ -117,14 +116,14 @@ fn print_derived(label: &[u8], kind: u32, output: u32, outcome: u32, standing: u
 
 fn print_short() {
     let mut text = [0u8; 54];
-    writing::write(heading(11, 0, 0), &mut text);
+    heading_writer::write(heading(11, 0, 0), &mut text);
     let mut out = [0u8; 53];
     io::write_all(1, b"deriving into 53 bytes: ");
     print_refused(outcomes::number_of(outcomes::derive(&text, 1, 1, ItemNo(1), &mut out)));
     io::write_all(1, b"writing into 53 bytes: ");
-    print_refused(writing::number_of(writing::write(heading(11, 0, 0), &mut out)));
+    print_refused(heading_writer::number_of(heading_writer::write(heading(11, 0, 0), &mut out)));
     io::write_all(1, b"writing type 100 into 53 bytes: ");
-    print_refused(writing::number_of(writing::write(heading(100, 0, 0), &mut out)));
+    print_refused(heading_writer::number_of(heading_writer::write(heading(100, 0, 0), &mut out)));
 }
 
 fn main() {

@@ -13,7 +13,7 @@ use Rattle.headings.specs.declared.Heading.{Heading}
 use Rattle.headings.specs.declared.Read.{Read}
 use Rattle.headings.specs.declared.Read.the-variants.{Reads, Unreadable}
 use Rattle.headings.specs.Reading.{headingOf}
-use Rattle.headings.proofs.Answers.{text-size}
+use Rattle.heading_writer.proofs.Answers.{text-size}
 use Rattle.fields.specs.Kinds.{place}
 use Rattle.turning.specs.Turning.{turned}
 use Rattle.outcomes.specs.Deriving.{numbered, outgoingText}

@@ -16,7 +16,7 @@ use Rattle.headings.specs.declared.Heading.{Heading}
 use Rattle.headings.specs.declared.Read.{Read}
 use Rattle.headings.specs.declared.Read.the-variants.{Reads, Unreadable}
 use Rattle.headings.specs.Reading.{headingOf}
-use Rattle.headings.specs.Writing.{targetAfter}
+use Rattle.heading_writer.specs.Writing.{targetAfter}
 use Rattle.outcomes.specs.declared.Derived.{Derived}
 use Rattle.outcomes.specs.Deriving.{turnRefusalsOf, issueRefusalsOf, tellRefusals, numberRefusals, deriveRefusals, outgoingText, derivedTarget, Derives}
 use Rattle.outcomes.proofs.Granted.{granted}

@@ -17,7 +17,7 @@ use Rattle.going.specs.Reached.{Sound}
 use Rattle.portions.specs.declared.Portions.{Portions}
 use Rattle.handing.specs.Ready.{isReady}
 use Rattle.portions.specs.Usable.{isBounded, isSound, isOpen}
-use Rattle.portions.specs.Jobs.{shutOf}
+use Rattle.portions.specs.States.{shutOf}
 use Rattle.handing.proofs.Order.{ready-so, so-ready}
 
 sound-so : (g : Going) (ls rs ps : List ℕ) → isSound g ls rs ps ≡ true → Sound g ls rs ps

@@ -13,13 +13,15 @@ use Rattle.rules.specs.Faults.{faults}
 use Rattle.joining.specs.Portions.{concat}
 use Rattle.listing.specs.Checking.{checkRefusals, checkedNumber, checkedOr, Checks}
 use Rattle.portions.specs.declared.Portions.{Portions}
-use Rattle.portions.specs.declared.opening.Opened.{Opened}
-use Rattle.portions.specs.declared.adding.Added.{Added}
+use Rattle.portions_opening.specs.declared.Opened.{Opened}
+use Rattle.portions_adding.specs.declared.Added.{Added}
 use Rattle.answering.specs.declared.Closing.{Closing}
 use Rattle.answering.specs.declared.Closing.the-variants.{Done, Late}
 use Rattle.answering.specs.declared.Closed.{Closed}
 use Rattle.portions.specs.Usable.{isOpen}
-use Rattle.portions.specs.Jobs.{Rooms, Holds, openRefusals, openingNumber, addingNumber, Opens, Adds}
+use Rattle.portions.specs.States.{Rooms, Holds}
+use Rattle.portions_opening.specs.Opening.{openRefusals, openingNumber, Opens}
+use Rattle.portions_adding.specs.Adding.{addingNumber, Adds}
 use Rattle.answering.specs.Closing.{fileRefusals, closeRefusals, closingNumber, closingOr, checkedIn, Closes}
 use Rattle.portions.proofs.Bounds.{shut-shut}
 use Rattle.going.proofs.Pieces.{Thens, held-all}

@@ -7,7 +7,9 @@ use lib.ListN.{set}
 use Rattle.laws.specs.Refusals.{first}
 use Rattle.portions.specs.declared.Portions.{Portions}
 use Rattle.portions.specs.Usable.{isOpen}
-use Rattle.portions.specs.Jobs.{Rooms, Holds, openRefusals, addingNumber}
+use Rattle.portions.specs.States.{Rooms, Holds}
+use Rattle.portions_opening.specs.Opening.{openRefusals}
+use Rattle.portions_adding.specs.Adding.{addingNumber}
 use Rattle.answering.specs.Closing.{closeRefusals}
 use Rattle.stored.specs.Stored.{stateIn}
 use Rattle.checking_face.specs.Face.{CheckedAt}

@@ -19,10 +19,10 @@ pub fn open(
 ) -> u32
     ensures { λ r. ⌜ PortionsOpenedAt code day (record { wide = now (wide .entry); length = now (length .entry); narrow = now (narrow .entry); frame = now (frame .entry); small = now (small .entry); text = now (text .entry) }) (now (stood .entry)) r (record { wide = now (wide .exit); length = now (length .exit); narrow = now (narrow .exit); frame = now (frame .exit); small = now (small .exit); text = now (text .exit) }) (now (stood .exit)) ⌝ }
 {
-    let r = portions::opening::open(code, day, stood);
+    let r = portions_opening::open(code, day, stood);
     let answer = r.answer;
     let state = r.state;
-    let refusal = portions::opening::number_of(answer);
+    let refusal = portions_opening::number_of(answer);
     stored::store(
         refusal == 0,
         state,
@@ -53,10 +53,10 @@ pub fn add(
     ensures { λ r. ⌜ PortionAddedAt (now (bytes .entry)) (record { numbers = record { wide = now (wide .entry); length = now (length .entry); narrow = now (narrow .entry); frame = now (frame .entry); small = now (small .entry); text = now (text .entry) }; lines = now (lines .entry); rules = now (rules .entry); offsets = now (offsets .entry); stood = now (stood .entry) }) r (record { numbers = record { wide = now (wide .exit); length = now (length .exit); narrow = now (narrow .exit); frame = now (frame .exit); small = now (small .exit); text = now (text .exit) }; lines = now (lines .exit); rules = now (rules .exit); offsets = now (offsets .exit); stood = now (stood .exit) }) ⌝ }
 {
     let before = stored::state_in(wide, *length, narrow, frame, small, text);
-    let r = portions::adding::add(bytes, before, lines, rules, offsets, stood);
+    let r = portions_adding::add(bytes, before, lines, rules, offsets, stood);
     let state = r.state;
     stored::store(r.taken, state, wide, length, narrow, frame, small, text);
-    portions::adding::number_of(r.taken)
+    portions_adding::number_of(r.taken)
 }
 
 // No more comes: `first`, `second` and `third` take the line numbers, the rules and the offsets.

@@ -10,7 +10,7 @@ use Rattle.carried.specs.declared.Words.{Words}
 use Rattle.carried.specs.Words.{passOf}
 use Rattle.carried.proofs.Back.{on-back}
 use Rattle.portions.specs.declared.Portions.{Portions}
-use Rattle.portions.specs.Jobs.{shutOf}
+use Rattle.portions.specs.States.{shutOf}
 use Rattle.stored.specs.Stored.{stateIn, frameOf, Puts}
 
 takes-back : (b : Bool) → eqb (cond b 0x43455254 0) 0x43455254 ≡ b

@@ -19,7 +19,7 @@ use Rattle.rules.specs.Said.{continued, headOf}
 use Rattle.rules.specs.Blocks.{withAmount}
 use Rattle.rules.specs.BlockRules.{unlike}
 use Rattle.blocks.specs.Model.{countCap, sumCap}
-use Rattle.account.specs.Model.{plusAt}
+use Rattle.group_sums.specs.Model.{plusAt}
 use Rattle.item_reader.specs.Slips.{fileFrom}
 use Rattle.vetting.specs.declared.Taken.the-variants.{Sound, Barred}
 use Rattle.vetting.specs.Vetting.{itemBarred, Takes}

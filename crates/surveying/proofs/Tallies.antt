@@ -7,7 +7,7 @@ use mathlib.Core.List.{List}
 use lib.Dec.{eqb, ltb}
 use lib.ListN.{getD, set}
 use borrow.Author.Tests.{eqb-true, eq-eqb, ne-eqb, ltb-true, ltb-false}
-use Rattle.account.specs.Model.{plusAt}
+use Rattle.group_sums.specs.Model.{plusAt}
 use Rattle.account.specs.Summary.{ten}
 use Rattle.account.proofs.Ten.{get-ten, set-ten, same-ten, cap-cap}
 

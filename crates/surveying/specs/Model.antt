@@ -14,7 +14,7 @@ use Rattle.outcomes.specs.Deriving.{issueRefusals}
 use Rattle.rules.specs.Terms.{isCode, Terms}
 use Rattle.rules.specs.Tree.{Item}
 use Rattle.blocks.specs.Model.{countCap, sumCap}
-use Rattle.account.specs.Model.{plusAt}
+use Rattle.group_sums.specs.Model.{plusAt}
 use Rattle.account.specs.Summary.{ten}
 use Rattle.item_reader.specs.Slips.{fileFrom, Headed}
 use Rattle.vetting.specs.Vetting.{itemBarred, ItemAt}

@@ -2,7 +2,7 @@
 // and the groups of their derived types. Promised by definitions of specs/Model.antt, which follow the code; specs/Items.antt has what is asked, for
 // the statement of `delivery`. Stands on `vetting` for an item's lines, on `turning` and `outcome_tables` for its derived heading, on `account` for
 // groups, and on `item_reader`.
-use account::add_amount;
+use group_sums::add_amount;
 use headings::Code;
 use headings::Heading;
 use headings::ItemNo;

@@ -5,7 +5,7 @@ use Rattle.account.proofs.add_kc.Statement.{statement}
 use Rattle.account.proofs.add_kc.Tie as tie
 use Rattle.account.proofs.add_kc.Reads as reads
 use Rattle.account.proofs.add_kc.Lts as lts
-use Rattle.account.proofs.add_amount.Reads as add-amount-reads
+use Rattle.group_sums.proofs.add_amount.Reads as add-amount-reads
 use Rattle.headings.proofs.item_types.is_payment.Reads as is-payment-reads
 
 enum-told : tie.Need-enum-told

@@ -3,7 +3,7 @@ use native.Mathlib.Omega.{arith}
 use mathlib.Core.Path.{_≡_, refl, _∙_}
 use lib.ListN.{length, length-set}
 use Rattle.text.specs.Digits.{valueAfter, value}
-use Rattle.lines.specs.Words.{bytesOf}
+use Rattle.words.specs.Words.{bytesOf}
 use Rattle.gathering.proofs.Items.{Gathering, key-none, key-used, gather-start, gather-room, gather-key, gather-none, gather-end}
 use borrow.Author.Needs.{needs}
 use Rattle.gathering.proofs.gather.Statement.{statement}

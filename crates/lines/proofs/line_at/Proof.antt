@@ -6,7 +6,7 @@ use lib.Bits.{bitAnd, bitOr, bitXor}
 use lib.Count.{trailingZeros}
 use lib.ListN.{length, getD}
 use Rattle.lines.specs.Reading.{after, lineAt}
-use Rattle.lines.specs.Words.{isControl, flagged}
+use Rattle.words.specs.Words.{isControl, flagged}
 use Rattle.lines.proofs.Reading.{line-cut}
 use Rattle.lines.proofs.Searching.{all-clear, hit-inside, hit-here, hit-passed, control-alone}
 use borrow.Author.Needs.{needs}

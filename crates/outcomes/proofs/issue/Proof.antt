@@ -2,7 +2,7 @@ use mathlib.Core.Path.{_≡_, sym, _∙_}
 use mathlib.Core.Bool.{true}
 use borrow.Author.Needs.{needs}
 use borrow.Author.Tests.{not-true, not-false}
-use Rattle.headings.proofs.Answers.{at-start}
+use Rattle.heading_writer.proofs.Answers.{at-start}
 use Rattle.outcome_tables.specs.Outcomes.{inClass}
 use Rattle.outcomes.proofs.Issuing.{not-in-class, no-room, issued}
 use Rattle.outcomes.proofs.issue.Statement.{statement}

@@ -7,7 +7,7 @@ use Prim.Native.Nat.{ℕ}
 use Rattle.fields.specs.declared.classes.Class.the-variants.{Account}
 use Rattle.fields.specs.declared.readings.Reading.the-variants.{Party}
 use Rattle.figures.specs.Layouts.{maybeName}
-use Rattle.figures.proofs.Halved.{none-after, no-space, no-digit, both, halves}
+use Rattle.number_reader.proofs.Halved.{none-after, no-space, no-digit, both, halves}
 use Rattle.fields.proofs.Says.{not-two, made}
 
 abbrev T : tie.After-weighed-at → List ℕ

@@ -1,0 +1,4 @@
+pub mod Scanning
+pub mod Pairs
+pub mod Told
+pub mod Halved
