@@ -14,29 +14,23 @@ enum-told c = search needs
 enum-told-2 : tie.Need-enum-told-2
 enum-told-2 c = search needs
 
--- src/lib.rt:74:23
 enum-known-kc : tie.Need-enum-known-kc
 enum-known-kc c = search needs
 
--- src/lib.rt:75:16
 is-payment-requires : tie.Need-is-payment-requires
 is-payment-requires c κs = search needs
 
--- src/lib.rt:76:17
 add-amount-requires : tie.Need-add-amount-requires
 add-amount-requires c κs = search needs
 
--- src/lib.rt:67:1
 returns : tie.Need-returns
 unfolding countsAfter sumsAfter
 returns c = (rw (c .enum-told .given .1), rw (c .enum-told .given .1))
 
--- src/lib.rt:67:1
 returns-2 : tie.Need-returns-2
 unfolding countsAfter sumsAfter
 returns-2 c = (rw (c .enum-told2 .given .1), rw (c .enum-told2 .given .1))
 
--- src/lib.rt:67:1
 returns-3 : tie.Need-returns-3
 unfolding countsAfter sumsAfter
 returns-3 c =
@@ -45,7 +39,6 @@ returns-3 c =
     let is = c .before .before .before .if1 .taken in
     (rw (told, ← paying, is, c .add-amount .ensures .0), rw (told, ← paying, is, c .add-amount .ensures .1))
 
--- src/lib.rt:67:1
 returns-4 : tie.Need-returns-4
 unfolding countsAfter sumsAfter
 returns-4 c =

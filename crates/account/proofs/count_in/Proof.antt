@@ -10,20 +10,16 @@ use Rattle.account.proofs.add_kc.Reads as add-kc-reads
 enum-told : tie.Need-enum-told
 enum-told c = search needs
 
--- src/lib.rt:89:21
 enum-known-head : tie.Need-enum-known-head
 enum-known-head c = search needs
 
--- src/lib.rt:94:17
 add-kc-requires : tie.Need-add-kc-requires
 add-kc-requires c κs = search needs
 
--- src/lib.rt:83:1
 returns : tie.Need-returns
 unfolding countsOn sumsOn
 returns c = (rw (c .enum-told .given .1), rw (c .enum-told .given .1))
 
--- src/lib.rt:83:1
 returns-2 : tie.Need-returns-2
 unfolding countsOn sumsOn
 returns-2 c =
@@ -31,7 +27,6 @@ returns-2 c =
     let closes = eq-eqb _ _ (c .before .before .if1 .taken) in
     (simp (told, closes), simp (told, closes))
 
--- src/lib.rt:83:1
 returns-3 : tie.Need-returns-3
 unfolding countsOn sumsOn
 returns-3 c =

@@ -5,7 +5,6 @@ use Rattle.account.proofs.start.Tie as tie
 use Rattle.account.proofs.start.Reads as reads
 use Rattle.account.proofs.start.Lts as lts
 
--- src/lib.rt:178:1
 returns : tie.Need-returns
 unfolding summary
 returns c = refl
