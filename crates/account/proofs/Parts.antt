@@ -1,4 +1,4 @@
--- The account by its parts: what the code keeps apart, put together, is what `closeModel` says.
+-- The account by its parts: what the code keeps apart, put together, is what `close_model` says.
 use Prim.Native.Nat.{ℕ, ◌+◌}
 use mathlib.Core.Path.{◌≡◌, refl}
 use mathlib.Core.Bool.{Bool, true, false}
@@ -7,42 +7,42 @@ use native.Mathlib.Omega.{arith}
 use Rattle.headings.specs.declared.Heading.{Heading}
 use Rattle.headings.specs.declared.Read.{Read}
 use Rattle.headings.specs.declared.Read.TheVariants.{Reads, Unreadable}
-use Rattle.headings.specs.ItemTypes.{isClosing}
+use Rattle.headings.specs.ItemTypes.{is_closing}
 use Rattle.rules.specs.declared.FirstKc.{FirstKc}
 use Rattle.rules.specs.declared.FirstIn.{FirstIn}
 use Rattle.rules.specs.declared.Sums.{Sums}
 use Rattle.own_rules.specs.declared.Basis.{Basis}
 use Rattle.blocks.specs.declared.Course.{Course}
-use Rattle.blocks.specs.Model.{block_of, openMarks, endingMarks, groupMarks, closingMarks}
-use Rattle.own_rules.specs.Model.{ownMarks}
-use Rattle.account.specs.Model.{headingBlock, touchedBlock, empty_block, kcBlock, readBlock, readMarks, closeAt, After, readCourse, courseMarks, closeCourse, countsOn, sumsOn, groupsOn}
+use Rattle.blocks.specs.Model.{block_of, open_marks, ending_marks, group_marks, closing_marks}
+use Rattle.own_rules.specs.Model.{own_marks}
+use Rattle.account.specs.Model.{heading_block, touched_block, empty_block, kc_block, read_block, read_marks, close_at, After, read_course, course_marks, close_course, counts_on, sums_on, groups_on}
 
 module _ (j : Basis) (c : Course) (counts sums : List ℕ) (kc : FirstKc) (span : FirstIn) (stated : Sums) where
   abbrev together : Read → After
   together r =
       record {
-        block = block_of (closeCourse j c kc span r).course (countsOn counts kc r) (sumsOn sums kc r);
-        marks = (closeCourse j c kc span r).marks + groupsOn counts sums stated r;
+        block = block_of (close_course j c kc span r).course (counts_on counts kc r) (sums_on sums kc r);
+        marks = (close_course j c kc span r).marks + groups_on counts sums stated r;
       }
 
   abbrev closed : Read → After
-  closed r = closeAt j (block_of c counts sums) (record { head = r; kc = kc; span = span; sums = stated }) r
+  closed r = close_at j (block_of c counts sums) (record { head = r; kc = kc; span = span; sums = stated }) r
 
-  by-reading : (h : Heading) (b : Bool) → isClosing h.kind ≡ b → closed (Reads h) ≡ together (Reads h)
-  unfolding closeAt readBlock readMarks closingMarks kcBlock headingBlock empty_block closeCourse readCourse courseMarks countsOn sumsOn groupsOn
-  by-reading h true e = simp e (λ i. record { block = empty_block c.classed c.priority; marks = more i })
+  by_reading : (h : Heading) (b : Bool) → is_closing h.kind ≡ b → closed (Reads h) ≡ together (Reads h)
+  unfolding close_at read_block read_marks closing_marks kc_block heading_block empty_block close_course read_course course_marks counts_on sums_on groups_on
+  by_reading h true e = simp e (λ i. record { block = empty_block c.classed c.priority; marks = more i })
     where
-      more : ownMarks j h kc + (endingMarks c h span + groupMarks counts sums stated.groups) ≡ (ownMarks j h kc + endingMarks c h span) + groupMarks counts sums stated.groups
+      more : own_marks j h kc + (ending_marks c h span + group_marks counts sums stated.groups) ≡ (own_marks j h kc + ending_marks c h span) + group_marks counts sums stated.groups
       more = omega arith
-  by-reading h false e = simp e (λ i. record { block = kcBlock (headingBlock (block_of c counts sums) h) h.kind kc; marks = none i })
+  by_reading h false e = simp e (λ i. record { block = kc_block (heading_block (block_of c counts sums) h) h.kind kc; marks = none i })
     where
-      none : ownMarks j h kc + openMarks c h ≡ (ownMarks j h kc + openMarks c h) + 0
+      none : own_marks j h kc + open_marks c h ≡ (own_marks j h kc + open_marks c h) + 0
       none = omega arith
 
-  by-unreadable : closed Unreadable ≡ together Unreadable
-  unfolding closeAt touchedBlock closeCourse countsOn sumsOn groupsOn
-  by-unreadable = refl
+  by_unreadable : closed Unreadable ≡ together Unreadable
+  unfolding close_at touched_block close_course counts_on sums_on groups_on
+  by_unreadable = refl
 
   pub by_parts : (r : Read) → closed r ≡ together r
-  by_parts (Reads h) = by-reading h (isClosing h.kind) refl
-  by_parts Unreadable = by-unreadable
+  by_parts (Reads h) = by_reading h (is_closing h.kind) refl
+  by_parts Unreadable = by_unreadable

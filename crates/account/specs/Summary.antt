@@ -4,30 +4,30 @@ use Rattle.laws.specs.Lists.{sum}
 use Rattle.headings.specs.declared.ItemNo.{ItemNo}
 use Rattle.headings.specs.declared.Heading.{Heading}
 use Rattle.headings.specs.declared.Read.{Read}
-use Rattle.headings.specs.ItemTypes.{isPriority}
+use Rattle.headings.specs.ItemTypes.{is_priority}
 use Rattle.rules.specs.declared.Digest.{Digest}
-use Rattle.rules.specs.Blocks.{empty, oldest, blockAbove, readable, payments, amounts}
+use Rattle.rules.specs.Blocks.{empty, oldest, block_above, readable, payments, amounts}
 use Rattle.rules.specs.Terms.{Terms}
-use Rattle.rules.specs.Spots.{ownTests, blockTests}
-use Rattle.ledger.specs.Marks.{setOf}
+use Rattle.rules.specs.Spots.{own_tests, block_tests}
+use Rattle.ledger.specs.Marks.{set_of}
 use Rattle.blocks.specs.declared.Block.{Block}
-use Rattle.blocks.specs.Model.{countCap, sumCap}
+use Rattle.blocks.specs.Model.{count_cap, sum_cap}
 
-abbrev pub priorityFirst : List ℕ → Bool
-priorityFirst [] = false
-priorityFirst (t ∷ ts) = isPriority (oldest t ts)
+abbrev pub priority_first : List ℕ → Bool
+priority_first [] = false
+priority_first (t ∷ ts) = is_priority (oldest t ts)
 
-abbrev pub dayFirst : List Heading → ℕ
-dayFirst [] = 0
-dayFirst (h ∷ hs) = (oldest h hs).day
+abbrev pub day_first : List Heading → ℕ
+day_first [] = 0
+day_first (h ∷ hs) = (oldest h hs).day
 
-abbrev pub numberFirst : List Heading → ItemNo
-numberFirst [] = record { 0 = 0 }
-numberFirst (h ∷ hs) = (oldest h hs).number
+abbrev pub number_first : List Heading → ItemNo
+number_first [] = record { 0 = 0 }
+number_first (h ∷ hs) = (oldest h hs).number
 
-abbrev pub numberLast : List Heading → ItemNo
-numberLast [] = record { 0 = 0 }
-numberLast (h ∷ hs) = h.number
+abbrev pub number_last : List Heading → ItemNo
+number_last [] = record { 0 = 0 }
+number_last (h ∷ hs) = h.number
 
 -- an entry for each group
 abbrev pub ten : (ℕ → ℕ) → List ℕ
@@ -38,21 +38,21 @@ abbrev pub block_of : List ℕ → List Digest → List Heading → Block
 block_of ts is hs =
     record {
       classed = not (empty ts);
-      priority = priorityFirst ts;
+      priority = priority_first ts;
       any = not (empty is);
       some = not (empty hs);
-      day = dayFirst hs;
-      first = numberFirst hs;
-      last = numberLast hs;
-      counts = ten (λ d. min countCap (length (amounts d is)));
-      sums = ten (λ d. min sumCap (sum (amounts d is)));
+      day = day_first hs;
+      first = number_first hs;
+      last = number_last hs;
+      counts = ten (λ d. min count_cap (length (amounts d is)));
+      sums = ten (λ d. min sum_cap (sum (amounts d is)));
     }
 
 -- the account after the items `above`
 unfoldable pub summary : List Digest → Block
-summary above = block_of (payments (readable above)) (blockAbove above) (readable (blockAbove above))
+summary above = block_of (payments (readable above)) (block_above above) (readable (block_above above))
 
 -- the marks of 10 to 15, 17 to 21 and 30 to 39 at an item's heading, as one set: what the account is to give. 16 is not one: it needs the
 -- items below
-abbrev pub marksBy : Terms → List Digest → Digest → Read → ℕ
-marksBy terms above it hd = setOf (ownTests terms it hd ++ blockTests above it hd)
+abbrev pub marks_by : Terms → List Digest → Digest → Read → ℕ
+marks_by terms above it hd = set_of (own_tests terms it hd ++ block_tests above it hd)

@@ -1,13 +1,13 @@
 // The running account of the open block, brought up to date at each heading: its course by value, its groups where they are lent. Promised,
-// for every account, item and basis: the account and the marks that `closeModel` says (specs/Model.antt; by parts: `by_parts`), which
+// for every account, item and basis: the account and the marks that `close_model` says (specs/Model.antt; by parts: `by_parts`), which
 // are those of the items themselves: the account is the summary of the items above, and the marks are the set of the tests that `rules`
 // has broken at the heading (theorem `account`).
 // It judges no rule: those are the functions of `blocks` and `own_rules`. Stands on these, on `group_sums`, on `rules`, on `ledger` for sets of marks,
 // and on `headings` for the types of items.
 ghost use Rattle.std.specs.Prelude.{◌≡◌, cond, [], ◌<◌, ◌^◌};
 ghost use Rattle.rules.specs.Blocks.{closes_at};
-ghost use Rattle.blocks.specs.Model.{courseOf, block_of};
-ghost use Rattle.account.specs.Model.{countsAfter, sumsAfter, headingBlock, touchedBlock, empty_block, readCourse, courseMarks, courseModel, countsOn, sumsOn};
+ghost use Rattle.blocks.specs.Model.{course_of, block_of};
+ghost use Rattle.account.specs.Model.{counts_after, sums_after, heading_block, touched_block, empty_block, read_course, course_marks, course_model, counts_on, sums_on};
 ghost use Rattle.account.specs.Summary.{summary};
 
 use blocks::block_rules::{ending_marks, open_marks};
@@ -45,8 +45,8 @@ pub fn closes_block(head: Read) -> bool
 
 // A KC counts in an item of an input type other than 51, and only if it reads.
 fn add_kc(counts: &mut [u64; 10], sums: &mut [u64; 10], kind: u32, kc: FirstKc)
-    ensures counts_after { counts.new ≡ countsAfter counts.old kind kc }
-    ensures sums_after { sums.new ≡ sumsAfter sums.old kind kc }
+    ensures counts_after { counts.new ≡ counts_after counts.old kind kc }
+    ensures sums_after { sums.new ≡ sums_after sums.old kind kc }
 {
     match kc {
         FirstKc::NoKc => {}
@@ -61,8 +61,8 @@ fn add_kc(counts: &mut [u64; 10], sums: &mut [u64; 10], kind: u32, kc: FirstKc)
 
 // The groups with an item more: a 51 clears them for the next block.
 pub fn count_in(counts: &mut [u64; 10], sums: &mut [u64; 10], head: Read, kc: FirstKc)
-    ensures counts_after { counts.new ≡ countsOn counts.old kc head }
-    ensures sums_after { sums.new ≡ sumsOn sums.old kc head }
+    ensures counts_after { counts.new ≡ counts_on counts.old kc head }
+    ensures sums_after { sums.new ≡ sums_on sums.old kc head }
 {
     match head {
         Read::Unreadable => {}
@@ -92,7 +92,7 @@ fn number_kept(some: bool, first: ItemNo, number: ItemNo) -> ItemNo
 
 // The course with a readable heading more that is no 51.
 fn with_heading(c: Course, h: Heading) -> Course
-    ensures { result ≡ courseOf (headingBlock (block_of c [] []) h) }
+    ensures { result ≡ course_of (heading_block (block_of c [] []) h) }
 {
     let classed = c.classed;
     let some = c.some;
@@ -114,7 +114,7 @@ fn with_heading(c: Course, h: Heading) -> Course
 
 // The course with an unreadable heading more: the block has a heading, and all else goes on.
 fn with_unreadable(c: Course) -> Course
-    ensures { result ≡ courseOf (touchedBlock (block_of c [] [])) }
+    ensures { result ≡ course_of (touched_block (block_of c [] [])) }
 {
     let mut next = c;
     next.any = true;
@@ -123,7 +123,7 @@ fn with_unreadable(c: Course) -> Course
 
 // No item of the open block yet, in a file of this class.
 fn no_course(classed: bool, priority: bool) -> Course
-    ensures { result ≡ courseOf (empty_block classed priority) }
+    ensures { result ≡ course_of (empty_block classed priority) }
 {
     Course {
         classed,
@@ -137,7 +137,7 @@ fn no_course(classed: bool, priority: bool) -> Course
 }
 
 fn read_course(c: Course, h: Heading) -> Course
-    ensures { result ≡ readCourse c h }
+    ensures { result ≡ read_course c h }
 {
     if h.kind == 51 {
         no_course(c.classed, c.priority)
@@ -147,7 +147,7 @@ fn read_course(c: Course, h: Heading) -> Course
 }
 
 fn read_marks(basis: Basis, c: Course, h: Heading, kc: FirstKc, span: FirstIn) -> u64
-    ensures { (result ≡ courseMarks basis c h kc span) × (result < 2 ^ 23) }
+    ensures { (result ≡ course_marks basis c h kc span) × (result < 2 ^ 23) }
 {
     let own = own_marks(basis, h, kc);
     if h.kind == 51 {
@@ -159,7 +159,7 @@ fn read_marks(basis: Basis, c: Course, h: Heading, kc: FirstKc, span: FirstIn) -
 
 // An item is closed, by value.
 pub fn close_item(c: Course, it: Outline, basis: Basis) -> Accounted
-    ensures { (result ≡ courseModel basis c it) × (result.marks < 2 ^ 23) }
+    ensures { (result ≡ course_model basis c it) × (result.marks < 2 ^ 23) }
 {
     let head = it.head;
     let kc = it.kc;
@@ -196,7 +196,7 @@ pub fn start() -> Block
 
 // The parts of an account, and an account of its parts.
 pub fn course_of(b: Block) -> Course
-    ensures { result ≡ courseOf b }
+    ensures { result ≡ course_of b }
 {
     let first = b.first;
     let last = b.last;

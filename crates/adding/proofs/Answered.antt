@@ -8,78 +8,78 @@ use lib.Dec.{eqb, ltb}
 use lib.ListN.{length, take, drop}
 use lib.Seq.{take-nil}
 use borrow.Author.Tests.{eq-eqb, ne_eqb, lt-ltb, le-ltb}
-use Rattle.laws.proofs.Truth.{by-test}
+use Rattle.laws.proofs.Truth.{by_test}
 use Rattle.laws.specs.Refusals.{Refusal, first}
 use Rattle.laws.proofs.Put.{put_is}
 use Rattle.laws.proofs.Refusals.{chosen}
 use Rattle.text.specs.Strings.{Wrote}
-use Rattle.register.specs.Register.{Register, size_of, registerBytes, countIn, rangesIn, registerOf}
+use Rattle.register.specs.Register.{Register, size_of, register_bytes, count_in, ranges_in, register_of}
 use Rattle.register.specs.Entering.{kept}
-use Rattle.register.specs.Spans.{Span, spansOf, froms, tos, rangesOf}
-use Rattle.register.proofs.RoundTrip.{length-register}
+use Rattle.register.specs.Spans.{Span, spans_of, froms, tos, ranges_of}
+use Rattle.register.proofs.RoundTrip.{length_register}
 use Rattle.merging.specs.declared.Merged.{Merged}
 use Rattle.adding.specs.declared.Entered.{Entered}
 use Rattle.adding.specs.declared.Entered.TheVariants.{Written, UsedAlready, TooMany, TooShort}
 use Rattle.gathering.specs.Keys.{Kept}
 use Rattle.merging.specs.Merging.{paired, weave, hits, closed, Merges}
-use Rattle.adding.specs.Answers.{enteredNumber, writtenOr, targetAfter, sizeAfter, Answers}
-use Rattle.adding.specs.Steps.{closedUp, keysRefusals, keysRegister, EntersKeys}
+use Rattle.adding.specs.Answers.{entered_number, written_or, target_after, size_after, Answers}
+use Rattle.adding.specs.Steps.{closed_up, keys_refusals, keys_register, EntersKeys}
 
 -- ---- an answer
 module _ {refusals : List Refusal} {g : Register} {before : List ℕ} where
   -- a refusal leaves the target as it was
-  pub refused : (r : Entered) → enteredNumber r ≡ first refusals → 1 ≤ enteredNumber r → ((old : ℕ) → writtenOr r old ≡ old) → Answers refusals g before r before
+  pub refused : (r : Entered) → entered_number r ≡ first refusals → 1 ≤ entered_number r → ((old : ℕ) → written_or r old ≡ old) → Answers refusals g before r before
   refused r e h w =
       let z = ne_eqb (first refusals) 0 (λ q. omega (arith, e, h, q)) in
       record {
         number = e;
         written = λ old. w old ∙ sym (ap (λ (b : Bool). cond b (size_of (length g.ranges)) old) z);
-        target = sym (ap (λ (b : Bool). cond b (registerBytes g ++ drop (size_of (length g.ranges)) before) before) z);
+        target = sym (ap (λ (b : Bool). cond b (register_bytes g ++ drop (size_of (length g.ranges)) before) before) z);
       }
 
-  pub done : first refusals ≡ 0 → {after : List ℕ} {n : ℕ} → Wrote before 0 (registerBytes g) after n → Answers refusals g before (Written n) after
+  pub done : first refusals ≡ 0 → {after : List ℕ} {n : ℕ} → Wrote before 0 (register_bytes g) after n → Answers refusals g before (Written n) after
   done e {after} {n} w =
       let z = eq-eqb (first refusals) 0 e in
-      let s = length-register g in
+      let s = length_register g in
       record {
         number = sym e;
         written = λ old. (let q : n ≡ size_of (length g.ranges) = omega (arith, w.ends, s) in q) ∙ sym (ap (λ (b : Bool). cond b (size_of (length g.ranges)) old) z);
         target =
-            w.holds ∙ put_is before 0 (registerBytes g)
-            ∙ ap (λ (k : ℕ). registerBytes g ++ drop k before) (let q : 0 + length (registerBytes g) ≡ size_of (length g.ranges) = omega (arith, s) in q)
-            ∙ sym (ap (λ (b : Bool). cond b (registerBytes g ++ drop (size_of (length g.ranges)) before) before) z);
+            w.holds ∙ put_is before 0 (register_bytes g)
+            ∙ ap (λ (k : ℕ). register_bytes g ++ drop k before) (let q : 0 + length (register_bytes g) ≡ size_of (length g.ranges) = omega (arith, s) in q)
+            ∙ sym (ap (λ (b : Bool). cond b (register_bytes g ++ drop (size_of (length g.ranges)) before) before) z);
       }
 
   -- the same answer to other refusals, of which the same comes first, and to the same register
-  pub answers-as : {refusals' : List Refusal} {g' : Register} {r : Entered} {after : List ℕ} → first refusals ≡ first refusals' → (first refusals ≡ 0 → g ≡ g')
+  pub answers_as : {refusals' : List Refusal} {g' : Register} {r : Entered} {after : List ℕ} → first refusals ≡ first refusals' → (first refusals ≡ 0 → g ≡ g')
       → Answers refusals g before r after → Answers refusals' g' before r after
-  answers-as {refusals'} {g'} {r} {after} e f A = record {
+  answers_as {refusals'} {g'} {r} {after} e f A = record {
     number = A.number ∙ e;
     written = λ old.
         A.written old ∙ chosen (first refusals) (size_of (length g.ranges)) (size_of (length g'.ranges)) old (λ z. ap (λ (g : Register). size_of (length g.ranges)) (f z))
-        ∙ ap (λ (k : ℕ). sizeAfter k g' old) e;
+        ∙ ap (λ (k : ℕ). size_after k g' old) e;
     target =
         A.target
-        ∙ chosen (first refusals) (registerBytes g ++ drop (size_of (length g.ranges)) before) (registerBytes g' ++ drop (size_of (length g'.ranges)) before) before (λ z. ap (λ (g : Register). registerBytes g ++ drop (size_of (length g.ranges)) before) (f z))
-        ∙ ap (λ (k : ℕ). targetAfter k g' before) e;
+        ∙ chosen (first refusals) (register_bytes g ++ drop (size_of (length g.ranges)) before) (register_bytes g' ++ drop (size_of (length g'.ranges)) before) before (λ z. ap (λ (g : Register). register_bytes g ++ drop (size_of (length g.ranges)) before) (f z))
+        ∙ ap (λ (k : ℕ). target_after k g' before) e;
   }
 
 -- ---- keys in order and the spans that stay
-paired-back : (ss : List Span) → paired (froms ss) (tos ss) ≡ ss
-paired-back [] = refl
-paired-back (s ∷ ss) = ap (λ (l : List Span). s ∷ l) (paired-back ss)
+paired_back : (ss : List Span) → paired (froms ss) (tos ss) ≡ ss
+paired_back [] = refl
+paired_back (s ∷ ss) = ap (λ (l : List Span). s ∷ l) (paired_back ss)
 
 -- what a merge says of the spans whose ends it was lent
 pub record MergedOf (ss : List Span) (keys : List ℕ) (m : Merged) (xs ys : List ℕ) : Type 0 where
   pub clash : m.clash ≡ hits 0 (weave ss keys)
-  pub count : m.clash ≡ false → m.count ≡ length (closedUp ss keys)
-  pub firsts : m.clash ≡ false → m.count ≤ length xs → take m.count xs ≡ froms (closedUp ss keys)
-  pub lasts : m.clash ≡ false → m.count ≤ length ys → take m.count ys ≡ tos (closedUp ss keys)
+  pub count : m.clash ≡ false → m.count ≡ length (closed_up ss keys)
+  pub firsts : m.clash ≡ false → m.count ≤ length xs → take m.count xs ≡ froms (closed_up ss keys)
+  pub lasts : m.clash ≡ false → m.count ≤ length ys → take m.count ys ≡ tos (closed_up ss keys)
 
-pub merged-of : {ss : List Span} {k : ℕ} {starts ends : List ℕ} → Kept ss k starts ends → {keys : List ℕ} {m : Merged} {xs ys : List ℕ} → Merges keys (take k starts) (take k ends) m xs ys → MergedOf ss keys m xs ys
-merged-of {ss} {k} {starts} {ends} K {keys} {m} {xs} {ys} M =
-    let M' : Merges keys (froms ss) (tos ss) m xs ys = rw (K.starts-at, K.ends_at) at M in
-    let e = paired-back ss in
+pub merged_of : {ss : List Span} {k : ℕ} {starts ends : List ℕ} → Kept ss k starts ends → {keys : List ℕ} {m : Merged} {xs ys : List ℕ} → Merges keys (take k starts) (take k ends) m xs ys → MergedOf ss keys m xs ys
+merged_of {ss} {k} {starts} {ends} K {keys} {m} {xs} {ys} M =
+    let M' : Merges keys (froms ss) (tos ss) m xs ys = rw (K.starts_at, K.ends_at) at M in
+    let e = paired_back ss in
     record {
       clash = M'.clash ∙ ap (λ (l : List Span). hits 0 (weave l keys)) e;
       count = λ c. M'.count c ∙ ap (λ (l : List Span). length (closed 0 0 (weave l keys))) e;
@@ -88,62 +88,62 @@ merged-of {ss} {k} {starts} {ends} K {keys} {m} {xs} {ys} M =
     }
 
 -- the ranges read by their count are the register's
-pub kept-as : (reg : List ℕ) (day : ℕ) {n : ℕ} → n ≡ countIn reg → {k : ℕ} {starts ends : List ℕ} → Kept (spansOf (kept day (rangesIn n (drop 13 reg)))) k starts ends
-    → Kept (spansOf (kept day (registerOf reg).ranges)) k starts ends
-kept-as reg day q {k} {starts} {ends} K = subst (λ (n : ℕ). Kept (spansOf (kept day (rangesIn n (drop 13 reg)))) k starts ends) q K
+pub kept_as : (reg : List ℕ) (day : ℕ) {n : ℕ} → n ≡ count_in reg → {k : ℕ} {starts ends : List ℕ} → Kept (spans_of (kept day (ranges_in n (drop 13 reg)))) k starts ends
+    → Kept (spans_of (kept day (register_of reg).ranges)) k starts ends
+kept_as reg day q {k} {starts} {ends} K = subst (λ (n : ℕ). Kept (spans_of (kept day (ranges_in n (drop 13 reg)))) k starts ends) q K
 
-some-closed : (a b : ℕ) (l : List Span) → 1 ≤ length (closed a b l)
+some_closed : (a b : ℕ) (l : List Span) → 1 ≤ length (closed a b l)
 unfolding closed
-some-closed a b [] = omega arith
-some-closed a b (s ∷ l) = by-test (eqb (b + 1) s.from)
-    (λ q. rw q (some-closed a s.to l))
+some_closed a b [] = omega arith
+some_closed a b (s ∷ l) = by_test (eqb (b + 1) s.from)
+    (λ q. rw q (some_closed a s.to l))
     (λ q. rw q (omega arith))
 
-drop-take : (n : ℕ) (xs : List ℕ) → 1 ≤ n → drop 1 (take n xs) ≡ take (n - 1) (drop 1 xs)
-drop-take zero xs h = absurd (omega arith)
-drop-take (suc n) [] h = sym (ap (λ (m : ℕ). take m []) (let q : suc n - 1 ≡ n = omega arith in q) ∙ take-nil n)
-drop-take (suc n) (x ∷ xs) h = ap (λ (m : ℕ). take m xs) (let q : n ≡ suc n - 1 = omega arith in q)
+drop_take : (n : ℕ) (xs : List ℕ) → 1 ≤ n → drop 1 (take n xs) ≡ take (n - 1) (drop 1 xs)
+drop_take zero xs h = absurd (omega arith)
+drop_take (suc n) [] h = sym (ap (λ (m : ℕ). take m []) (let q : suc n - 1 ≡ n = omega arith in q) ∙ take-nil n)
+drop_take (suc n) (x ∷ xs) h = ap (λ (m : ℕ). take m xs) (let q : n ≡ suc n - 1 = omega arith in q)
 
-froms-drop : (ss : List Span) → drop 1 (froms ss) ≡ froms (drop 1 ss)
-froms-drop [] = refl
-froms-drop (s ∷ ss) = refl
+froms_drop : (ss : List Span) → drop 1 (froms ss) ≡ froms (drop 1 ss)
+froms_drop [] = refl
+froms_drop (s ∷ ss) = refl
 
-tos-drop : (ss : List Span) → drop 1 (tos ss) ≡ tos (drop 1 ss)
-tos-drop [] = refl
-tos-drop (s ∷ ss) = refl
+tos_drop : (ss : List Span) → drop 1 (tos ss) ≡ tos (drop 1 ss)
+tos_drop [] = refl
+tos_drop (s ∷ ss) = refl
 
 module _ {ss : List Span} {keys : List ℕ} (code day : ℕ) (before : List ℕ) {m : Merged} {xs ys : List ℕ} (M : MergedOf ss keys m xs ys) where
-  pub keys-clash : m.clash ≡ true → EntersKeys ss keys code day before UsedAlready before
-  keys-clash c = let e : hits 0 (weave ss keys) ≡ true = sym M.clash ∙ c in refused UsedAlready (rw e) (omega arith) (λ old. refl)
+  pub keys_clash : m.clash ≡ true → EntersKeys ss keys code day before UsedAlready before
+  keys_clash c = let e : hits 0 (weave ss keys) ≡ true = sym M.clash ∙ c in refused UsedAlready (rw e) (omega arith) (λ old. refl)
 
   module _ (c : m.clash ≡ false) where
     e : hits 0 (weave ss keys) ≡ false
     e = sym M.clash ∙ c
 
-    n : m.count ≡ length (closedUp ss keys)
+    n : m.count ≡ length (closed_up ss keys)
     n = M.count c
 
-    pub keys-some : 1 ≤ m.count
-    keys-some = omega (arith, n, some-closed 0 0 (weave ss keys))
+    pub keys_some : 1 ≤ m.count
+    keys_some = omega (arith, n, some_closed 0 0 (weave ss keys))
 
-    pub keys-many : 1025 < m.count → EntersKeys ss keys code day before TooMany before
-    keys-many h = let f : ltb 1025 (length (closedUp ss keys)) ≡ true = lt-ltb 1025 (length (closedUp ss keys)) (omega (arith, n, h)) in refused TooMany (rw (e, f)) (omega arith) (λ old. refl)
+    pub keys_many : 1025 < m.count → EntersKeys ss keys code day before TooMany before
+    keys_many h = let f : ltb 1025 (length (closed_up ss keys)) ≡ true = lt-ltb 1025 (length (closed_up ss keys)) (omega (arith, n, h)) in refused TooMany (rw (e, f)) (omega arith) (λ old. refl)
 
     module _ (h : m.count ≤ 1025) where
-      f : ltb 1025 (length (closedUp ss keys)) ≡ false
-      f = le-ltb 1025 (length (closedUp ss keys)) (omega (arith, n, h))
+      f : ltb 1025 (length (closed_up ss keys)) ≡ false
+      f = le-ltb 1025 (length (closed_up ss keys)) (omega (arith, n, h))
 
-      pub keys-short : length before < 13 + 12 * (m.count - 1) → EntersKeys ss keys code day before TooShort before
-      keys-short l =
-          let s : ltb (length before) (size_of (length (closedUp ss keys) - 1)) ≡ true = lt-ltb (length before) (size_of (length (closedUp ss keys) - 1)) (omega (arith, n, l)) in
+      pub keys_short : length before < 13 + 12 * (m.count - 1) → EntersKeys ss keys code day before TooShort before
+      keys_short l =
+          let s : ltb (length before) (size_of (length (closed_up ss keys) - 1)) ≡ true = lt-ltb (length before) (size_of (length (closed_up ss keys) - 1)) (omega (arith, n, l)) in
           refused TooShort (rw (e, f, s)) (omega arith) (λ old. refl)
 
-      pub keys-done : 13 + 12 * (m.count - 1) ≤ length before → m.count ≤ length xs → m.count ≤ length ys → {after : List ℕ} {size : ℕ}
-          → Wrote before 0 (registerBytes (record { code = code; latest = day; ranges = rangesOf (take (m.count - 1) (drop 1 xs)) (take (m.count - 1) (drop 1 ys)) })) after size
+      pub keys_done : 13 + 12 * (m.count - 1) ≤ length before → m.count ≤ length xs → m.count ≤ length ys → {after : List ℕ} {size : ℕ}
+          → Wrote before 0 (register_bytes (record { code = code; latest = day; ranges = ranges_of (take (m.count - 1) (drop 1 xs)) (take (m.count - 1) (drop 1 ys)) })) after size
           → EntersKeys ss keys code day before (Written size) after
-      keys-done l hx hy {after} {size} w =
-          let s : ltb (length before) (size_of (length (closedUp ss keys) - 1)) ≡ false = le-ltb (length before) (size_of (length (closedUp ss keys) - 1)) (omega (arith, n, l)) in
-          let a : take (m.count - 1) (drop 1 xs) ≡ froms (drop 1 (closedUp ss keys)) = sym (drop-take m.count xs keys-some) ∙ ap (drop 1) (M.firsts c hx) ∙ froms-drop (closedUp ss keys) in
-          let b : take (m.count - 1) (drop 1 ys) ≡ tos (drop 1 (closedUp ss keys)) = sym (drop-take m.count ys keys-some) ∙ ap (drop 1) (M.lasts c hy) ∙ tos-drop (closedUp ss keys) in
-          done {refusals = keysRefusals ss keys (length before)} {g = keysRegister ss keys code day} {before = before} (rw (e, f, s))
-          (subst (λ (g : Register). Wrote before 0 (registerBytes g) after size) (λ i. record { code = code; latest = day; ranges = rangesOf (a i) (b i) }) w)
+      keys_done l hx hy {after} {size} w =
+          let s : ltb (length before) (size_of (length (closed_up ss keys) - 1)) ≡ false = le-ltb (length before) (size_of (length (closed_up ss keys) - 1)) (omega (arith, n, l)) in
+          let a : take (m.count - 1) (drop 1 xs) ≡ froms (drop 1 (closed_up ss keys)) = sym (drop_take m.count xs keys_some) ∙ ap (drop 1) (M.firsts c hx) ∙ froms_drop (closed_up ss keys) in
+          let b : take (m.count - 1) (drop 1 ys) ≡ tos (drop 1 (closed_up ss keys)) = sym (drop_take m.count ys keys_some) ∙ ap (drop 1) (M.lasts c hy) ∙ tos_drop (closed_up ss keys) in
+          done {refusals = keys_refusals ss keys (length before)} {g = keys_register ss keys code day} {before = before} (rw (e, f, s))
+          (subst (λ (g : Register). Wrote before 0 (register_bytes g) after size) (λ i. record { code = code; latest = day; ranges = ranges_of (a i) (b i) }) w)

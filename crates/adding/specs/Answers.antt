@@ -2,53 +2,53 @@
 -- after.
 use Rattle.std.specs.Prelude.{ℕ, ◌≡◌, cond, List, [], ◌∷◌, ◌++◌, eqb, ltb, length, drop}
 use Rattle.laws.specs.Refusals.{Refusal, ◌if◌, first}
-use Rattle.listing.specs.Checking.{uncheckedNumber}
-use Rattle.register.specs.Register.{Register, version, most_of, size_of, registerBytes}
+use Rattle.listing.specs.Checking.{unchecked_number}
+use Rattle.register.specs.Register.{Register, version, most_of, size_of, register_bytes}
 use Rattle.register.specs.Entering.{Use, kept, clash, entered}
 use Rattle.adding.specs.declared.Entered.{Entered}
 use Rattle.adding.specs.declared.Entered.TheVariants.{Written, Refused, NotRegister, OtherCode, DayBefore, HasFaults, UsedAlready, TooMany, TooShort}
 
 -- '27, a number is used already, in the register or twice in the file; 28, more than' 1,024 'ranges would remain; 29, target too short'
-abbrev pub usesRefusals : Register → List Use → ℕ → ℕ → List Refusal
-usesRefusals g us day room =
+abbrev pub uses_refusals : Register → List Use → ℕ → ℕ → List Refusal
+uses_refusals g us day room =
     (27 if clash (kept day g.ranges) us) ∷
     (28 if ltb (most_of version) (length (entered g day us).ranges)) ∷
     (29 if ltb room (size_of (length (entered g day us).ranges))) ∷ []
 
 -- document 02's number for each answer
-abbrev pub enteredNumber : Entered → ℕ
-enteredNumber (Written n) = 0
-enteredNumber (Refused u) = uncheckedNumber u
-enteredNumber NotRegister = 23
-enteredNumber OtherCode = 24
-enteredNumber DayBefore = 25
-enteredNumber HasFaults = 26
-enteredNumber UsedAlready = 27
-enteredNumber TooMany = 28
-enteredNumber TooShort = 29
+abbrev pub entered_number : Entered → ℕ
+entered_number (Written n) = 0
+entered_number (Refused u) = unchecked_number u
+entered_number NotRegister = 23
+entered_number OtherCode = 24
+entered_number DayBefore = 25
+entered_number HasFaults = 26
+entered_number UsedAlready = 27
+entered_number TooMany = 28
+entered_number TooShort = 29
 
 -- how many bytes were written, or another number where it is a refusal
-abbrev pub writtenOr : Entered → ℕ → ℕ
-writtenOr (Written n) old = n
-writtenOr (Refused u) old = old
-writtenOr NotRegister old = old
-writtenOr OtherCode old = old
-writtenOr DayBefore old = old
-writtenOr HasFaults old = old
-writtenOr UsedAlready old = old
-writtenOr TooMany old = old
-writtenOr TooShort old = old
+abbrev pub written_or : Entered → ℕ → ℕ
+written_or (Written n) old = n
+written_or (Refused u) old = old
+written_or NotRegister old = old
+written_or OtherCode old = old
+written_or DayBefore old = old
+written_or HasFaults old = old
+written_or UsedAlready old = old
+written_or TooMany old = old
+written_or TooShort old = old
 
 -- the length of a register where nothing is refused
-abbrev pub sizeAfter : ℕ → Register → ℕ → ℕ
-sizeAfter refusal g old = cond (eqb refusal 0) (size_of (length g.ranges)) old
+abbrev pub size_after : ℕ → Register → ℕ → ℕ
+size_after refusal g old = cond (eqb refusal 0) (size_of (length g.ranges)) old
 
 -- what a target holds after: the register, then what it held; on a refusal what it held
-abbrev pub targetAfter : ℕ → Register → List ℕ → List ℕ
-targetAfter refusal g before = cond (eqb refusal 0) (registerBytes g ++ drop (size_of (length g.ranges)) before) before
+abbrev pub target_after : ℕ → Register → List ℕ → List ℕ
+target_after refusal g before = cond (eqb refusal 0) (register_bytes g ++ drop (size_of (length g.ranges)) before) before
 
 -- what an answer and the target after it are, for some refusals and the register to be written
 pub record Answers (refusals : List Refusal) (g : Register) (before : List ℕ) (r : Entered) (after : List ℕ) : Type 0 where
-  pub number : enteredNumber r ≡ first refusals
-  pub written : (old : ℕ) → writtenOr r old ≡ sizeAfter (first refusals) g old
-  pub target : after ≡ targetAfter (first refusals) g before
+  pub number : entered_number r ≡ first refusals
+  pub written : (old : ℕ) → written_or r old ≡ size_after (first refusals) g old
+  pub target : after ≡ target_after (first refusals) g before

@@ -4,26 +4,26 @@ use Rattle.std.specs.Prelude.{ℕ, ◌-◌, List, [], ◌∷◌, ltb, length, dr
 use Rattle.laws.specs.Refusals.{Refusal, ◌if◌}
 use Rattle.register.specs.Register.{Register, size_of}
 use Rattle.register.specs.Entering.{Use, entered}
-use Rattle.register.specs.Spans.{Span, froms, tos, rangesOf}
+use Rattle.register.specs.Spans.{Span, froms, tos, ranges_of}
 use Rattle.adding.specs.declared.Entered.{Entered}
 use Rattle.merging.specs.Merging.{weave, hits, closed}
-use Rattle.adding.specs.Answers.{usesRefusals, Answers}
+use Rattle.adding.specs.Answers.{uses_refusals, Answers}
 
 -- of keys in order and the spans that stay: the first of the spans closed up is that of 0
 module _ (ss : List Span) (keys : List ℕ) where
-  abbrev pub closedUp : List Span
-  closedUp = closed 0 0 (weave ss keys)
+  abbrev pub closed_up : List Span
+  closed_up = closed 0 0 (weave ss keys)
 
-  abbrev pub keysRefusals : ℕ → List Refusal
-  keysRefusals room =
-      (27 if hits 0 (weave ss keys)) ∷ (28 if ltb 1025 (length closedUp)) ∷ (29 if ltb room (size_of (length closedUp - 1))) ∷ []
+  abbrev pub keys_refusals : ℕ → List Refusal
+  keys_refusals room =
+      (27 if hits 0 (weave ss keys)) ∷ (28 if ltb 1025 (length closed_up)) ∷ (29 if ltb room (size_of (length closed_up - 1))) ∷ []
 
-  abbrev pub keysRegister : ℕ → ℕ → Register
-  keysRegister code day = record { code = code; latest = day; ranges = rangesOf (froms (drop 1 closedUp)) (tos (drop 1 closedUp)) }
+  abbrev pub keys_register : ℕ → ℕ → Register
+  keys_register code day = record { code = code; latest = day; ranges = ranges_of (froms (drop 1 closed_up)) (tos (drop 1 closed_up)) }
 
   abbrev pub EntersKeys : ℕ → ℕ → List ℕ → Entered → List ℕ → Type 0
-  EntersKeys code day before r after = Answers (keysRefusals (length before)) (keysRegister code day) before r after
+  EntersKeys code day before r after = Answers (keys_refusals (length before)) (keys_register code day) before r after
 
 -- of the numbers that an accepted file uses
 abbrev pub EntersUses : Register → List Use → ℕ → ℕ → List ℕ → Entered → List ℕ → Type 0
-EntersUses g us code day before r after = Answers (usesRefusals g us day (length before)) (record { code = code; latest = day; ranges = (entered g day us).ranges }) before r after
+EntersUses g us code day before r after = Answers (uses_refusals g us day (length before)) (record { code = code; latest = day; ranges = (entered g day us).ranges }) before r after

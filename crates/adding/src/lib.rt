@@ -2,11 +2,11 @@
 // target. Promised by specs/Steps.antt; that keys say what days and numbers say is proofs/Uses.antt. Stands on `gathering` for the keys,
 // `merging` for their ranges, `register` for the bytes, and `listing` for its refusals, which an answer of entering can be.
 ghost use Rattle.std.specs.Prelude.{◌≡◌, true, ◌≤◌, length};
-ghost use Rattle.item_reader.specs.Slips.{slipsFrom};
+ghost use Rattle.item_reader.specs.Slips.{slips_from};
 ghost use Rattle.item_reader.specs.Accepted.{Readable, Each};
-ghost use Rattle.register.specs.Register.{is_register, registerOf};
+ghost use Rattle.register.specs.Register.{is_register, register_of};
 ghost use Rattle.register.specs.Entering.{used, kept};
-ghost use Rattle.register.specs.Spans.{spansOf};
+ghost use Rattle.register.specs.Spans.{spans_of};
 ghost use Rattle.gathering.specs.Keys.{Dated};
 ghost use Rattle.adding.specs.Steps.{EntersKeys, EntersUses};
 
@@ -30,7 +30,7 @@ pub enum Entered {
 // The keys of a file, in order, added to the ranges that stay.
 fn enter_keys(register: &[u8], keys: &[u64], code: u32, day: u32, target: &mut [u8]) -> Entered
     requires { (is_register register.now ≡ true) × (length keys.now ≤ 185186) }
-    ensures { EntersKeys (spansOf (kept day (registerOf register.now).ranges)) keys.now code day target.old result target.new }
+    ensures { EntersKeys (spans_of (kept day (register_of register.now).ranges)) keys.now code day target.old result target.new }
 {
     let n = bytes::read(register, 11, 2) as usize;
     let mut starts = [0u64; 1024];
@@ -60,8 +60,8 @@ fn enter_keys(register: &[u8], keys: &[u64], code: u32, day: u32, target: &mut [
 
 // The items of an accepted file. 54 * 185186 bytes are more than a file may have.
 pub fn enter_items(register: &[u8], s: &[u8], code: u32, day: u32, target: &mut [u8]) -> Entered
-    requires { (is_register register.now ≡ true) × (length s.now ≤ 10000000) × Dated (used (slipsFrom 1 s.now)) × Each Readable (slipsFrom 1 s.now) }
-    ensures { EntersUses (registerOf register.now) (used (slipsFrom 1 s.now)) code day target.old result target.new }
+    requires { (is_register register.now ≡ true) × (length s.now ≤ 10000000) × Dated (used (slips_from 1 s.now)) × Each Readable (slips_from 1 s.now) }
+    ensures { EntersUses (register_of register.now) (used (slips_from 1 s.now)) code day target.old result target.new }
 {
     let mut keys = [0u64; 185186];
     let n = gathering::gather(s, &mut keys);

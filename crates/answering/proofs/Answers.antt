@@ -8,142 +8,142 @@ use lib.Dec.{ltb}
 use lib.ListN.{length, take, drop}
 use borrow.Author.Tests.{ltb-true, lt-ltb, le-ltb, eq-eqb, ne_eqb, not-true, not-false}
 use Rattle.laws.specs.Refusals.{first}
-use Rattle.lines.specs.Lines.{hasMark, body, offset_of}
-use Rattle.file_body.proofs.Body.{body-take, body-whole, body-shorter}
-use Rattle.rules.specs.Terms.{isCode, isAccountingDay, input}
-use Rattle.rules.specs.Faults.{Fault, faultsIn}
+use Rattle.lines.specs.Lines.{has_mark, body, offset_of}
+use Rattle.file_body.proofs.Body.{body_take, body_whole, body_shorter}
+use Rattle.rules.specs.Terms.{is_code, is_accounting_day, input}
+use Rattle.rules.specs.Faults.{Fault, faults_in}
 use Rattle.ledger.specs.declared.Ledger.{Ledger}
 use Rattle.ledger.specs.Slices.{Listed}
 use Rattle.own_rules.specs.declared.Basis.{Basis}
-use Rattle.own_rules.specs.Model.{basisOf}
+use Rattle.own_rules.specs.Model.{basis_of}
 use Rattle.going.specs.Reached.{Done}
 use Rattle.listing.specs.declared.checking.Unchecked.{Unchecked}
 use Rattle.listing.specs.declared.checking.Unchecked.TheVariants.{TooLong, NoMark, Leftovers, StartsWithMark}
 use Rattle.listing.specs.declared.checking.Checked.{Checked}
 use Rattle.listing.specs.declared.checking.Checked.TheVariants.{Total, Refused}
-use Rattle.listing.specs.Checking.{areLevel, uncheckedNumber, Checks}
-use Rattle.listing.proofs.Answers.{too_long, no-mark, leftovers, starts-with-mark, checked}
+use Rattle.listing.specs.Checking.{are_level, unchecked_number, Checks}
+use Rattle.listing.proofs.Answers.{too_long, no_mark, leftovers, starts_with_mark_lem, checked}
 use Rattle.portions.specs.declared.Portions.{Portions}
 use Rattle.answering.specs.declared.Closing.TheVariants.{Done as Answered, Late}
-use Rattle.portions.specs.Usable.{isOpen}
-use Rattle.portions.specs.States.{Rooms, HasRead, Holds, shutOf}
-use Rattle.answering.specs.Closing.{fileRefusals, Settles, HandsOut, Closes}
+use Rattle.portions.specs.Usable.{is_open}
+use Rattle.portions.specs.States.{Rooms, HasRead, Holds, shut_of}
+use Rattle.answering.specs.Closing.{file_refusals, Settles, HandsOut, Closes}
 use Rattle.handing.proofs.Handed.{handed}
 
 -- ---- what an open state knows of its file
 
 module _ (p : Portions) (ls rs ps stood : List ℕ) (code day : ℕ) (file : List ℕ) (H : Holds code day file p ls rs ps stood) where
   -- how many came is their count, where that is within the limit
-  file-short : p.bytes ≤ 10000000 → length file ≤ 10000000
-  file-short h = omega (arith, H.bytes)
+  file_short : p.bytes ≤ 10000000 → length file ≤ 10000000
+  file_short h = omega (arith, H.bytes)
 
-  all-counted : p.bytes ≤ 10000000 → p.bytes ≡ length file
-  all-counted h = omega (arith, H.bytes)
+  all_counted : p.bytes ≤ 10000000 → p.bytes ≡ length file
+  all_counted h = omega (arith, H.bytes)
 
-  body-came : p.bytes ≤ 10000000 → p.going.came ≡ length (body file)
-  body-came h = (H.read (file-short h)).reached.came
+  body_came : p.bytes ≤ 10000000 → p.going.came ≡ length (body file)
+  body_came h = (H.read (file_short h)).reached.came
 
 -- ---- what is handed out
 
 pub hands_out : (p : Portions) (ls rs ps stood os₀ qs₀ ts₀ : List ℕ) → p.bytes ≤ 10000000
-    → {j : Basis} {g : Ledger} {ls' rs' ps' : List ℕ} → j ≡ basisOf (input p.code p.day) → Done j ls rs ps stood p.going g ls' rs' ps'
+    → {j : Basis} {g : Ledger} {ls' rs' ps' : List ℕ} → j ≡ basis_of (input p.code p.day) → Done j ls rs ps stood p.going g ls' rs' ps'
     → {n : ℕ} → n ≡ min 256 g.kept → {os qs ts : List ℕ} → os ≡ take n ls' ++ drop n os₀ → qs ≡ take n rs' ++ drop n qs₀ → ts ≡ take n ps' ++ drop n ts₀
     → HandsOut p ls rs ps stood os₀ qs₀ ts₀ g os qs ts
 hands_out p ls rs ps stood os₀ qs₀ ts₀ h {j} {g} {ls'} {rs'} {ps'} ej D {n} en {os} {qs} {ts} o q t code day file H rooms =
-    let R : HasRead code day file ls rs ps stood p.going = H.read (file-short p ls rs ps stood code day file H h) in
-    let all : List Fault = faultsIn (input code day) (body file) in
+    let R : HasRead code day file ls rs ps stood p.going = H.read (file_short p ls rs ps stood code day file H h) in
+    let all : List Fault = faults_in (input code day) (body file) in
     let off : ℕ → ℕ = offset_of (body file) in
-    let L : Listed off all R.lines-came R.rules-came R.offsets-came g ls' rs' ps' =
-    D (input code day) (body file) _ _ _ (ej ∙ (λ i. basisOf (input (H.terms.0 i) (H.terms.1 i)))) R.reached in
+    let L : Listed off all R.lines_came R.rules_came R.offsets_came g ls' rs' ps' =
+    D (input code day) (body file) _ _ _ (ej ∙ (λ i. basis_of (input (H.terms.0 i) (H.terms.1 i)))) R.reached in
     let k : n ≡ min 256 (length all) = omega (arith, en, L.kept, R.rooms.0) in
     record {
-      lines = o ∙ ap (λ (l : List ℕ). take n l ++ drop n os₀) L.lines ∙ handed (λ (f : Fault). f.line) all R.lines-came os₀ (R.rooms.0 ∙ sym rooms.0) n (omega (arith, k, R.rooms.0));
-      rules = q ∙ ap (λ (l : List ℕ). take n l ++ drop n qs₀) L.rules ∙ handed (λ (f : Fault). f.rule) all R.rules-came qs₀ (R.rooms.1 ∙ sym rooms.1) n (omega (arith, k, R.rooms.1));
-      offsets = t ∙ ap (λ (l : List ℕ). take n l ++ drop n ts₀) L.offsets ∙ handed (λ (f : Fault). off f.line) all R.offsets-came ts₀ (R.rooms.2 ∙ sym rooms.2) n (omega (arith, k, R.rooms.2));
+      lines = o ∙ ap (λ (l : List ℕ). take n l ++ drop n os₀) L.lines ∙ handed (λ (f : Fault). f.line) all R.lines_came os₀ (R.rooms.0 ∙ sym rooms.0) n (omega (arith, k, R.rooms.0));
+      rules = q ∙ ap (λ (l : List ℕ). take n l ++ drop n qs₀) L.rules ∙ handed (λ (f : Fault). f.rule) all R.rules_came qs₀ (R.rooms.1 ∙ sym rooms.1) n (omega (arith, k, R.rooms.1));
+      offsets = t ∙ ap (λ (l : List ℕ). take n l ++ drop n ts₀) L.offsets ∙ handed (λ (f : Fault). off f.line) all R.offsets_came ts₀ (R.rooms.2 ∙ sym rooms.2) n (omega (arith, k, R.rooms.2));
       kept = omega (arith, L.kept, R.rooms.0, rooms.0);
       total = L.total;
     }
 
 -- ---- the answers
 
-level : (os qs ts : List ℕ) → Rooms os qs ts → not (areLevel (length os) (length qs) (length ts)) ≡ false
+level : (os qs ts : List ℕ) → Rooms os qs ts → not (are_level (length os) (length qs) (length ts)) ≡ false
 level os qs ts rooms = rw (rooms.0, rooms.1, rooms.2)
 
 module _ (p : Portions) (ls rs ps stood os₀ qs₀ ts₀ : List ℕ) where
   -- a refusal, where checking refuses the file with the same number
-  refused : (u : Unchecked) → uncheckedNumber u ≡ first (fileRefusals p) → ((code day : ℕ) (file : List ℕ) → Holds code day file p ls rs ps stood → Rooms os₀ qs₀ ts₀ → Checks file (input code day) os₀ qs₀ ts₀ (Refused u) os₀ qs₀ ts₀)
+  refused : (u : Unchecked) → unchecked_number u ≡ first (file_refusals p) → ((code day : ℕ) (file : List ℕ) → Holds code day file p ls rs ps stood → Rooms os₀ qs₀ ts₀ → Checks file (input code day) os₀ qs₀ ts₀ (Refused u) os₀ qs₀ ts₀)
       → Settles p ls rs ps stood os₀ qs₀ ts₀ (Refused u) ls rs ps stood os₀ qs₀ ts₀
   refused u e C = record { number = e; kept = λ _. (refl, refl, refl, refl, refl, refl, refl); checks = C }
 
-  good-code : (code day : ℕ) (file : List ℕ) → Holds code day file p ls rs ps stood → not (isCode code) ≡ false
-  good-code code day file H = ap not H.good.0
+  good_code : (code day : ℕ) (file : List ℕ) → Holds code day file p ls rs ps stood → not (is_code code) ≡ false
+  good_code code day file H = ap not H.good.0
 
-  good-day : (code day : ℕ) (file : List ℕ) → Holds code day file p ls rs ps stood → not (isAccountingDay day) ≡ false
-  good-day code day file H = ap not H.good.1
+  good_day : (code day : ℕ) (file : List ℕ) → Holds code day file p ls rs ps stood → not (is_accounting_day day) ≡ false
+  good_day code day file H = ap not H.good.1
 
-  pub file-too-long : 10000000 < p.bytes → Settles p ls rs ps stood os₀ qs₀ ts₀ (Refused TooLong) ls rs ps stood os₀ qs₀ ts₀
-  file-too-long h =
+  pub file_too_long : 10000000 < p.bytes → Settles p ls rs ps stood os₀ qs₀ ts₀ (Refused TooLong) ls rs ps stood os₀ qs₀ ts₀
+  file_too_long h =
       refused TooLong (rw (lt-ltb 10000000 p.bytes h))
-      (λ code day file H _. too_long file (input code day) os₀ qs₀ ts₀ (good-code code day file H) (good-day code day file H) (omega (arith, H.bytes)))
+      (λ code day file H _. too_long file (input code day) os₀ qs₀ ts₀ (good_code code day file H) (good_day code day file H) (omega (arith, H.bytes)))
 
   module _ (h : p.bytes ≤ 10000000) where
     c : ltb 10000000 p.bytes ≡ false
     c = le-ltb 10000000 p.bytes h
 
-    pub file-no-mark : not p.seen ≡ true → Settles p ls rs ps stood os₀ qs₀ ts₀ (Refused NoMark) ls rs ps stood os₀ qs₀ ts₀
-    file-no-mark e =
+    pub file_no_mark : not p.seen ≡ true → Settles p ls rs ps stood os₀ qs₀ ts₀ (Refused NoMark) ls rs ps stood os₀ qs₀ ts₀
+    file_no_mark e =
         refused NoMark (rw (c, e))
         (λ code day file H rooms.
-        let short = file-short p ls rs ps stood code day file H h in
-        let m : hasMark file ≡ false = sym (H.seen short) ∙ not-true _ e in
-        no-mark file (input code day) os₀ qs₀ ts₀ (good-code code day file H) (good-day code day file H) short (level os₀ qs₀ ts₀ rooms) (length (body file)) refl (omega (arith, ap length (body-whole file m))))
+        let short = file_short p ls rs ps stood code day file H h in
+        let m : has_mark file ≡ false = sym (H.seen short) ∙ not-true _ e in
+        no_mark file (input code day) os₀ qs₀ ts₀ (good_code code day file H) (good_day code day file H) short (level os₀ qs₀ ts₀ rooms) (length (body file)) refl (omega (arith, ap length (body_whole file m))))
 
     module _ (e : not p.seen ≡ false) where
       -- the file has its mark behind the body
       marked : (code day : ℕ) (file : List ℕ) → Holds code day file p ls rs ps stood → p.going.came < length file
       marked code day file H =
-          let short = file-short p ls rs ps stood code day file H h in
-          let m : hasMark file ≡ true = sym (H.seen short) ∙ not-false _ e in
-          omega (arith, body-came p ls rs ps stood code day file H h, ltb-true (length (body file)) (length file) (body-shorter file ∙ m))
+          let short = file_short p ls rs ps stood code day file H h in
+          let m : has_mark file ≡ true = sym (H.seen short) ∙ not-false _ e in
+          omega (arith, body_came p ls rs ps stood code day file H h, ltb-true (length (body file)) (length file) (body_shorter file ∙ m))
 
-      pub file-leftovers : p.going.came + 1 < p.bytes → Settles p ls rs ps stood os₀ qs₀ ts₀ (Refused Leftovers) ls rs ps stood os₀ qs₀ ts₀
-      file-leftovers k =
+      pub file_leftovers : p.going.came + 1 < p.bytes → Settles p ls rs ps stood os₀ qs₀ ts₀ (Refused Leftovers) ls rs ps stood os₀ qs₀ ts₀
+      file_leftovers k =
           refused Leftovers (rw (c, e, lt-ltb (p.going.came + 1) p.bytes k))
           (λ code day file H rooms.
-          leftovers file (input code day) os₀ qs₀ ts₀ (good-code code day file H) (good-day code day file H) (file-short p ls rs ps stood code day file H h) (level os₀ qs₀ ts₀ rooms)
-          p.going.came (body-came p ls rs ps stood code day file H h) (marked code day file H) (omega (arith, all-counted p ls rs ps stood code day file H h)))
+          leftovers file (input code day) os₀ qs₀ ts₀ (good_code code day file H) (good_day code day file H) (file_short p ls rs ps stood code day file H h) (level os₀ qs₀ ts₀ rooms)
+          p.going.came (body_came p ls rs ps stood code day file H h) (marked code day file H) (omega (arith, all_counted p ls rs ps stood code day file H h)))
 
       module _ (k : p.bytes ≤ p.going.came + 1) where
         d : ltb (p.going.came + 1) p.bytes ≡ false
         d = le-ltb (p.going.came + 1) p.bytes k
 
-        pub file-starts : p.going.came ≡ 0 → Settles p ls rs ps stood os₀ qs₀ ts₀ (Refused StartsWithMark) ls rs ps stood os₀ qs₀ ts₀
-        file-starts z =
+        pub file_starts : p.going.came ≡ 0 → Settles p ls rs ps stood os₀ qs₀ ts₀ (Refused StartsWithMark) ls rs ps stood os₀ qs₀ ts₀
+        file_starts z =
             refused StartsWithMark (rw (c, e, d, eq-eqb p.going.came 0 z))
             (λ code day file H rooms.
-            starts-with-mark file (input code day) os₀ qs₀ ts₀ (good-code code day file H) (good-day code day file H) (file-short p ls rs ps stood code day file H h) (level os₀ qs₀ ts₀ rooms)
-            p.going.came (body-came p ls rs ps stood code day file H h) (marked code day file H) (omega (arith, all-counted p ls rs ps stood code day file H h)) z)
+            starts_with_mark_lem file (input code day) os₀ qs₀ ts₀ (good_code code day file H) (good_day code day file H) (file_short p ls rs ps stood code day file H h) (level os₀ qs₀ ts₀ rooms)
+            p.going.came (body_came p ls rs ps stood code day file H h) (marked code day file H) (omega (arith, all_counted p ls rs ps stood code day file H h)) z)
 
-        pub file-listed : (p.going.came ≡ 0 → ⊥) → {g : Ledger} {ls' rs' ps' stood' os qs ts : List ℕ} → HandsOut p ls rs ps stood os₀ qs₀ ts₀ g os qs ts
+        pub file_listed : (p.going.came ≡ 0 → ⊥) → {g : Ledger} {ls' rs' ps' stood' os qs ts : List ℕ} → HandsOut p ls rs ps stood os₀ qs₀ ts₀ g os qs ts
             → Settles p ls rs ps stood os₀ qs₀ ts₀ (Total g.total) ls' rs' ps' stood' os qs ts
-        file-listed z {g} {os = os} {qs} {ts} O =
-            let n : first (fileRefusals p) ≡ 0 = rw (c, e, d, ne_eqb p.going.came 0 z) in
+        file_listed z {g} {os = os} {qs} {ts} O =
+            let n : first (file_refusals p) ≡ 0 = rw (c, e, d, ne_eqb p.going.came 0 z) in
             record {
               number = sym n;
               kept = λ f. absurd (f n);
               checks = λ code day file H rooms.
-                  let came = body-came p ls rs ps stood code day file H h in
-                  let all : length file ≤ p.going.came + 1 = omega (arith, all-counted p ls rs ps stood code day file H h) in
-                  let is : take p.going.came file ≡ body file = ap (λ (i : ℕ). take i file) came ∙ body-take file in
-                  checked file (input code day) os₀ qs₀ ts₀ (good-code code day file H) (good-day code day file H) (file-short p ls rs ps stood code day file H h) (level os₀ qs₀ ts₀ rooms)
+                  let came = body_came p ls rs ps stood code day file H h in
+                  let all : length file ≤ p.going.came + 1 = omega (arith, all_counted p ls rs ps stood code day file H h) in
+                  let is : take p.going.came file ≡ body file = ap (λ (i : ℕ). take i file) came ∙ body_take file in
+                  checked file (input code day) os₀ qs₀ ts₀ (good_code code day file H) (good_day code day file H) (file_short p ls rs ps stood code day file H h) (level os₀ qs₀ ts₀ rooms)
                   p.going.came came (marked code day file H) all z
-                  (subst (λ (t : List ℕ). Listed (offset_of t) (faultsIn (input code day) t) os₀ qs₀ ts₀ g os qs ts) (sym is) (O code day file H rooms));
+                  (subst (λ (t : List ℕ). Listed (offset_of t) (faults_in (input code day) t) os₀ qs₀ ts₀ g os qs ts) (sym is) (O code day file H rooms));
             }
 
 -- ---- closing
 
 module _ (p : Portions) (ls rs ps stood os₀ qs₀ ts₀ : List ℕ) where
-  pub late : isOpen p ls rs ps ≡ false → Closes p ls rs ps stood os₀ qs₀ ts₀ (record { answer = Late; state = p }) ls rs ps stood os₀ qs₀ ts₀
+  pub late : is_open p ls rs ps ≡ false → Closes p ls rs ps stood os₀ qs₀ ts₀ (record { answer = Late; state = p }) ls rs ps stood os₀ qs₀ ts₀
   late e =
       record {
         number = rw e;
@@ -152,6 +152,6 @@ module _ (p : Portions) (ls rs ps stood os₀ qs₀ ts₀ : List ℕ) where
         checks = λ code day file H _. absurd (true≢false (sym H.usable ∙ e));
       }
 
-  pub answered : isOpen p ls rs ps ≡ true → {q : Portions} → q ≡ shutOf p → {c : Checked} {ls' rs' ps' stood' os qs ts : List ℕ} → Settles p ls rs ps stood os₀ qs₀ ts₀ c ls' rs' ps' stood' os qs ts
+  pub answered : is_open p ls rs ps ≡ true → {q : Portions} → q ≡ shut_of p → {c : Checked} {ls' rs' ps' stood' os qs ts : List ℕ} → Settles p ls rs ps stood os₀ qs₀ ts₀ c ls' rs' ps' stood' os qs ts
       → Closes p ls rs ps stood os₀ qs₀ ts₀ (record { answer = Answered c; state = q }) ls' rs' ps' stood' os qs ts
   answered e f S = record { number = S.number ∙ rw e; state = f ∙ rw e; kept = λ k. S.kept (λ z. k (rw e z)); checks = S.checks }

@@ -1,12 +1,12 @@
 // Closing a file that came in portions: no more comes, and it is answered for. `close` is an open job without a `requires`: 18 for a state that
 // is not open, and nothing changes; else checking's own answer for all bytes that came, and the state is closed, refused or not. Read
 // specs/Closing.antt. Proved in proofs/Cut.antt: however a file is cut, closing answers and lists what checking the whole does with room for 256
-// (`cut-anyhow`), so two cuttings give the same (`cut-same`); and a state that was closed stays closed (`closed-stays`). Stands on
+// (`cut_anyhow`), so two cuttings give the same (`cut_same`); and a state that was closed stays closed (`closed_stays`). Stands on
 // `portions` for the state, on `going` for its end, and on `listing` for the refusals.
 ghost use Rattle.std.specs.Prelude.{◌≡◌, true, ◌≤◌, min};
-ghost use Rattle.portions.specs.Usable.{isOpen};
-ghost use Rattle.portions.specs.States.{shutOf};
-ghost use Rattle.answering.specs.Closing.{HandsOut, Settles, Closes, closingNumber, closingOr};
+ghost use Rattle.portions.specs.Usable.{is_open};
+ghost use Rattle.portions.specs.States.{shut_of};
+ghost use Rattle.answering.specs.Closing.{HandsOut, Settles, Closes, closing_number, closing_or};
 
 use headings::Code;
 use ledger::Ledger;
@@ -46,7 +46,7 @@ fn list_out(
     second: &mut [u32; 256],
     third: &mut [u32; 256],
 ) -> Ledger
-    requires offsets_value { isOpen p lines.old rules.old offsets.old ≡ true }
+    requires offsets_value { is_open p lines.old rules.old offsets.old ≡ true }
     requires bytes_bound { p.bytes ≤ 10000000 }
     ensures { HandsOut p lines.old rules.old offsets.old stood.old first.old second.old third.old result first.new second.new third.new }
 {
@@ -71,7 +71,7 @@ fn settle(
     second: &mut [u32; 256],
     third: &mut [u32; 256],
 ) -> Checked
-    requires { isOpen p lines.old rules.old offsets.old ≡ true }
+    requires { is_open p lines.old rules.old offsets.old ≡ true }
     ensures { Settles p lines.old rules.old offsets.old stood.old first.old second.old third.old result lines.new rules.new offsets.new stood.new first.new second.new third.new }
 {
     let body = p.going.came;
@@ -93,7 +93,7 @@ fn settle(
 
 // No more may come.
 fn shut(p: Portions) -> Portions
-    ensures { result ≡ shutOf p }
+    ensures { result ≡ shut_of p }
 {
     let going = p.going;
     Portions {
@@ -134,7 +134,7 @@ pub fn close(
 
 // The number of an answer, 0 for a total.
 pub fn number_of(r: Closing) -> u32
-    ensures { result ≡ closingNumber r }
+    ensures { result ≡ closing_number r }
 {
     match r {
         Closing::Done(c) => checking::number_of(c),
@@ -144,7 +144,7 @@ pub fn number_of(r: Closing) -> u32
 
 // The total of an answer, and what stood there where there is none.
 pub fn total_or(r: Closing, old: u64) -> u64
-    ensures { result ≡ closingOr r old }
+    ensures { result ≡ closing_or r old }
 {
     match r {
         Closing::Done(c) => checking::total_or(c, old),

@@ -1,6 +1,6 @@
 // The rules of blocks, each asked of the account and not of the items above.
 ghost use Rattle.std.specs.Prelude.{◌≡◌, ◌+◌, ◌<◌, ◌^◌, eqb};
-ghost use Rattle.blocks.specs.Model.{breaks18, skipsTo, breaks19, breaks19Closing, breaks20, breaks21, openMarks, endingMarks};
+ghost use Rattle.blocks.specs.Model.{breaks18, skips_to, breaks19, breaks19_closing, breaks20, breaks21, open_marks, ending_marks};
 
 use crate::Course;
 use crate::marks::{MARK_17, MARK_18, MARK_19, MARK_20, MARK_21, flag};
@@ -25,7 +25,7 @@ fn follows(n: ItemNo, last: ItemNo) -> bool
 }
 
 fn skips_to(some: bool, last: ItemNo, n: ItemNo) -> bool
-    ensures { result ≡ skipsTo some last n }
+    ensures { result ≡ skips_to some last n }
 {
     let next = follows(n, last);
     some & !next
@@ -39,7 +39,7 @@ fn breaks_nineteen(some: bool, last: ItemNo, n: ItemNo) -> bool
 }
 
 fn breaks_nineteen_closing(some: bool, last: ItemNo, n: ItemNo) -> bool
-    ensures { result ≡ breaks19Closing some last n }
+    ensures { result ≡ breaks19_closing some last n }
 {
     let skips = skips_to(some, last, n);
     (n.0 != 0) & skips
@@ -65,7 +65,7 @@ fn breaks_twenty_one(some: bool, first: ItemNo, last: ItemNo, span: FirstIn) -> 
 
 // The marks of 18 to 20 at a heading that is no 51.
 pub fn open_marks(c: Course, h: Heading) -> u64
-    ensures { (result ≡ openMarks c h) × (result < 2 ^ 21) }
+    ensures { (result ≡ open_marks c h) × (result < 2 ^ 21) }
 {
     flag(breaks_eighteen(c.some, c.day, h.day), MARK_18)
         + flag(breaks_nineteen(c.some, c.last, h.number), MARK_19)
@@ -74,7 +74,7 @@ pub fn open_marks(c: Course, h: Heading) -> u64
 
 // The marks of 17 to 19 and 21 at a 51.
 pub fn ending_marks(c: Course, h: Heading, span: FirstIn) -> u64
-    ensures { (result ≡ endingMarks c h span) × (result < 2 ^ 22) }
+    ensures { (result ≡ ending_marks c h span) × (result < 2 ^ 22) }
 {
     flag(!c.any, MARK_17)
         + flag(breaks_eighteen(c.some, c.day, h.day), MARK_18)

@@ -1,6 +1,6 @@
 // The ten groups: what a 51 states of each against what the account has.
 ghost use Rattle.std.specs.Prelude.{◌≡◌, cond, ◌+◌, ◌-◌, ◌<◌, ◌≤◌, ◌^◌, min};
-ghost use Rattle.blocks.specs.Model.{tellsCapped, misstatedCapped, groupBreaks, groupMarks};
+ghost use Rattle.blocks.specs.Model.{tells_capped, misstated_capped, group_breaks, group_marks};
 
 use crate::marks::{
     MARK_30, MARK_31, MARK_32, MARK_33, MARK_34, MARK_35, MARK_36, MARK_37, MARK_38, MARK_39, flag,
@@ -8,13 +8,13 @@ use crate::marks::{
 use rules::{FirstSum, Sum};
 
 fn tells_true(count: u64, sum: u64, c: u64, s: u64) -> bool
-    ensures { result ≡ tellsCapped count sum c s }
+    ensures { result ≡ tells_capped count sum c s }
 {
     (count < 10000000) & ((sum < 100000000000000000) & ((c == count) & (s == sum)))
 }
 
 fn misstates(count: u64, sum: u64, stated: FirstSum) -> bool
-    ensures { result ≡ misstatedCapped count sum stated }
+    ensures { result ≡ misstated_capped count sum stated }
 {
     match stated {
         FirstSum::NoSum => !tells_true(count, sum, 0, 0),
@@ -25,7 +25,7 @@ fn misstates(count: u64, sum: u64, stated: FirstSum) -> bool
 
 fn group_breaks(counts: [u64; 10], sums: [u64; 10], groups: [Sum; 10], d: usize) -> bool
     requires { d < 10 }
-    ensures { result ≡ groupBreaks counts sums groups d }
+    ensures { result ≡ group_breaks counts sums groups d }
 {
     let group = groups[d];
     let stated = group.stated;
@@ -34,14 +34,14 @@ fn group_breaks(counts: [u64; 10], sums: [u64; 10], groups: [Sum; 10], d: usize)
 
 fn group_mark(counts: [u64; 10], sums: [u64; 10], groups: [Sum; 10], d: usize, mark: u64) -> u64
     requires { d < 10 }
-    ensures { (result ≡ cond (groupBreaks counts sums groups d) mark 0) × (result ≤ mark) }
+    ensures { (result ≡ cond (group_breaks counts sums groups d) mark 0) × (result ≤ mark) }
 {
     flag(group_breaks(counts, sums, groups, d), mark)
 }
 
 // The marks of 30 to 39.
 pub fn group_marks(counts: [u64; 10], sums: [u64; 10], groups: [Sum; 10]) -> u64
-    ensures { (result ≡ groupMarks counts sums groups) × (result ≤ 2 ^ 40 - 2 ^ 30) }
+    ensures { (result ≡ group_marks counts sums groups) × (result ≤ 2 ^ 40 - 2 ^ 30) }
 {
     group_mark(counts, sums, groups, 0, MARK_30)
         + group_mark(counts, sums, groups, 1, MARK_31)

@@ -10,70 +10,70 @@ use lib.Seq.{get_or-set_other}
 use lib.IntN.{ℤ, pos, ◌+ℤ◌}
 use borrow.Author.Tests.{ltb-true, ltb-false, lt-leb, le-leb, not-true, not-false}
 use Rattle.laws.specs.Tests.{among}
-use Rattle.laws.proofs.Truth.{both_left, both_right, by-test}
+use Rattle.laws.proofs.Truth.{both_left, both_right, by_test}
 use Rattle.fields.specs.Kinds.{place}
 use Rattle.fields.proofs.Places.{place_in}
 use Rattle.lines.specs.Lines.{lines}
 use Rattle.rules.specs.Rows.{rows_from}
 use Rattle.item_reader.specs.declared.Next.{Next}
-use Rattle.item_reader.specs.Slips.{slipsFrom, Headed, IsFirst, IsSlip}
-use Rattle.turnovers.specs.Scheme.{postingOf}
+use Rattle.item_reader.specs.Slips.{slips_from, Headed, IsFirst, IsSlip}
+use Rattle.turnovers.specs.Scheme.{posting_of}
 use Rattle.turnovers.specs.declared.Move.{Move}
 use Rattle.turnovers.specs.declared.Posting.{Posting}
 use Rattle.turnovers.specs.declared.Posting.TheVariants.{Moves, Nothing}
 use Rattle.booking.specs.declared.Told.{Told}
 use Rattle.sums.specs.Sums.{AddsBoth, signed, beyond}
-use Rattle.booking.specs.Sheet.{cell, isListed, moved, goesBeyond, allListed, somePasses, after}
-use Rattle.booking.specs.Booking.{Sound, told, toldBy, Kept, KeptBy, Booked}
+use Rattle.booking.specs.Sheet.{cell, is_listed, moved, goes_beyond, all_are_listed, some_passes, after}
+use Rattle.booking.specs.Booking.{Sound, told, told_by, Kept, KeptBy, Booked}
 use Rattle.booking.proofs.Columns.{listed_at}
 
 unfoldable pub tell : Bool → Bool → Told
 tell u b = record { unlisted = u; beyond = b }
 
-leb-not : (n p : ℕ) → leb n p ≡ not (ltb p n)
-leb-not n p = by-test (ltb p n)
+leb_not : (n p : ℕ) → leb n p ≡ not (ltb p n)
+leb_not n p = by_test (ltb p n)
     (λ e. rw e (lt-leb n p (ltb-true p n e)))
     (λ e. rw e (le-leb n p (ltb-false p n e)))
 
-both-not : (a b : Bool) → (not a || not b) ≡ not (a && b)
-both-not true b = refl
-both-not false b = refl
+both_not : (a b : Bool) → (not a || not b) ≡ not (a && b)
+both_not true b = refl
+both_not false b = refl
 
 module _ (codes : List ℕ) (m : Move) where
   abbrev pub absent : Bool
   absent = leb (length codes) (place m.payer.0 codes) || leb (length codes) (place m.other.0 codes)
 
-  absent-is : absent ≡ not (isListed codes m)
-  absent-is =
-      (λ i. (leb-not (length codes) (place m.payer.0 codes) ∙ ap not (place_in m.payer.0 codes)) i
-      || (leb-not (length codes) (place m.other.0 codes) ∙ ap not (place_in m.other.0 codes)) i)
-      ∙ both-not (among m.payer.0 codes) (among m.other.0 codes)
+  absent_is : absent ≡ not (is_listed codes m)
+  absent_is =
+      (λ i. (leb_not (length codes) (place m.payer.0 codes) ∙ ap not (place_in m.payer.0 codes)) i
+      || (leb_not (length codes) (place m.other.0 codes) ∙ ap not (place_in m.other.0 codes)) i)
+      ∙ both_not (among m.payer.0 codes) (among m.other.0 codes)
 
-  pub is-absent : absent ≡ true → isListed codes m ≡ false
-  is-absent e = not-true (isListed codes m) (sym absent-is ∙ e)
+  pub is_absent : absent ≡ true → is_listed codes m ≡ false
+  is_absent e = not-true (is_listed codes m) (sym absent_is ∙ e)
 
-  pub is-listed : absent ≡ false → isListed codes m ≡ true
-  is-listed e = not-false (isListed codes m) (sym absent-is ∙ e)
+  pub is_listed_lem : absent ≡ false → is_listed codes m ≡ true
+  is_listed_lem e = not-false (is_listed codes m) (sym absent_is ∙ e)
 
   module _ (few : length codes ≤ 64) (e : absent ≡ false) where
-    pub payer-low : place m.payer.0 codes < 64
-    payer-low = listed_at codes few m.payer.0 (both_left (among m.payer.0 codes) (among m.other.0 codes) (is-listed e))
+    pub payer_low : place m.payer.0 codes < 64
+    payer_low = listed_at codes few m.payer.0 (both_left (among m.payer.0 codes) (among m.other.0 codes) (is_listed_lem e))
 
-    pub other-low : place m.other.0 codes < 64
-    other-low = listed_at codes few m.other.0 (both_right (among m.payer.0 codes) (among m.other.0 codes) (is-listed e))
+    pub other_low : place m.other.0 codes < 64
+    other_low = listed_at codes few m.other.0 (both_right (among m.payer.0 codes) (among m.other.0 codes) (is_listed_lem e))
 
   -- ---- what is found
   module _ (t : Told) (ts : List ℤ) where
-    pub told-absent : absent ≡ true → tell true t.beyond ≡ told codes t ts m
+    pub told_absent : absent ≡ true → tell true t.beyond ≡ told codes t ts m
     unfolding told tell
-    told-absent e = rw (is-absent e)
+    told_absent e = rw (is_absent e)
 
-    told-listed : absent ≡ false → tell t.unlisted (cond t.beyond true (goesBeyond codes ts m)) ≡ told codes t ts m
+    told_listed : absent ≡ false → tell t.unlisted (cond t.beyond true (goes_beyond codes ts m)) ≡ told codes t ts m
     unfolding told tell
-    told-listed e = rw (is-listed e)
+    told_listed e = rw (is_listed_lem e)
 
-    pub told-before : absent ≡ false → t.beyond ≡ true → tell t.unlisted true ≡ told codes t ts m
-    told-before e b = sym (ap (λ (b : Bool). tell t.unlisted (cond b true (goesBeyond codes ts m))) b) ∙ told-listed e
+    pub told_before : absent ≡ false → t.beyond ≡ true → tell t.unlisted true ≡ told codes t ts m
+    told_before e b = sym (ap (λ (b : Bool). tell t.unlisted (cond b true (goes_beyond codes ts m))) b) ∙ told_listed e
 
     abbrev x : ℤ
     x = signed m.minus m.amount
@@ -88,20 +88,20 @@ module _ (codes : List ℕ) (m : Move) where
       apart : here ≡ there → ⊥
       apart q = S.apart (omega (arith, q, S.from, S.to))
 
-      both_is : r ≡ goesBeyond codes ts m
+      both_is : r ≡ goes_beyond codes ts m
       both_is =
           A.passes ∙ ap (λ (z : ℤ). beyond (get_or ts here (pos 0) +ℤ x) || beyond (z +ℤ x)) (get_or-set_other ts here there (get_or ts here (pos 0) +ℤ x) (pos 0) (λ q. apart (sym q)))
 
-      pub told-both : tell t.unlisted r ≡ told codes t ts m
-      told-both = ap (tell t.unlisted) (both_is ∙ sym (ap (λ (b : Bool). cond b true (goesBeyond codes ts m)) b)) ∙ told-listed e
+      pub told_both : tell t.unlisted r ≡ told codes t ts m
+      told_both = ap (tell t.unlisted) (both_is ∙ sym (ap (λ (b : Bool). cond b true (goes_beyond codes ts m)) b)) ∙ told_listed e
 
-      pub moved-both : r ≡ false → ts' ≡ moved codes ts m
-      moved-both f = A.sheet f
+      pub moved_both : r ≡ false → ts' ≡ moved codes ts m
+      moved_both f = A.sheet f
 
 -- ---- the walk over all postings, by what is left
 pub record Left (codes : List ℕ) (ts₀ : List ℤ) (all : List Posting) (ts : List ℤ) (t : Told) (left : List Posting) : Type 0 where
-  pub unlisted : not (allListed codes all) ≡ (t.unlisted || not (allListed codes left))
-  pub beyond : t.unlisted ≡ false → somePasses codes ts₀ all ≡ (t.beyond || somePasses codes ts left)
+  pub unlisted : not (all_are_listed codes all) ≡ (t.unlisted || not (all_are_listed codes left))
+  pub beyond : t.unlisted ≡ false → some_passes codes ts₀ all ≡ (t.beyond || some_passes codes ts left)
   pub sheet : t.unlisted ≡ false → t.beyond ≡ false → after codes ts₀ all ≡ after codes ts left
 
 one_more : (L u A : Bool) → (u || not (L && A)) ≡ (cond L u true || not A)
@@ -113,33 +113,33 @@ both_of : (L u : Bool) → cond L u true ≡ false → (L ≡ true) × (u ≡ fa
 both_of true u e = (refl, e)
 both_of false u e = absurd (true≢false e)
 
-or-more : (b P S S' q : Bool) → q ≡ cond b true P → (q ≡ false → S' ≡ S) → (b || (P || S)) ≡ (q || S')
-or-more true P S S' q e h = sym (ap (λ (b : Bool). b || S') e)
-or-more false true S S' q e h = sym (ap (λ (b : Bool). b || S') e)
-or-more false false S S' q e h = sym (h e) ∙ sym (ap (λ (b : Bool). b || S') e)
+or_more : (b P S S' q : Bool) → q ≡ cond b true P → (q ≡ false → S' ≡ S) → (b || (P || S)) ≡ (q || S')
+or_more true P S S' q e h = sym (ap (λ (b : Bool). b || S') e)
+or_more false true S S' q e h = sym (ap (λ (b : Bool). b || S') e)
+or_more false false S S' q e h = sym (h e) ∙ sym (ap (λ (b : Bool). b || S') e)
 
-not-before : (b P : Bool) → cond b true P ≡ false → (b ≡ false) × (P ≡ false)
-not-before true P e = absurd (true≢false e)
-not-before false P e = (refl, e)
+not_before : (b P : Bool) → cond b true P ≡ false → (b ≡ false) × (P ≡ false)
+not_before true P e = absurd (true≢false e)
+not_before false P e = (refl, e)
 
 module _ (codes : List ℕ) (t : Told) (ts : List ℤ) (m : Move) where
-  told-unlisted : (told codes t ts m).unlisted ≡ cond (isListed codes m) t.unlisted true
+  told_unlisted : (told codes t ts m).unlisted ≡ cond (is_listed codes m) t.unlisted true
   unfolding told
-  told-unlisted = by-test (isListed codes m)
+  told_unlisted = by_test (is_listed codes m)
       (λ q. rw q)
       (λ q. rw q)
 
-  told-beyond : isListed codes m ≡ true → (told codes t ts m).beyond ≡ cond t.beyond true (goesBeyond codes ts m)
+  told_beyond : is_listed codes m ≡ true → (told codes t ts m).beyond ≡ cond t.beyond true (goes_beyond codes ts m)
   unfolding told
-  told-beyond e = rw e
+  told_beyond e = rw e
 
 module _ {codes : List ℕ} {ts₀ : List ℤ} {all : List Posting} {ts : List ℤ} {t : Told} {ps : List Posting} {ts' : List ℤ} {t' : Told} where
-  step-nothing : Left codes ts₀ all ts t (Nothing ∷ ps) → t' ≡ t → KeptBy codes ts Nothing t' ts' → Left codes ts₀ all ts' t' ps
-  step-nothing W q K = record {
-    unlisted = W.unlisted ∙ sym (ap (λ (t : Told). t.unlisted || not (allListed codes ps)) q);
+  step_nothing : Left codes ts₀ all ts t (Nothing ∷ ps) → t' ≡ t → KeptBy codes ts Nothing t' ts' → Left codes ts₀ all ts' t' ps
+  step_nothing W q K = record {
+    unlisted = W.unlisted ∙ sym (ap (λ (t : Told). t.unlisted || not (all_are_listed codes ps)) q);
     beyond = λ e.
         W.beyond (ap (λ (t : Told). t.unlisted) (sym q) ∙ e)
-        ∙ or-more t.beyond false (somePasses codes ts ps) (somePasses codes ts' ps) t'.beyond (ap (λ (t : Told). t.beyond) q ∙ same t.beyond) (λ f. ap (λ (l : List ℤ). somePasses codes l ps) (K e f));
+        ∙ or_more t.beyond false (some_passes codes ts ps) (some_passes codes ts' ps) t'.beyond (ap (λ (t : Told). t.beyond) q ∙ same t.beyond) (λ f. ap (λ (l : List ℤ). some_passes codes l ps) (K e f));
     sheet = λ e f. W.sheet (ap (λ (t : Told). t.unlisted) (sym q) ∙ e) (ap (λ (t : Told). t.beyond) (sym q) ∙ f) ∙ sym (ap (λ (l : List ℤ). after codes l ps) (K e f));
   }
     where
@@ -149,25 +149,25 @@ module _ {codes : List ℕ} {ts₀ : List ℤ} {all : List Posting} {ts : List �
 
   step_move : (m : Move) → Left codes ts₀ all ts t (Moves m ∷ ps) → t' ≡ told codes t ts m → Kept codes ts m t' ts' → Left codes ts₀ all ts' t' ps
   step_move m W q K = record {
-    unlisted = W.unlisted ∙ one_more (isListed codes m) t.unlisted (allListed codes ps) ∙ sym (ap (λ (b : Bool). b || not (allListed codes ps)) is-unlisted);
+    unlisted = W.unlisted ∙ one_more (is_listed codes m) t.unlisted (all_are_listed codes ps) ∙ sym (ap (λ (b : Bool). b || not (all_are_listed codes ps)) is_unlisted);
     beyond = λ e.
-        let h = both_of (isListed codes m) t.unlisted (sym is-unlisted ∙ e) in
+        let h = both_of (is_listed codes m) t.unlisted (sym is_unlisted ∙ e) in
         W.beyond h.1
-        ∙ or-more t.beyond (goesBeyond codes ts m) (somePasses codes (moved codes ts m) ps) (somePasses codes ts' ps) t'.beyond
-        (is-beyond h.0) (λ f. ap (λ (l : List ℤ). somePasses codes l ps) (K e f));
+        ∙ or_more t.beyond (goes_beyond codes ts m) (some_passes codes (moved codes ts m) ps) (some_passes codes ts' ps) t'.beyond
+        (is_beyond h.0) (λ f. ap (λ (l : List ℤ). some_passes codes l ps) (K e f));
     sheet = λ e f.
-        let h = both_of (isListed codes m) t.unlisted (sym is-unlisted ∙ e) in
-        W.sheet h.1 (not-before t.beyond (goesBeyond codes ts m) (sym (is-beyond h.0) ∙ f)).0 ∙ sym (ap (λ (l : List ℤ). after codes l ps) (K e f));
+        let h = both_of (is_listed codes m) t.unlisted (sym is_unlisted ∙ e) in
+        W.sheet h.1 (not_before t.beyond (goes_beyond codes ts m) (sym (is_beyond h.0) ∙ f)).0 ∙ sym (ap (λ (l : List ℤ). after codes l ps) (K e f));
   }
     where
-      is-unlisted : t'.unlisted ≡ cond (isListed codes m) t.unlisted true
-      is-unlisted = ap (λ (t : Told). t.unlisted) q ∙ told-unlisted codes t ts m
+      is_unlisted : t'.unlisted ≡ cond (is_listed codes m) t.unlisted true
+      is_unlisted = ap (λ (t : Told). t.unlisted) q ∙ told_unlisted codes t ts m
 
-      is-beyond : isListed codes m ≡ true → t'.beyond ≡ cond t.beyond true (goesBeyond codes ts m)
-      is-beyond e = ap (λ (t : Told). t.beyond) q ∙ told-beyond codes t ts m e
+      is_beyond : is_listed codes m ≡ true → t'.beyond ≡ cond t.beyond true (goes_beyond codes ts m)
+      is_beyond e = ap (λ (t : Told). t.beyond) q ∙ told_beyond codes t ts m e
 
-  pub step : (p : Posting) → Left codes ts₀ all ts t (p ∷ ps) → t' ≡ toldBy codes t ts p → KeptBy codes ts p t' ts' → Left codes ts₀ all ts' t' ps
-  step Nothing W q K = step-nothing W q K
+  pub step : (p : Posting) → Left codes ts₀ all ts t (p ∷ ps) → t' ≡ told_by codes t ts p → KeptBy codes ts p t' ts' → Left codes ts₀ all ts' t' ps
+  step Nothing W q K = step_nothing W q K
   step (Moves m) W q K = step_move m W q K
 
 pub left_end : {codes : List ℕ} {ts₀ : List ℤ} {all : List Posting} {ts : List ℤ} {t : Told} → Left codes ts₀ all ts t [] → Booked codes ts₀ all t ts
@@ -177,40 +177,40 @@ left_end {codes} {ts₀} {all} {ts} {t} W = record {
   sheet = λ e f. sym (W.sheet (u ∙ ap not e) (sym (W.beyond (u ∙ ap not e) ∙ or-false t.beyond) ∙ f));
 }
   where
-    u : t.unlisted ≡ not (allListed codes all)
+    u : t.unlisted ≡ not (all_are_listed codes all)
     u = sym (W.unlisted ∙ or-false t.unlisted)
 
 -- ---- .. of a file's body
-abbrev pub postingsFrom : ℕ → List ℕ → List Posting
-postingsFrom n s = map postingOf (slipsFrom n s)
+abbrev pub postings_from : ℕ → List ℕ → List Posting
+postings_from n s = map posting_of (slips_from n s)
 
 pub record Walk (codes : List ℕ) (ts₀ : List ℤ) (s : List ℕ) (ts : List ℤ) (t : Told) (at : ℕ) : Type 0 where
   pub to : at ≤ length s
   pub headed : at < length s → Headed s at
-  pub left : Left codes ts₀ (postingsFrom 1 s) ts t (postingsFrom 1 (drop at s))
+  pub left : Left codes ts₀ (postings_from 1 s) ts t (postings_from 1 (drop at s))
 
-nothing_left : (s : List ℕ) (at : ℕ) → length s ≤ at → postingsFrom 1 (drop at s) ≡ []
+nothing_left : (s : List ℕ) (at : ℕ) → length s ≤ at → postings_from 1 (drop at s) ≡ []
 unfolding rows_from lines
-nothing_left s at h = ap (postingsFrom 1) (drop_of_length-le s h)
+nothing_left s at h = ap (postings_from 1) (drop_of_length-le s h)
 
 module _ {codes : List ℕ} {s : List ℕ} where
   pub walk_start : {ts : List ℤ} {at : ℕ} → IsFirst s 0 at → Walk codes ts s ts (record { unlisted = false; beyond = false }) at
   walk_start {ts} B = record {
     to = B.within;
     headed = B.headed;
-    left = subst (λ (l : List Posting). Left codes ts (postingsFrom 1 s) ts (record { unlisted = false; beyond = false }) l) (ap (map postingOf) (B.after 1)) (start ts (postingsFrom 1 s));
+    left = subst (λ (l : List Posting). Left codes ts (postings_from 1 s) ts (record { unlisted = false; beyond = false }) l) (ap (map posting_of) (B.after 1)) (start ts (postings_from 1 s));
   }
     where
       start : (ts : List ℤ) (all : List Posting) → Left codes ts all ts (record { unlisted = false; beyond = false }) all
       start ts all = record { unlisted = refl; beyond = λ e. refl; sheet = λ e f. refl }
 
   module _ {ts₀ ts : List ℤ} {t : Told} {at : ℕ} (W : Walk codes ts₀ s ts t at) where
-    pub walk-on : {x : Next} → IsSlip s at x → {t' : Told} {ts' : List ℤ} {p : Posting} → p ≡ postingOf x.slip → t' ≡ toldBy codes t ts p → KeptBy codes ts p t' ts' → Walk codes ts₀ s ts' t' x.next
-    walk-on {x} X {t'} {ts'} {p} e q K = record {
+    pub walk_on : {x : Next} → IsSlip s at x → {t' : Told} {ts' : List ℤ} {p : Posting} → p ≡ posting_of x.slip → t' ≡ told_by codes t ts p → KeptBy codes ts p t' ts' → Walk codes ts₀ s ts' t' x.next
+    walk_on {x} X {t'} {ts'} {p} e q K = record {
       to = X.within;
       headed = X.headed;
-      left = step p (subst (λ (l : List Posting). Left codes ts₀ (postingsFrom 1 s) ts t l) (ap (map postingOf) (X.cut 1) ∙ ap (λ (p : Posting). p ∷ postingsFrom 1 (drop x.next s)) (sym e)) W.left) q K;
+      left = step p (subst (λ (l : List Posting). Left codes ts₀ (postings_from 1 s) ts t l) (ap (map posting_of) (X.cut 1) ∙ ap (λ (p : Posting). p ∷ postings_from 1 (drop x.next s)) (sym e)) W.left) q K;
     }
 
-    pub walk_end : length s ≤ at → Booked codes ts₀ (postingsFrom 1 s) t ts
-    walk_end h = left_end (subst (λ (l : List Posting). Left codes ts₀ (postingsFrom 1 s) ts t l) (nothing_left s at h) W.left)
+    pub walk_end : length s ≤ at → Booked codes ts₀ (postings_from 1 s) t ts
+    walk_end h = left_end (subst (λ (l : List Posting). Left codes ts₀ (postings_from 1 s) ts t l) (nothing_left s at h) W.left)

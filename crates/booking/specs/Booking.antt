@@ -5,7 +5,7 @@ use Rattle.turnovers.specs.declared.Move.{Move}
 use Rattle.turnovers.specs.declared.Posting.{Posting}
 use Rattle.turnovers.specs.declared.Posting.TheVariants.{Moves, Nothing}
 use Rattle.booking.specs.declared.Told.{Told}
-use Rattle.booking.specs.Sheet.{isListed, goesBeyond, moved, allListed, somePasses, after}
+use Rattle.booking.specs.Sheet.{is_listed, goes_beyond, moved, all_are_listed, some_passes, after}
 
 -- two turnovers of different sides, and an amount of fifteen digits at most
 pub record Sound (m : Move) : Type 0 where
@@ -22,27 +22,27 @@ module _ (codes : List ℕ) where
   -- what is found with a movement more
   unfoldable pub told : Told → List ℤ → Move → Told
   told t ts m =
-      cond (isListed codes m)
-      (record { unlisted = t.unlisted; beyond = cond t.beyond true (goesBeyond codes ts m) })
+      cond (is_listed codes m)
+      (record { unlisted = t.unlisted; beyond = cond t.beyond true (goes_beyond codes ts m) })
       (record { unlisted = true; beyond = t.beyond })
 
-  abbrev pub toldBy : Told → List ℤ → Posting → Told
-  toldBy t ts (Moves m) = told t ts m
-  toldBy t ts Nothing = t
+  abbrev pub told_by : Told → List ℤ → Posting → Told
+  told_by t ts (Moves m) = told t ts m
+  told_by t ts Nothing = t
 
-  abbrev pub sheetBy : List ℤ → Posting → List ℤ
-  sheetBy ts (Moves m) = moved codes ts m
-  sheetBy ts Nothing = ts
+  abbrev pub sheet_by : List ℤ → Posting → List ℤ
+  sheet_by ts (Moves m) = moved codes ts m
+  sheet_by ts Nothing = ts
 
   -- the sheet after, where nothing is found
   abbrev pub Kept : List ℤ → Move → Told → List ℤ → Type 0
   Kept ts m r ts' = r.unlisted ≡ false → r.beyond ≡ false → ts' ≡ moved codes ts m
 
   abbrev pub KeptBy : List ℤ → Posting → Told → List ℤ → Type 0
-  KeptBy ts p r ts' = r.unlisted ≡ false → r.beyond ≡ false → ts' ≡ sheetBy ts p
+  KeptBy ts p r ts' = r.unlisted ≡ false → r.beyond ≡ false → ts' ≡ sheet_by ts p
 
   -- what a walk over all of a file's postings finds, and the sheet after, where nothing is found
   pub record Booked (ts : List ℤ) (ps : List Posting) (r : Told) (ts' : List ℤ) : Type 0 where
-    pub unlisted : r.unlisted ≡ not (allListed codes ps)
-    pub beyond : allListed codes ps ≡ true → r.beyond ≡ somePasses codes ts ps
-    pub sheet : allListed codes ps ≡ true → somePasses codes ts ps ≡ false → ts' ≡ after codes ts ps
+    pub unlisted : r.unlisted ≡ not (all_are_listed codes ps)
+    pub beyond : all_are_listed codes ps ≡ true → r.beyond ≡ some_passes codes ts ps
+    pub sheet : all_are_listed codes ps ≡ true → some_passes codes ts ps ≡ false → ts' ≡ after codes ts ps

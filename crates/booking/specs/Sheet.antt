@@ -2,13 +2,13 @@
 use Rattle.std.specs.Prelude.{ℕ, zero, suc, ◌+◌, ◌*◌, Bool, true, false, ◌&&◌, ◌||◌, List, [], ◌∷◌, get_or, replicate, ℤ, pos, ◌+ℤ◌}
 use Rattle.laws.specs.Tests.{among}
 use Rattle.fields.specs.Kinds.{place}
-use Rattle.sums.specs.Sums.{signed, beyond, plusAt}
+use Rattle.sums.specs.Sums.{signed, beyond, plus_at}
 use Rattle.turnovers.specs.declared.Move.{Move}
 use Rattle.turnovers.specs.declared.Posting.{Posting}
 use Rattle.turnovers.specs.declared.Posting.TheVariants.{Moves, Nothing}
 
-abbrev pub newSheet : List ℤ
-newSheet = replicate 256 (pos 0)
+abbrev pub new_sheet : List ℤ
+new_sheet = replicate 256 (pos 0)
 
 -- the turnovers of one side of the first n places together
 abbrev pub together : ℕ → ℕ → List ℤ → ℤ
@@ -20,32 +20,32 @@ module _ (codes : List ℕ) where
   abbrev pub cell : ℕ → ℕ → ℕ
   cell code side = 4 * place code codes + side
 
-  abbrev pub isListed : Move → Bool
-  isListed m = among m.payer.0 codes && among m.other.0 codes
+  abbrev pub is_listed : Move → Bool
+  is_listed m = among m.payer.0 codes && among m.other.0 codes
 
   -- the sheet after a movement
   abbrev pub moved : List ℤ → Move → List ℤ
   moved ts m =
-      plusAt (plusAt ts (cell m.payer.0 m.from) (signed m.minus m.amount))
+      plus_at (plus_at ts (cell m.payer.0 m.from) (signed m.minus m.amount))
       (cell m.other.0 m.to) (signed m.minus m.amount)
 
   -- the payer's turnover or the other's would pass the limit; they are never the same turnover, since one is a debit and one a credit
-  abbrev pub goesBeyond : List ℤ → Move → Bool
-  goesBeyond ts m =
+  abbrev pub goes_beyond : List ℤ → Move → Bool
+  goes_beyond ts m =
       beyond (get_or ts (cell m.payer.0 m.from) (pos 0) +ℤ signed m.minus m.amount)
       || beyond (get_or ts (cell m.other.0 m.to) (pos 0) +ℤ signed m.minus m.amount)
 
   -- payer and beneficiary of every posted item are listed
-  abbrev pub allListed : List Posting → Bool
-  allListed [] = true
-  allListed (Nothing ∷ ps) = allListed ps
-  allListed (Moves m ∷ ps) = isListed m && allListed ps
+  abbrev pub all_are_listed : List Posting → Bool
+  all_are_listed [] = true
+  all_are_listed (Nothing ∷ ps) = all_are_listed ps
+  all_are_listed (Moves m ∷ ps) = is_listed m && all_are_listed ps
 
   -- a turnover passes the limit after some item
-  abbrev pub somePasses : List ℤ → List Posting → Bool
-  somePasses ts [] = false
-  somePasses ts (Nothing ∷ ps) = somePasses ts ps
-  somePasses ts (Moves m ∷ ps) = goesBeyond ts m || somePasses (moved ts m) ps
+  abbrev pub some_passes : List ℤ → List Posting → Bool
+  some_passes ts [] = false
+  some_passes ts (Nothing ∷ ps) = some_passes ts ps
+  some_passes ts (Moves m ∷ ps) = goes_beyond ts m || some_passes (moved ts m) ps
 
   -- the sheet after all
   abbrev pub after : List ℤ → List Posting → List ℤ

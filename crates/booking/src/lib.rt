@@ -3,10 +3,10 @@
 // specs/: Sheet.antt is the four turnovers of each participant, Booking.antt what a walk finds. Stands on `item_reader` for the items,
 // `turnovers` for what each posts, `participants` for places in the list, and `sums`.
 ghost use Rattle.std.specs.Prelude.{◌≡◌, false, map, ◌≤◌, length};
-ghost use Rattle.item_reader.specs.Slips.{slipsFrom};
-ghost use Rattle.turnovers.specs.Scheme.{postingOf};
+ghost use Rattle.item_reader.specs.Slips.{slips_from};
+ghost use Rattle.turnovers.specs.Scheme.{posting_of};
 ghost use Rattle.participants.specs.Firsts.{Firsts};
-ghost use Rattle.booking.specs.Booking.{Sound, SoundAt, told, toldBy, Kept, KeptBy, Booked};
+ghost use Rattle.booking.specs.Booking.{Sound, SoundAt, told, told_by, Kept, KeptBy, Booked};
 
 use turnovers::{Move, Posting, movement};
 
@@ -50,7 +50,7 @@ fn book_move(codes: &[u32], firsts: &[u8; 1024], ts: &mut [i64; 256], t: Told, m
 // What an item posts.
 fn book(codes: &[u32], firsts: &[u8; 1024], ts: &mut [i64; 256], t: Told, p: Posting) -> Told
     requires { (length codes.now ≤ 64) × Firsts codes.now firsts.now × SoundAt p }
-    ensures value { result ≡ toldBy codes.now t ts.old p }
+    ensures value { result ≡ told_by codes.now t ts.old p }
     ensures kept_by { KeptBy codes.now ts.old p result ts.new }
 {
     match p {
@@ -62,7 +62,7 @@ fn book(codes: &[u32], firsts: &[u8; 1024], ts: &mut [i64; 256], t: Told, p: Pos
 // All items of a body, with the table of the list.
 fn book_all(codes: &[u32], firsts: &[u8; 1024], ts: &mut [i64; 256], s: &[u8]) -> Told
     requires { (length codes.now ≤ 64) × Firsts codes.now firsts.now }
-    ensures { Booked codes.now ts.old (map postingOf (slipsFrom 1 s.now)) result ts.new }
+    ensures { Booked codes.now ts.old (map posting_of (slips_from 1 s.now)) result ts.new }
 {
     let mut t = Told {
         unlisted: false,
@@ -81,7 +81,7 @@ fn book_all(codes: &[u32], firsts: &[u8; 1024], ts: &mut [i64; 256], s: &[u8]) -
 // All items of a body.
 pub fn book_items(codes: &[u32], ts: &mut [i64; 256], s: &[u8]) -> Told
     requires { length codes.now ≤ 64 }
-    ensures { Booked codes.now ts.old (map postingOf (slipsFrom 1 s.now)) result ts.new }
+    ensures { Booked codes.now ts.old (map posting_of (slips_from 1 s.now)) result ts.new }
 {
     let firsts = participants::firsts_of(codes);
     book_all(codes, &firsts, ts, s)

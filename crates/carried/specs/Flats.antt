@@ -21,60 +21,60 @@ flat t x m n = record { tag = t; amount = x; a = m; b = n }
 abbrev pub one : Bool → ℕ
 one b = cond b 1 0
 
-abbrev pub isOn : ℕ → Bool
-isOn n = not (eqb n 0)
+abbrev pub is_on : ℕ → Bool
+is_on n = not (eqb n 0)
 
 -- ---- what the number of an account is
 
-abbrev pub numberNo : Number → ℕ
-numberNo Good = 0
-numberNo Failing = 1
-numberNo Zero = 2
+abbrev pub number_no : Number → ℕ
+number_no Good = 0
+number_no Failing = 1
+number_no Zero = 2
 
-abbrev pub numberFrom : ℕ → Number
-numberFrom n = cond (eqb n 1) Failing (cond (eqb n 2) Zero Good)
+abbrev pub number_from : ℕ → Number
+number_from n = cond (eqb n 1) Failing (cond (eqb n 2) Zero Good)
 
 -- ---- what a field says
 
-abbrev pub flatReading : Reading → Flat
-flatReading Broken = flat 0 0 0 0
-flatReading Plain = flat 1 0 0 0
-flatReading (Paid x d) = flat 2 x.0 d 0
-flatReading (Span m n) = flat 3 0 m.0 n.0
-flatReading (Stated n x) = flat 4 x.0 n 0
-flatReading (Party h) = flat 5 0 (one h.prefix) (numberNo h.number)
+abbrev pub flat_reading : Reading → Flat
+flat_reading Broken = flat 0 0 0 0
+flat_reading Plain = flat 1 0 0 0
+flat_reading (Paid x d) = flat 2 x.0 d 0
+flat_reading (Span m n) = flat 3 0 m.0 n.0
+flat_reading (Stated n x) = flat 4 x.0 n 0
+flat_reading (Party h) = flat 5 0 (one h.prefix) (number_no h.number)
 
-abbrev pub readingFrom : Flat → Reading
-readingFrom f =
+abbrev pub reading_from : Flat → Reading
+reading_from f =
     cond (eqb f.tag 1) Plain
     (cond (eqb f.tag 2) (Paid (record { 0 = f.amount }) f.a)
     (cond (eqb f.tag 3) (Span (record { 0 = f.a }) (record { 0 = f.b }))
     (cond (eqb f.tag 4) (Stated f.a (record { 0 = f.amount }))
-    (cond (eqb f.tag 5) (Party (record { prefix = isOn f.a; number = numberFrom f.b }))
+    (cond (eqb f.tag 5) (Party (record { prefix = is_on f.a; number = number_from f.b }))
     Broken))))
 
 -- ---- the first KC, IN and Sd of an item
 
-abbrev pub flatKc : FirstKc → Flat
-flatKc NoKc = flat 0 0 0 0
-flatKc BrokenKc = flat 1 0 0 0
-flatKc (Pays x d) = flat 2 x.0 d 0
+abbrev pub flat_kc : FirstKc → Flat
+flat_kc NoKc = flat 0 0 0 0
+flat_kc BrokenKc = flat 1 0 0 0
+flat_kc (Pays x d) = flat 2 x.0 d 0
 
-abbrev pub kcFrom : Flat → FirstKc
-kcFrom f = cond (eqb f.tag 1) BrokenKc (cond (eqb f.tag 2) (Pays (record { 0 = f.amount }) f.a) NoKc)
+abbrev pub kc_from : Flat → FirstKc
+kc_from f = cond (eqb f.tag 1) BrokenKc (cond (eqb f.tag 2) (Pays (record { 0 = f.amount }) f.a) NoKc)
 
-abbrev pub flatIn : FirstIn → Flat
-flatIn NoIn = flat 0 0 0 0
-flatIn BrokenIn = flat 1 0 0 0
-flatIn (Runs m n) = flat 2 0 m.0 n.0
+abbrev pub flat_in : FirstIn → Flat
+flat_in NoIn = flat 0 0 0 0
+flat_in BrokenIn = flat 1 0 0 0
+flat_in (Runs m n) = flat 2 0 m.0 n.0
 
-abbrev pub inFrom : Flat → FirstIn
-inFrom f = cond (eqb f.tag 1) BrokenIn (cond (eqb f.tag 2) (Runs (record { 0 = f.a }) (record { 0 = f.b })) NoIn)
+abbrev pub in_from : Flat → FirstIn
+in_from f = cond (eqb f.tag 1) BrokenIn (cond (eqb f.tag 2) (Runs (record { 0 = f.a }) (record { 0 = f.b })) NoIn)
 
-abbrev pub flatSum : FirstSum → Flat
-flatSum NoSum = flat 0 0 0 0
-flatSum BrokenSum = flat 1 0 0 0
-flatSum (Says n x) = flat 2 x.0 n 0
+abbrev pub flat_sum : FirstSum → Flat
+flat_sum NoSum = flat 0 0 0 0
+flat_sum BrokenSum = flat 1 0 0 0
+flat_sum (Says n x) = flat 2 x.0 n 0
 
-abbrev pub sumFrom : Flat → FirstSum
-sumFrom f = cond (eqb f.tag 1) BrokenSum (cond (eqb f.tag 2) (Says f.a (record { 0 = f.amount })) NoSum)
+abbrev pub sum_from : Flat → FirstSum
+sum_from f = cond (eqb f.tag 1) BrokenSum (cond (eqb f.tag 2) (Says f.a (record { 0 = f.amount })) NoSum)

@@ -1,6 +1,6 @@
 // The enums that the pass holds, as plain numbers and back. Any numbers can be read: a variant that is not known reads as the first.
 ghost use Rattle.std.specs.Prelude.{◌≡◌};
-ghost use Rattle.carried.specs.Flats.{one, numberNo, numberFrom, flatReading, readingFrom, flatKc, kcFrom, flatIn, inFrom, flatSum, sumFrom};
+ghost use Rattle.carried.specs.Flats.{one, number_no, number_from, flat_reading, reading_from, flat_kc, kc_from, flat_in, in_from, flat_sum, sum_from};
 
 use fields::readings::Reading;
 use figures::parts::{Halves, Number};
@@ -23,7 +23,7 @@ fn one(b: bool) -> u32
 }
 
 fn number_no(n: Number) -> u32
-    ensures { result ≡ numberNo n }
+    ensures { result ≡ number_no n }
 {
     match n {
         Number::Good => 0,
@@ -33,7 +33,7 @@ fn number_no(n: Number) -> u32
 }
 
 fn number_from(n: u32) -> Number
-    ensures { result ≡ numberFrom n }
+    ensures { result ≡ number_from n }
 {
     match n {
         1 => Number::Failing,
@@ -43,7 +43,7 @@ fn number_from(n: u32) -> Number
 }
 
 pub fn flat_reading(said: Reading) -> Flat
-    ensures { result ≡ flatReading said }
+    ensures { result ≡ flat_reading said }
 {
     match said {
         Reading::Broken => Flat {
@@ -91,7 +91,7 @@ pub fn flat_reading(said: Reading) -> Flat
 }
 
 pub fn reading_from(f: Flat) -> Reading
-    ensures { result ≡ readingFrom f }
+    ensures { result ≡ reading_from f }
 {
     let tag = f.tag;
     match tag {
@@ -112,7 +112,7 @@ pub fn reading_from(f: Flat) -> Reading
 }
 
 pub fn flat_kc(kc: FirstKc) -> Flat
-    ensures { result ≡ flatKc kc }
+    ensures { result ≡ flat_kc kc }
 {
     match kc {
         FirstKc::NoKc => Flat {
@@ -137,7 +137,7 @@ pub fn flat_kc(kc: FirstKc) -> Flat
 }
 
 pub fn kc_from(f: Flat) -> FirstKc
-    ensures { result ≡ kcFrom f }
+    ensures { result ≡ kc_from f }
 {
     let tag = f.tag;
     match tag {
@@ -148,7 +148,7 @@ pub fn kc_from(f: Flat) -> FirstKc
 }
 
 pub fn flat_in(span: FirstIn) -> Flat
-    ensures { result ≡ flatIn span }
+    ensures { result ≡ flat_in span }
 {
     match span {
         FirstIn::NoIn => Flat {
@@ -173,7 +173,7 @@ pub fn flat_in(span: FirstIn) -> Flat
 }
 
 pub fn in_from(f: Flat) -> FirstIn
-    ensures { result ≡ inFrom f }
+    ensures { result ≡ in_from f }
 {
     let tag = f.tag;
     match tag {
@@ -184,7 +184,7 @@ pub fn in_from(f: Flat) -> FirstIn
 }
 
 pub fn flat_sum(sum: FirstSum) -> Flat
-    ensures { result ≡ flatSum sum }
+    ensures { result ≡ flat_sum sum }
 {
     match sum {
         FirstSum::NoSum => Flat {
@@ -209,7 +209,7 @@ pub fn flat_sum(sum: FirstSum) -> Flat
 }
 
 pub fn sum_from(f: Flat) -> FirstSum
-    ensures { result ≡ sumFrom f }
+    ensures { result ≡ sum_from f }
 {
     let tag = f.tag;
     match tag {

@@ -11,7 +11,7 @@
 // In `small` stands of each enum which variant it is, and of a bool 0 or 1. Promised: what `words_of` gives of a pass reads back as that
 // pass, whatever it is; and `pass_of` reads any numbers. Stands on the crates whose values these are; it judges nothing.
 ghost use Rattle.std.specs.Prelude.{◌≡◌, ◌<◌, length};
-ghost use Rattle.carried.specs.Words.{flat_at, flatsOf, wide_of, narrowOf, smallOf, words_of, ledgerIn, fieldIn, saidIn, pendIn, headingIn, kcIn, spanIn, groupAt, groupIn, statedIn, blockIn, waitIn, startsIn, passOf};
+ghost use Rattle.carried.specs.Words.{flat_at, flats_of, wide_of, narrow_of, small_of, words_of, ledger_in, field_in, said_in, pend_in, heading_in, kc_in, span_in, group_at, group_in, stated_in, block_in, wait_in, starts_in, pass_of};
 
 use blocks::Block;
 use closing::Wait;
@@ -45,7 +45,7 @@ fn flat_at(groups: [Sum; 10], i: usize) -> Flat
 
 // What an item says of S0 to S9.
 fn flats_of(groups: [Sum; 10]) -> [Flat; 10]
-    ensures { (result ≡ flatsOf groups) × (length groups ≡ 10) }
+    ensures { (result ≡ flats_of groups) × (length groups ≡ 10) }
 {
     let s0 = flat_at(groups, 0);
     let s1 = flat_at(groups, 1);
@@ -113,7 +113,7 @@ fn wide_of(
 }
 
 fn narrow_of(p: Pass, said: Flat, kc: Flat, span: Flat, s: [Flat; 10]) -> [u32; 33]
-    ensures { result ≡ narrowOf p said kc span s }
+    ensures { result ≡ narrow_of p said kc span s }
 {
     let field = p.field;
     let h = p.heading;
@@ -157,7 +157,7 @@ fn narrow_of(p: Pass, said: Flat, kc: Flat, span: Flat, s: [Flat; 10]) -> [u32; 
 }
 
 fn small_of(p: Pass, said: Flat, kc: Flat, span: Flat, s: [Flat; 10]) -> [u8; 19]
-    ensures { result ≡ smallOf p said kc span s }
+    ensures { result ≡ small_of p said kc span s }
 {
     let block = p.block;
     [
@@ -186,7 +186,7 @@ fn small_of(p: Pass, said: Flat, kc: Flat, span: Flat, s: [Flat; 10]) -> [u8; 19
 // What the pass holds, as numbers.
 pub fn words_of(p: Pass) -> Words
     ensures value { result ≡ words_of p }
-    ensures result_value { passOf result ≡ p }
+    ensures result_value { pass_of result ≡ p }
 {
     let pend = p.pend;
     let told = pend.said;
@@ -214,7 +214,7 @@ pub fn words_of(p: Pass) -> Words
 // ---- read back
 
 fn ledger_in(w: Words) -> Ledger
-    ensures { result ≡ ledgerIn w }
+    ensures { result ≡ ledger_in w }
 {
     Ledger {
         kept: w.wide[0] as usize,
@@ -223,7 +223,7 @@ fn ledger_in(w: Words) -> Ledger
 }
 
 fn field_in(w: Words) -> Open
-    ensures { result ≡ fieldIn w }
+    ensures { result ≡ field_in w }
 {
     Open {
         no: w.narrow[0],
@@ -234,7 +234,7 @@ fn field_in(w: Words) -> Open
 }
 
 fn said_in(w: Words) -> Flat
-    ensures { result ≡ saidIn w }
+    ensures { result ≡ said_in w }
 {
     Flat {
         tag: w.small[1],
@@ -245,7 +245,7 @@ fn said_in(w: Words) -> Flat
 }
 
 fn pend_in(w: Words) -> Pend
-    ensures { result ≡ pendIn w }
+    ensures { result ≡ pend_in w }
 {
     let ident = w.wide[3] as usize;
     let flat = said_in(w);
@@ -254,7 +254,7 @@ fn pend_in(w: Words) -> Pend
 }
 
 fn heading_in(w: Words) -> Heading
-    ensures { result ≡ headingIn w }
+    ensures { result ≡ heading_in w }
 {
     Heading {
         kind: w.narrow[5],
@@ -268,7 +268,7 @@ fn heading_in(w: Words) -> Heading
 }
 
 fn kc_in(w: Words) -> FirstKc
-    ensures { result ≡ kcIn w }
+    ensures { result ≡ kc_in w }
 {
     let flat = Flat {
         tag: w.small[3],
@@ -280,7 +280,7 @@ fn kc_in(w: Words) -> FirstKc
 }
 
 fn span_in(w: Words) -> FirstIn
-    ensures { result ≡ spanIn w }
+    ensures { result ≡ span_in w }
 {
     let flat = Flat {
         tag: w.small[4],
@@ -293,7 +293,7 @@ fn span_in(w: Words) -> FirstIn
 
 fn group_at(w: Words, i: usize) -> Flat
     requires { i < 10 }
-    ensures { result ≡ groupAt w i }
+    ensures { result ≡ group_at w i }
 {
     let in_wide = 28 + i;
     let in_narrow = 23 + i;
@@ -308,7 +308,7 @@ fn group_at(w: Words, i: usize) -> Flat
 
 fn group_in(w: Words, i: usize) -> Sum
     requires { i < 10 }
-    ensures { result ≡ groupIn w i }
+    ensures { result ≡ group_in w i }
 {
     let flat = group_at(w, i);
     let stated = flats::sum_from(flat);
@@ -316,7 +316,7 @@ fn group_in(w: Words, i: usize) -> Sum
 }
 
 fn stated_in(w: Words) -> Sums
-    ensures { result ≡ statedIn w }
+    ensures { result ≡ stated_in w }
 {
     let s0 = group_in(w, 0);
     let s1 = group_in(w, 1);
@@ -333,7 +333,7 @@ fn stated_in(w: Words) -> Sums
 }
 
 fn block_in(w: Words) -> Block
-    ensures { result ≡ blockIn w }
+    ensures { result ≡ block_in w }
 {
     let counts = [
         w.wide[8], w.wide[9], w.wide[10], w.wide[11], w.wide[12], w.wide[13], w.wide[14],
@@ -357,7 +357,7 @@ fn block_in(w: Words) -> Block
 }
 
 fn wait_in(w: Words) -> Wait
-    ensures { result ≡ waitIn w }
+    ensures { result ≡ wait_in w }
 {
     Wait {
         line: w.narrow[18],
@@ -366,7 +366,7 @@ fn wait_in(w: Words) -> Wait
 }
 
 fn starts_in(w: Words) -> Starts
-    ensures { result ≡ startsIn w }
+    ensures { result ≡ starts_in w }
 {
     Starts {
         field: w.narrow[19],
@@ -377,7 +377,7 @@ fn starts_in(w: Words) -> Starts
 
 // What the pass held, from its numbers.
 pub fn pass_of(w: Words) -> Pass
-    ensures { result ≡ passOf w }
+    ensures { result ≡ pass_of w }
 {
     let since = w.narrow[4];
     let top = w.wide[5];

@@ -5,11 +5,11 @@ use Rattle.std.specs.Prelude.{ℕ, Bool, not, ◌&&◌, List, [], ◌∷◌, ◌
 use Prim.Native.String.{String, ◌++◌ as ◌++ˢ◌}
 use Rattle.laws.specs.Ascii.{ascii}
 use Rattle.laws.specs.Refusals.{first}
-use Rattle.text.specs.Characters.{isAdmissible}
+use Rattle.text.specs.Characters.{is_admissible}
 use Rattle.text.specs.Strings.{begins}
-use Rattle.days.specs.Days.{isReal}
-use Rattle.outcomes.specs.Deriving.{tellRefusals, outgoingKind, recipient, deriveRefusals, derivedTarget}
-use Rattle.figures.specs.Accounts.{weighed, accountOf, prefixValue, numberValue}
+use Rattle.days.specs.Days.{is_real}
+use Rattle.outcomes.specs.Deriving.{tell_refusals, outgoing_kind, recipient, derive_refusals, derived_target}
+use Rattle.figures.specs.Accounts.{weighed, account_of, prefix_value, number_value}
 use Rattle.rules.specs.Terms.{input}
 use Rattle.rules.specs.Faults.{Fault, fault, faults}
 
@@ -37,11 +37,11 @@ same xs ys = begins xs ys && eqb (length xs) (length ys)
 abbrev pub line_of : Fault → ℕ
 line_of f = f.line
 
-abbrev pub ruleOf : Fault → ℕ
-ruleOf f = f.rule
+abbrev pub rule_of : Fault → ℕ
+rule_of f = f.rule
 
-abbrev pub sameFaults : List Fault → List Fault → Bool
-sameFaults xs ys = same (map line_of xs) (map line_of ys) && same (map ruleOf xs) (map ruleOf ys)
+abbrev pub same_faults : List Fault → List Fault → Bool
+same_faults xs ys = same (map line_of xs) (map line_of ys) && same (map rule_of xs) (map rule_of ys)
 
 -- the bytes of a file: CR LF after each line, then 1A
 abbrev pub bytes_of : List String → List ℕ
@@ -54,19 +54,19 @@ blank = replicate 54 0
 
 -- the open check's answers are asked for over a 9, so that a refusal is none of them
 abbrev pub holds : Case → Bool
-holds (admissible b) = isAdmissible b
-holds (inadmissible b) = not (isAdmissible b)
+holds (admissible b) = is_admissible b
+holds (inadmissible b) = not (is_admissible b)
 holds (weighs part sum) = eqb (weighed (ascii part)) sum
 holds (account prefix number first second) =
-    eqb (prefixValue (accountOf (ascii prefix) (ascii number)) 9) first && eqb (numberValue (accountOf (ascii prefix) (ascii number)) 9) second
-holds (unreal day) = not (isReal day)
-holds (faulty code today file fs) = sameFaults (faults (input code today) (bytes_of file)) fs
-holds (derives text outcome standing number out) = same (derivedTarget (ascii text) outcome standing (record { 0 = number }) blank) (ascii out)
-holds (refuses text outcome standing number k) = eqb (first (deriveRefusals (ascii text) outcome standing (record { 0 = number }) (length blank))) k
+    eqb (prefix_value (account_of (ascii prefix) (ascii number)) 9) first && eqb (number_value (account_of (ascii prefix) (ascii number)) 9) second
+holds (unreal day) = not (is_real day)
+holds (faulty code today file fs) = same_faults (faults (input code today) (bytes_of file)) fs
+holds (derives text outcome standing number out) = same (derived_target (ascii text) outcome standing (record { 0 = number }) blank) (ascii out)
+holds (refuses text outcome standing number k) = eqb (first (derive_refusals (ascii text) outcome standing (record { 0 = number }) (length blank))) k
 holds (tells text outcome standing kind code) =
-    eqb (first (tellRefusals (ascii text) outcome standing)) 0
-    && (eqb (outgoingKind (ascii text) outcome) kind && eqb (recipient (ascii text) outcome) code)
-holds (untold text outcome standing k) = eqb (first (tellRefusals (ascii text) outcome standing)) k
+    eqb (first (tell_refusals (ascii text) outcome standing)) 0
+    && (eqb (outgoing_kind (ascii text) outcome) kind && eqb (recipient (ascii text) outcome) code)
+holds (untold text outcome standing k) = eqb (first (tell_refusals (ascii text) outcome standing)) k
 
 -- a heading day, an amount and its day: a 32 and the 51 that closes its block
 abbrev pub block : String → String → String → List String
@@ -93,11 +93,11 @@ eleven = "HD:11 20240304 0000300 0000017 0000710 0000000 0000000"
 abbrev pub twelve : String
 twelve = "HD:12 20240304 0000300 0000017 0000710 0000000 0000000"
 
-abbrev pub thirtyFive : String
-thirtyFive = "HD:35 20240304 0000990 0000001 0000300 0000000 0000710"
+abbrev pub thirty_five : String
+thirty_five = "HD:35 20240304 0000990 0000001 0000300 0000000 0000710"
 
-abbrev pub fortyFive : String
-fortyFive = "HD:45 20240304 0000990 0000001 0000300 0000000 0000710"
+abbrev pub forty_five : String
+forty_five = "HD:45 20240304 0000990 0000001 0000300 0000000 0000710"
 
 abbrev pub marked : List Case
 marked =
@@ -119,13 +119,13 @@ marked =
     faulty 300 20240304 (block "20240304" "100000000001" "20240304") (fault 2 9 ∷ []) ∷
     -- the two headings, and outcome 5 for the second; the first is a direct sender's, the second either's
     derives twelve 6 1 42 "HD:62 20240304 0000300 0000017 0000300 0000042 0000710" ∷
-    derives thirtyFive 1 1 7 "HD:16 20240304 0000990 0000001 0000710 0000007 0000300" ∷
-    derives thirtyFive 1 2 7 "HD:16 20240304 0000990 0000001 0000710 0000007 0000300" ∷
-    refuses thirtyFive 5 1 7 14 ∷
-    refuses thirtyFive 5 2 7 14 ∷
+    derives thirty_five 1 1 7 "HD:16 20240304 0000990 0000001 0000710 0000007 0000300" ∷
+    derives thirty_five 1 2 7 "HD:16 20240304 0000990 0000001 0000710 0000007 0000300" ∷
+    refuses thirty_five 5 1 7 14 ∷
+    refuses thirty_five 5 2 7 14 ∷
     -- A12: told before a number is spent
     tells twelve 6 1 62 300 ∷
-    tells thirtyFive 1 2 16 710 ∷
+    tells thirty_five 1 2 16 710 ∷
     -- 'A third party may send only 35, 37 and 45; its other headings are refused with 12', also before 13
     untold twelve 6 2 12 ∷
     refuses twelve 6 2 42 12 ∷
@@ -135,14 +135,14 @@ marked =
     untold eleven 1 3 13 ∷
     refuses eleven 2 3 0 13 ∷
     -- 'For a direct sender of a 45, outcomes 5 and 6 are refused with 14', also before 15
-    tells fortyFive 4 1 65 300 ∷
-    untold fortyFive 5 1 14 ∷
-    untold fortyFive 6 1 14 ∷
-    refuses fortyFive 5 1 0 14 ∷
-    tells fortyFive 5 2 05 990 ∷
-    tells fortyFive 6 2 69 990 ∷
-    tells fortyFive 7 1 75 990 ∷
-    derives fortyFive 5 2 5000001 "HD:05 20240304 0000300 0000001 0000990 5000001 0000710" ∷
+    tells forty_five 4 1 65 300 ∷
+    untold forty_five 5 1 14 ∷
+    untold forty_five 6 1 14 ∷
+    refuses forty_five 5 1 0 14 ∷
+    tells forty_five 5 2 05 990 ∷
+    tells forty_five 6 2 69 990 ∷
+    tells forty_five 7 1 75 990 ∷
+    derives forty_five 5 2 5000001 "HD:05 20240304 0000300 0000001 0000990 5000001 0000710" ∷
     -- A13's exception is real: an 01 and a 21 returned as 61 under one number
     derives "HD:01 20240304 0000300 0000017 0000710 0000000 0000000" 6 1 5000001 "HD:61 20240304 0000300 0000017 0000300 5000001 0000710" ∷
     derives "HD:21 20240304 0000300 0000017 0000710 0000000 0000000" 6 1 5000001 "HD:61 20240304 0000300 0000017 0000300 5000001 0000710" ∷

@@ -5,7 +5,7 @@ use Prim.Native.String.{String, ◌++◌ as ◌++ˢ◌}
 use Rattle.laws.specs.Ascii.{ascii}
 use Rattle.laws.specs.Refusals.{first}
 use Rattle.outgoing_lines.specs.Outgoing.{Orders}
-use Rattle.delivery.specs.Delivery.{outputFile, deliverRefusals}
+use Rattle.delivery.specs.Delivery.{output_file, deliver_refusals}
 use Rattle.cases.specs.Cases.{same, bytes_of}
 
 -- the bytes of a slice: CR LF after each line, and no mark
@@ -18,15 +18,15 @@ abbrev orders : List ℕ → List ℕ → ℕ → Orders
 orders outcomes standings start = record { outcomes = outcomes; standings = standings; start = start }
 
 abbrev writes : List String → Orders → List String → Bool
-writes items q file = same (outputFile (slice_of items) q 999 20240304) (bytes_of file)
+writes items q file = same (output_file (slice_of items) q 999 20240304) (bytes_of file)
 
 -- with so many bytes lent
-abbrev refusesBy : ℕ → List ℕ → Orders → ℕ → Bool
-refusesBy k items q room = eqb (first (deliverRefusals items q 999 20240304 room)) k
+abbrev refuses_by : ℕ → List ℕ → Orders → ℕ → Bool
+refuses_by k items q room = eqb (first (deliver_refusals items q 999 20240304 room)) k
 
 -- .. more than any of these files takes
 abbrev refuses : ℕ → List String → Orders → Bool
-refuses k items q = refusesBy k (slice_of items) q 10000
+refuses k items q = refuses_by k (slice_of items) q 10000
 
 -- an item of 300's to 710, of a type, by its number
 abbrev sent : String → String → List String → List String
@@ -43,8 +43,8 @@ two =
     "HD:35 20240304 0000990 0000009 0000820 0000000 0000300" ∷
     "KC:7 20240304" ∷ []
 
-abbrev twoOut : List String
-twoOut =
+abbrev two_out : List String
+two_out =
     "HD:62 20240304 0000300 0000017 0000300 0000042 0000710" ∷
     "KC:12500 20240304" ∷
     "EC:9999999999" ∷
@@ -62,14 +62,14 @@ both = orders (8 ∷ 1 ∷ []) (1 ∷ 2 ∷ []) 42
 
 abbrev pub deliveries : List Bool
 deliveries =
-    writes two both twoOut ∷
-    refusesBy 0 (slice_of two) both (length (bytes_of twoOut)) ∷
+    writes two both two_out ∷
+    refuses_by 0 (slice_of two) both (length (bytes_of two_out)) ∷
     -- '34, target too short'
-    refusesBy 34 (slice_of two) both (length (bytes_of twoOut) - 1) ∷
+    refuses_by 34 (slice_of two) both (length (bytes_of two_out) - 1) ∷
     -- '1' and '2' come first
-    eqb (first (deliverRefusals [] (orders [] [] 1) 0 20240230 0)) 1 ∷
-    eqb (first (deliverRefusals [] (orders [] [] 1) 10000 20240304 0)) 1 ∷
-    eqb (first (deliverRefusals [] (orders [] [] 1) 999 20240230 0)) 2 ∷
+    eqb (first (deliver_refusals [] (orders [] [] 1) 0 20240230 0)) 1 ∷
+    eqb (first (deliver_refusals [] (orders [] [] 1) 10000 20240304 0)) 1 ∷
+    eqb (first (deliver_refusals [] (orders [] [] 1) 999 20240230 0)) 2 ∷
     -- '30, no items .. or not one outcome each'; 'with a standing for each item'
     refuses 30 [] (orders [] [] 1) ∷
     refuses 30 ("ZZ:" ∷ []) (orders [] [] 1) ∷
@@ -77,7 +77,7 @@ deliveries =
     refuses 30 two (orders (8 ∷ 1 ∷ []) (1 ∷ 2 ∷ 1 ∷ []) 42) ∷
     -- '31, a line breaks a rule': the last has no CR LF; a line stands before the first heading. 12, which
     -- all these items break, bars nothing
-    refusesBy 31 (take (length (slice_of two) - 2) (slice_of two)) both 10000 ∷
+    refuses_by 31 (take (length (slice_of two) - 2) (slice_of two)) both 10000 ∷
     refuses 31 ("AV:x" ∷ two) both ∷
     -- .. or 'an item is refused by deriving', here for its number; 'its recipient .. isn't the first one's'
     refuses 31 (sent "11" "0000001" (sent "01" "0000002" [])) (orders (1 ∷ 1 ∷ []) (1 ∷ 1 ∷ []) 4999999) ∷

@@ -34,8 +34,8 @@ with more = one ++ (more ++ closed)
 abbrev under : String → List String
 under heading = heading ∷ "KC:12500 20240304" ∷ closed
 
-abbrev pub eachRule : List Case
-eachRule =
+abbrev pub each_rule : List Case
+each_rule =
     only (with ("AV:a\rb" ∷ [])) 3 1 ∷
     only (with ("of no kind" ∷ [])) 3 2 ∷
     only ("AV:above" ∷ with []) 1 3 ∷

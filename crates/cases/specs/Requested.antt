@@ -8,7 +8,7 @@ use Rattle.laws.specs.Refusals.{first}
 use Rattle.laws.specs.Tests.{every}
 use Rattle.rules.specs.Terms.{input}
 use Rattle.rules.specs.Faults.{Fault, fault}
-use Rattle.listing.specs.Checking.{checkRefusals, offsetAt}
+use Rattle.listing.specs.Checking.{check_refusals, offset_at}
 use Rattle.cases.specs.Cases.{account, faulty, refuses, untold, holds, bytes_of, example}
 use Rattle.cases.specs.EachRule.{with}
 
@@ -18,15 +18,15 @@ breaks field rules = holds (faulty 300 20240304 (with field) (map (fault 3) rule
 
 -- a file's bytes, and the number of the refusal, 0 for none
 abbrev answers : ℕ → List ℕ → Bool
-answers k file = eqb (first (checkRefusals file (input 300 20240304) 0 0 0)) k
+answers k file = eqb (first (check_refusals file (input 300 20240304) 0 0 0)) k
 
 -- .. with slices of these lengths lent
 abbrev lent : ℕ → ℕ → ℕ → ℕ → Bool
-lent k m n o = eqb (first (checkRefusals (bytes_of example) (input 300 20240304) m n o)) k
+lent k m n o = eqb (first (check_refusals (bytes_of example) (input 300 20240304) m n o)) k
 
 -- what stands beside a fault at a line
 abbrev starts : List ℕ → ℕ → ℕ → Bool
-starts file line k = eqb (offsetAt file (fault line 1)) k
+starts file line k = eqb (offset_at file (fault line 1)) k
 
 abbrev mark : List ℕ
 mark = 0x1A ∷ []
@@ -50,8 +50,8 @@ abbrev paid : (kind number : String) → List String → List String
 paid kind number file = headed kind number "0000000" ∷ "KC:12500 20240304" ∷ file
 
 -- a direct sender's heading of this type has no entry under any outcome
-abbrev noEntry : String → Bool
-noEntry kind = every (map (λ (o : ℕ). holds (untold (headed kind "0000017" "0000000") o 1 14)) (1 ∷ 2 ∷ 3 ∷ 4 ∷ 5 ∷ 6 ∷ 7 ∷ []))
+abbrev no_entry : String → Bool
+no_entry kind = every (map (λ (o : ℕ). holds (untold (headed kind "0000017" "0000000") o 1 14)) (1 ∷ 2 ∷ 3 ∷ 4 ∷ 5 ∷ 6 ∷ 7 ∷ []))
 
 abbrev pub requested : List Bool
 requested =
@@ -97,9 +97,9 @@ requested =
     has (alone "96" "20991231" ("S9:x" ∷ [])) (fault 5 6 ∷ []) ∷
     has (headed "11" "0000001" "0000000" ∷ "KC:1 20240304" ∷ "S9:any text" ∷ closing "1" ("S1:1 1" ∷ [])) (fault 3 6 ∷ []) ∷
     -- 'Deriving answers 14 for them', after 12 and 13
-    noEntry "96" ∷
-    noEntry "97" ∷
-    noEntry "98" ∷
+    no_entry "96" ∷
+    no_entry "97" ∷
+    no_entry "98" ∷
     holds (refuses (headed "97" "0000017" "0000000") 1 1 7 14) ∷
     holds (refuses (headed "97" "0000017" "0000000") 9 1 7 13) ∷
     holds (refuses (headed "96" "0000017" "0000000") 1 2 7 12) ∷

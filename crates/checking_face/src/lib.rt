@@ -1,7 +1,7 @@
 // The C face of checking: numbers and bytes only. Promised: 0, or the number of the refusal by document 01, and `listing`'s list and total
 // behind the pointers; a refusal leaves all there as it was. Stands on `listing` for the job and on `results` for a total behind a pointer.
 ghost use Rattle.std.specs.Prelude.{◌≡◌, cond, eqb};
-ghost use Rattle.listing.specs.Checking.{checkedNumber, checkedOr};
+ghost use Rattle.listing.specs.Checking.{checked_number, checked_or};
 ghost use Rattle.checking_face.specs.Face.{TotalAt, CheckedAt};
 
 use listing::checking;
@@ -10,8 +10,8 @@ use results::store_total;
 
 // The refusal of a check, 0 for none; then its total stands behind the pointer.
 fn leave_total(answer: Checked, total: &mut u64) -> u32
-    ensures number { result ≡ checkedNumber answer }
-    ensures after { total.new ≡ cond (eqb (checkedNumber answer) 0) (checkedOr answer 0) total.old }
+    ensures number { result ≡ checked_number answer }
+    ensures after { total.new ≡ cond (eqb (checked_number answer) 0) (checked_or answer 0) total.old }
 {
     let refusal = checking::number_of(answer);
     let sum = checking::total_or(answer, 0);

@@ -12,28 +12,28 @@ use Rattle.rules.specs.Terms.{Terms}
 use Rattle.rules.specs.Rows.{Row}
 use Rattle.rules.specs.Tree.{Item}
 use Rattle.rules.specs.LineRules.{rule1, rule4}
-use Rattle.rules.specs.Spots.{ownTests, blockTests}
-use Rattle.rules.specs.Said.{head_of, isUnreadable, digest}
-use Rattle.rules.specs.HeadingRules.{rule6At}
-use Rattle.ledger.specs.Marks.{setOf}
-use Rattle.account.specs.Summary.{marksBy}
-use Rattle.items.proofs.Ideal.{testsAs}
+use Rattle.rules.specs.Spots.{own_tests, block_tests}
+use Rattle.rules.specs.Said.{head_of, is_unreadable, digest}
+use Rattle.rules.specs.HeadingRules.{rule6_at}
+use Rattle.ledger.specs.Marks.{set_of}
+use Rattle.account.specs.Summary.{marks_by}
+use Rattle.items.proofs.Ideal.{tests_as}
 
-unfoldable pub lineMarks : Row → ℕ
-lineMarks r = mark 1 (rule1 r) + mark 4 (rule4 r)
+unfoldable pub line_marks : Row → ℕ
+line_marks r = mark 1 (rule1 r) + mark 4 (rule4 r)
 
 module _ (terms : Terms) where
   -- all marks of a heading but 16
-  unfoldable pub headMarks : List Item → Item → ℕ
-  headMarks above i = lineMarks i.head.owner + mark 6 (rule6At i.head) + marksBy terms (map digest above) (digest i) (head_of i.head)
+  unfoldable pub head_marks : List Item → Item → ℕ
+  head_marks above i = line_marks i.head.owner + mark 6 (rule6_at i.head) + marks_by terms (map digest above) (digest i) (head_of i.head)
 
-  pub head-set : (z : Bool) (above : List Item) (i : Item) → setOf (testsAs terms z above i) ≡ headMarks above i + mark 16 z
-  unfolding testsAs headMarks lineMarks ownTests blockTests
-  head-set z above i = go (head_of i.head)
+  pub head_set : (z : Bool) (above : List Item) (i : Item) → set_of (tests_as terms z above i) ≡ head_marks above i + mark 16 z
+  unfolding tests_as head_marks line_marks own_tests block_tests
+  head_set z above i = go (head_of i.head)
     where
       go : (hd : Read)
-          → setOf ((1 if rule1 i.head.owner) ∷ (4 if rule4 i.head.owner) ∷ (6 if isUnreadable hd)
-          ∷ (ownTests terms (digest i) hd ++ ((16 if z) ∷ blockTests (map digest above) (digest i) hd)))
-          ≡ lineMarks i.head.owner + mark 6 (isUnreadable hd) + marksBy terms (map digest above) (digest i) hd + mark 16 z
+          → set_of ((1 if rule1 i.head.owner) ∷ (4 if rule4 i.head.owner) ∷ (6 if is_unreadable hd)
+          ∷ (own_tests terms (digest i) hd ++ ((16 if z) ∷ block_tests (map digest above) (digest i) hd)))
+          ≡ line_marks i.head.owner + mark 6 (is_unreadable hd) + marks_by terms (map digest above) (digest i) hd + mark 16 z
       go (Reads h) = omega arith
       go Unreadable = omega arith

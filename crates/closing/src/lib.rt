@@ -4,9 +4,9 @@
 // Stands on `blocks`, `account` and `lending`, and on `items` for the pass that is told without code.
 ghost use Rattle.std.specs.Prelude.{◌≡◌, ◌+◌, ◌-◌, ◌≤◌, ◌<◌, ◌^◌};
 ghost use Rattle.laws.specs.Tests.{mark};
-ghost use Rattle.rules.specs.Said.{isUnreadable};
-ghost use Rattle.blocks.specs.Model.{groupMarks};
-ghost use Rattle.closing.specs.Closing.{noWait, lastMarks, closeBy};
+ghost use Rattle.rules.specs.Said.{is_unreadable};
+ghost use Rattle.blocks.specs.Model.{group_marks};
+ghost use Rattle.closing.specs.Closing.{no_wait, last_marks, close_by};
 
 use account::Outline;
 use blocks::Course;
@@ -34,13 +34,13 @@ pub struct Shut {
 }
 
 pub fn no_wait() -> Wait
-    ensures { result ≡ noWait }
+    ensures { result ≡ no_wait }
 {
     Wait { line: 0, marks: 0 }
 }
 
 fn is_unreadable(read: Read) -> bool
-    ensures { result ≡ isUnreadable read }
+    ensures { result ≡ is_unreadable read }
 {
     match read {
         Read::Reads(_) => false,
@@ -50,7 +50,7 @@ fn is_unreadable(read: Read) -> bool
 
 // 30 to 39 at a 51 that reads.
 pub fn group_marks_of(counts: [u64; 10], sums: [u64; 10], stated: Sums) -> u64
-    ensures { (result ≡ groupMarks counts sums stated.groups) × (result ≤ 2 ^ 40 - 2 ^ 30) }
+    ensures { (result ≡ group_marks counts sums stated.groups) × (result ≤ 2 ^ 40 - 2 ^ 30) }
 {
     let groups = stated.groups;
     group_marks(counts, sums, groups)
@@ -59,7 +59,7 @@ pub fn group_marks_of(counts: [u64; 10], sums: [u64; 10], stated: Sums) -> u64
 // All marks of the open heading but 16: those of its line, those that its course gives, and 30 to 39.
 fn head_marks(own: u64, read: Read, marks: u64, groups: u64) -> u64
     requires { (marks < 2 ^ 23) × (own ≤ 18) × (groups ≤ 2 ^ 40 - 2 ^ 30) }
-    ensures { (result ≡ own + mark 6 (isUnreadable read) + marks + groups) × (result < 2 ^ 41) }
+    ensures { (result ≡ own + mark 6 (is_unreadable read) + marks + groups) × (result < 2 ^ 41) }
 {
     own + flag(is_unreadable(read), MARK_6) + marks + groups
 }
@@ -77,7 +77,7 @@ pub fn close_item(
     groups: u64,
 ) -> Shut
     requires { (w.marks < 2 ^ 41) × (own ≤ 18) × (groups ≤ 2 ^ 40 - 2 ^ 30) }
-    ensures { (result ≡ closeBy basis c w no own read kc span groups) × (result.wait.marks < 2 ^ 41) × (result.told < 2 ^ 41) × (result.marks < 2 ^ 41) }
+    ensures { (result ≡ close_by basis c w no own read kc span groups) × (result.wait.marks < 2 ^ 41) × (result.told < 2 ^ 41) × (result.marks < 2 ^ 41) }
 {
     if no == 0 {
         return Shut {
@@ -124,7 +124,7 @@ pub fn close_item(
 // At the file's end the one who waits has 16; `any` says whether the open block has a heading.
 pub fn last_marks(any: bool, w: Wait) -> u64
     requires { w.marks < 2 ^ 41 }
-    ensures { (result ≡ lastMarks any w) × (result < 2 ^ 42) }
+    ensures { (result ≡ last_marks any w) × (result < 2 ^ 42) }
 {
     flag(any, w.marks + MARK_16)
 }

@@ -10,11 +10,11 @@ use lib.ListN.{get_or}
 use Rattle.laws.specs.Ascii.{ascii}
 use Rattle.laws.specs.Tests.{among}
 use Rattle.laws.proofs.Finite.{at, agree}
-use Rattle.text.specs.Digits.{isDigit}
+use Rattle.text.specs.Digits.{is_digit}
 use Rattle.text.specs.Decimals.{decimal}
 use Rattle.text.specs.Strings.{begins}
-use Rattle.text.proofs.Bare.{decimal-within, decimal-value}
-use Rattle.text.proofs.Shortest.{decimal-digits, decimal-some, decimal-one}
+use Rattle.text.proofs.Bare.{decimal_within, decimal_value}
+use Rattle.text.proofs.Shortest.{decimal_digits, decimal_some, decimal_one}
 use Rattle.figures.specs.Layouts.{num, space, no_more}
 use Rattle.figures.proofs.Runs.{all_digits}
 use Rattle.figures.specs.Described.{all_of, Described, whole, stretch, stands}
@@ -22,96 +22,96 @@ use Rattle.fields.specs.declared.kinds.Kind.TheVariants.{Field}
 use Rattle.fields.specs.declared.classes.Class.TheVariants.{Range, Group}
 use Rattle.fields.specs.declared.readings.Reading.TheVariants.{Span, Stated}
 use Rattle.fields.specs.Kinds.{symbols, place, named, kind_of}
-use Rattle.fields.specs.Classes.{moneyFields, numberFields, rangeFields, groupFields, class_of, sumGroup}
+use Rattle.fields.specs.Classes.{money_fields, number_fields, range_fields, group_fields, class_of, sum_group}
 use Rattle.fields.specs.Readings.{text_of, layout_of}
 use Rattle.fields.specs.Tails.{takes, reads, says_of}
-use Rattle.fields.proofs.Meaning.{described-reads, says-described}
-use Rattle.closing_lines.specs.Closing.{inText, sumText}
+use Rattle.fields.proofs.Meaning.{described_reads, says_described}
+use Rattle.closing_lines.specs.Closing.{in_text, sum_text}
 
 -- ---- numbers, as layouts describe them
-is_number : (v : ℕ) → all_of isDigit (decimal v) ≡ true
-is_number v = sym (all_digits (decimal v)) ∙ decimal-digits v
+is_number : (v : ℕ) → all_of is_digit (decimal v) ≡ true
+is_number v = sym (all_digits (decimal v)) ∙ decimal_digits v
 
 -- two numbers with a space between them
-pub two-numbers : (h k p q : ℕ) → h ≤ 19 → k ≤ 19 → p < 10 ^ suc h → q < 10 ^ suc k
+pub two_numbers : (h k p q : ℕ) → h ≤ 19 → k ≤ 19 → p < 10 ^ suc h → q < 10 ^ suc k
     → Described (num 1 (suc h) ∷ space ∷ num 1 (suc k) ∷ no_more) (decimal p ++ (ascii " " ++ decimal q)) (decimal p ∷ decimal q ∷ [])
-two-numbers h k p q l m u v =
-    stretch (decimal p) (is_number p) (decimal-some p) (decimal-within h p l u)
+two_numbers h k p q l m u v =
+    stretch (decimal p) (is_number p) (decimal_some p) (decimal_within h p l u)
     (stands
     (subst (λ (s : List ℕ). Described (num 1 (suc k) ∷ no_more) s (decimal q ∷ [])) (append-nil (decimal q))
-    (stretch (decimal q) (is_number q) (decimal-some q) (decimal-within k q m v) whole)))
+    (stretch (decimal q) (is_number q) (decimal_some q) (decimal_within k q m v) whole)))
 
-no-tail : takes (layout_of Range).more [] ≡ true
+no_tail : takes (layout_of Range).more [] ≡ true
 unfolding takes
-no-tail = refl
+no_tail = refl
 
 -- ---- IN
 
-pub in-kind : (a b : ℕ) → kind_of (inText a b) ≡ Field (named "IN")
+pub in_kind : (a b : ℕ) → kind_of (in_text a b) ≡ Field (named "IN")
 unfolding kind_of begins place
-in-kind a b = refl
+in_kind a b = refl
 
-pub in-class : class_of (named "IN") ≡ Range
+pub in_class_lem : class_of (named "IN") ≡ Range
 unfolding class_of place
-in-class = refl
+in_class_lem = refl
 
 module _ (a b : ℕ) (l : a < 10000000) (m : b < 10000000) where
-  pub in-described : Described (layout_of Range).own (text_of (inText a b)) (decimal a ∷ decimal b ∷ [])
+  pub in_described : Described (layout_of Range).own (text_of (in_text a b)) (decimal a ∷ decimal b ∷ [])
   unfolding text_of
-  in-described = two-numbers 6 6 a b (omega arith) (omega arith) l m
+  in_described = two_numbers 6 6 a b (omega arith) (omega arith) l m
 
-  pub in-reads : reads Range (inText a b) [] ≡ true
-  in-reads = described-reads Range (inText a b) [] _ in-described no-tail
+  pub in_reads : reads Range (in_text a b) [] ≡ true
+  in_reads = described_reads Range (in_text a b) [] _ in_described no_tail
 
-  pub in-says : says_of Range (inText a b) [] ≡ Span (record { 0 = a }) (record { 0 = b })
-  in-says = says-described Range (inText a b) [] _ in-described no-tail ∙ rw (decimal-value a (omega arith), decimal-value b (omega arith))
+  pub in_says : says_of Range (in_text a b) [] ≡ Span (record { 0 = a }) (record { 0 = b })
+  in_says = says_described Range (in_text a b) [] _ in_described no_tail ∙ rw (decimal_value a (omega arith), decimal_value b (omega arith))
 
 -- ---- S0 to S9
 
 -- the identifier of a group
-abbrev pub groupField : ℕ → ℕ
-groupField d = get_or groupFields d 0
+abbrev pub group_field : ℕ → ℕ
+group_field d = get_or group_fields d 0
 
-place-letter : place 0x53 symbols ≡ 28
+place_letter : place 0x53 symbols ≡ 28
 unfolding place
-place-letter = refl
+place_letter = refl
 
 module _ (d : ℕ) (k : d < 10) where
-  place-digit : place (48 + d) symbols ≡ d
+  place_digit : place (48 + d) symbols ≡ d
   unfolding place
-  place-digit = eqb→eq _ _ (at (λ c. eqb (place (48 + c) symbols) c) 10 tt d k)
+  place_digit = eqb→eq _ _ (at (λ c. eqb (place (48 + c) symbols) c) 10 tt d k)
 
-  among-digit : among (48 + d) symbols ≡ true
-  among-digit = agree (λ c. among (48 + c) symbols) (λ c. true) 10 tt d k
+  among_digit : among (48 + d) symbols ≡ true
+  among_digit = agree (λ c. among (48 + c) symbols) (λ c. true) 10 tt d k
 
-  pub field-digit : 1008 + d ≡ groupField d
+  pub field_digit : 1008 + d ≡ group_field d
   unfolding place
-  field-digit = eqb→eq _ _ (at (λ c. eqb (1008 + c) (groupField c)) 10 tt d k)
+  field_digit = eqb→eq _ _ (at (λ c. eqb (1008 + c) (group_field c)) 10 tt d k)
 
-  pub group-class : class_of (groupField d) ≡ Group
+  pub group_class : class_of (group_field d) ≡ Group
   unfolding class_of place
-  group-class =
-      rw (agree (λ c. among (groupField c) moneyFields) (λ c. false) 10 tt d k, agree (λ c. among (groupField c) numberFields) (λ c. false) 10 tt d k, agree (λ c. among (groupField c) rangeFields) (λ c. false) 10 tt d k, agree (λ c. among (groupField c) groupFields) (λ c. true) 10 tt d k)
+  group_class =
+      rw (agree (λ c. among (group_field c) money_fields) (λ c. false) 10 tt d k, agree (λ c. among (group_field c) number_fields) (λ c. false) 10 tt d k, agree (λ c. among (group_field c) range_fields) (λ c. false) 10 tt d k, agree (λ c. among (group_field c) group_fields) (λ c. true) 10 tt d k)
 
-  pub group-digit : sumGroup (groupField d) ≡ d
-  unfolding sumGroup place
-  group-digit = eqb→eq _ _ (at (λ c. eqb (sumGroup (groupField c)) c) 10 tt d k)
+  pub group_digit : sum_group (group_field d) ≡ d
+  unfolding sum_group place
+  group_digit = eqb→eq _ _ (at (λ c. eqb (sum_group (group_field c)) c) 10 tt d k)
 
   -- an S line, byte by byte up to its colon
-  sum_is : (n t : ℕ) → sumText d n t ≡ 0x53 ∷ (48 + d) ∷ 0x3a ∷ (decimal n ++ (ascii " " ++ decimal t))
-  sum_is n t = ap (λ (s : List ℕ). ascii "S" ++ (s ++ (ascii ":" ++ (decimal n ++ (ascii " " ++ decimal t))))) (decimal-one d k)
+  sum_is : (n t : ℕ) → sum_text d n t ≡ 0x53 ∷ (48 + d) ∷ 0x3a ∷ (decimal n ++ (ascii " " ++ decimal t))
+  sum_is n t = ap (λ (s : List ℕ). ascii "S" ++ (s ++ (ascii ":" ++ (decimal n ++ (ascii " " ++ decimal t))))) (decimal_one d k)
 
-  pub sum-kind : (n t : ℕ) → kind_of (sumText d n t) ≡ Field (groupField d)
+  pub sum_kind : (n t : ℕ) → kind_of (sum_text d n t) ≡ Field (group_field d)
   unfolding kind_of begins
-  sum-kind n t = ap kind_of (sum_is n t) ∙ rw (among-digit, place-digit, place-letter, ← field-digit)
+  sum_kind n t = ap kind_of (sum_is n t) ∙ rw (among_digit, place_digit, place_letter, ← field_digit)
 
   module _ (n t : ℕ) (l : n < 10000000) (m : t < 100000000000000000) where
-    pub sum-described : Described (layout_of Group).own (text_of (sumText d n t)) (decimal n ∷ decimal t ∷ [])
+    pub sum_described : Described (layout_of Group).own (text_of (sum_text d n t)) (decimal n ∷ decimal t ∷ [])
     unfolding text_of
-    sum-described = rw (sum_is n t) (two-numbers 6 16 n t (omega arith) (omega arith) l m)
+    sum_described = rw (sum_is n t) (two_numbers 6 16 n t (omega arith) (omega arith) l m)
 
-    pub sum-reads : reads Group (sumText d n t) [] ≡ true
-    sum-reads = described-reads Group (sumText d n t) [] _ sum-described no-tail
+    pub sum_reads : reads Group (sum_text d n t) [] ≡ true
+    sum_reads = described_reads Group (sum_text d n t) [] _ sum_described no_tail
 
-    pub sum-says : says_of Group (sumText d n t) [] ≡ Stated n (record { 0 = t })
-    sum-says = says-described Group (sumText d n t) [] _ sum-described no-tail ∙ rw (decimal-value n (omega arith), decimal-value t (omega arith))
+    pub sum_says : says_of Group (sum_text d n t) [] ≡ Stated n (record { 0 = t })
+    sum_says = says_described Group (sum_text d n t) [] _ sum_described no_tail ∙ rw (decimal_value n (omega arith), decimal_value t (omega arith))

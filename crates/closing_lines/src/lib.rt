@@ -4,15 +4,15 @@
 // The room that the writers ask for takes every number for 20 digits: 46 bytes for the IN, 65 for an S line.
 ghost use Rattle.std.specs.Prelude.{◌≡◌, [], ◌∷◌, ◌+◌, ◌≤◌, length};
 ghost use Rattle.text.specs.Strings.{Wrote};
-ghost use Rattle.lines.specs.Texts.{rowsText};
-ghost use Rattle.closing_lines.specs.Closing.{inText, sumText, with_sum, sumTextsFrom, closingTexts};
+ghost use Rattle.lines.specs.Texts.{rows_text};
+ghost use Rattle.closing_lines.specs.Closing.{in_text, sum_text, with_sum, sum_texts_from, closing_texts};
 
 use text::decimals::put_decimal;
 use text::strings::put;
 
 fn put_in(out: &mut [u8], at: usize, first: u64, last: u64) -> usize
     requires { at + 46 ≤ length out.old }
-    ensures text { Wrote out.old at (rowsText (inText first last ∷ [])) out.new result }
+    ensures text { Wrote out.old at (rows_text (in_text first last ∷ [])) out.new result }
     ensures end { result ≤ at + 46 }
 {
     let mut next = put(out, at, b"IN:");
@@ -24,7 +24,7 @@ fn put_in(out: &mut [u8], at: usize, first: u64, last: u64) -> usize
 
 fn put_sum(out: &mut [u8], at: usize, group: u64, count: u64, sum: u64) -> usize
     requires { at + 65 ≤ length out.old }
-    ensures text { Wrote out.old at (rowsText (sumText group count sum ∷ [])) out.new result }
+    ensures text { Wrote out.old at (rows_text (sum_text group count sum ∷ [])) out.new result }
     ensures end { result ≤ at + 65 }
 {
     let mut next = put(out, at, b"S");
@@ -39,7 +39,7 @@ fn put_sum(out: &mut [u8], at: usize, group: u64, count: u64, sum: u64) -> usize
 // An empty group has no line.
 fn put_group(out: &mut [u8], at: usize, group: u64, count: u64, sum: u64) -> usize
     requires { at + 65 ≤ length out.old }
-    ensures text { Wrote out.old at (rowsText (with_sum group count sum [])) out.new result }
+    ensures text { Wrote out.old at (rows_text (with_sum group count sum [])) out.new result }
     ensures end { result ≤ at + 65 }
 {
     if count == 0 {
@@ -50,7 +50,7 @@ fn put_group(out: &mut [u8], at: usize, group: u64, count: u64, sum: u64) -> usi
 
 fn put_groups(out: &mut [u8], at: usize, counts: &[u64], sums: &[u64]) -> usize
     requires { (length counts.now ≡ 10) × (length sums.now ≡ 10) × (at + 650 ≤ length out.old) }
-    ensures text { Wrote out.old at (rowsText (sumTextsFrom 0 counts.now sums.now)) out.new result }
+    ensures text { Wrote out.old at (rows_text (sum_texts_from 0 counts.now sums.now)) out.new result }
     ensures end { result ≤ at + 650 }
 {
     let mut next = at;
@@ -72,7 +72,7 @@ pub fn put_closing(
     sums: &[u64; 10],
 ) -> usize
     requires { at + 696 ≤ length out.old }
-    ensures text { Wrote out.old at (rowsText (closingTexts first last counts.now sums.now)) out.new result }
+    ensures text { Wrote out.old at (rows_text (closing_texts first last counts.now sums.now)) out.new result }
     ensures end { result ≤ at + 696 }
 {
     let next = put_in(out, at, first, last);

@@ -9,22 +9,22 @@ use lib.Seq.{take_all}
 use lib.Dec.{leb, ltb, eqb, leb→le, eqb→eq}
 use mathlib.Core.Logic.{◌⊎◌, ⊎_elim}
 use borrow.Author.Tests.{le-leb, lt-leb, leb-true, leb-false, eqb-true, eqb-false}
-use Rattle.laws.proofs.Truth.{le-or-lt}
+use Rattle.laws.proofs.Truth.{le_or_lt}
 use Rattle.laws.proofs.Entries.{at}
 use Rattle.laws.proofs.Finite.{at as below_at}
-use Rattle.laws.proofs.Every.{one-fails}
+use Rattle.laws.proofs.Every.{one_fails}
 use Rattle.laws.specs.Lists.{sum}
-use Rattle.days.specs.Days.{isLeap, row, daysBefore, yearOf, monthOf, dateOf, isReal, realTests, monthLength}
+use Rattle.days.specs.Days.{is_leap, row, days_before, year_of, month_of, date_of, is_real, real_tests, month_length}
 
-row-past : (b : Bool) (k : ℕ) → 12 ≤ k → get_or (row b) k 0 ≡ 0
+row_past : (b : Bool) (k : ℕ) → 12 ≤ k → get_or (row b) k 0 ≡ 0
 unfolding row
-row-past true k h = get_or-eq_default (row true) 0 h
-row-past false k h = get_or-eq_default (row false) 0 h
+row_past true k h = get_or-eq_default (row true) 0 h
+row_past false k h = get_or-eq_default (row false) 0 h
 
-pub month-le : (b : Bool) (k : ℕ) → get_or (row b) k 0 ≤ 31
+pub month_le : (b : Bool) (k : ℕ) → get_or (row b) k 0 ≤ 31
 unfolding row
-month-le true k = ⊎_elim (λ h. rw (row-past true k h) zero-le) (λ h. leb→le _ _ (at (λ x. leb x 31) (row true) tt k h)) (le-or-lt 12 k)
-month-le false k = ⊎_elim (λ h. rw (row-past false k h) zero-le) (λ h. leb→le _ _ (at (λ x. leb x 31) (row false) tt k h)) (le-or-lt 12 k)
+month_le true k = ⊎_elim (λ h. rw (row_past true k h) zero-le) (λ h. leb→le _ _ (at (λ x. leb x 31) (row true) tt k h)) (le_or_lt 12 k)
+month_le false k = ⊎_elim (λ h. rw (row_past false k h) zero-le) (λ h. leb→le _ _ (at (λ x. leb x 31) (row false) tt k h)) (le_or_lt 12 k)
 
 -- one month more
 pub sum_more : (xs : List ℕ) (k : ℕ) → sum (take (suc k) xs) ≡ sum (take k xs) + get_or xs k 0
@@ -42,10 +42,10 @@ unfolding row
 starts true m h = eqb→eq _ _ (below_at (λ k. eqb (reckoned true k) (sum (take (k - 1) (row true)))) 14 tt m h)
 starts false m h = eqb→eq _ _ (below_at (λ k. eqb (reckoned false k) (sum (take (k - 1) (row false)))) 14 tt m h)
 
-pub all-before : (b : Bool) (m : ℕ) → 13 < m → sum (take (13 - 1) (row b)) ≡ sum (take (m - 1) (row b))
+pub all_before : (b : Bool) (m : ℕ) → 13 < m → sum (take (13 - 1) (row b)) ≡ sum (take (m - 1) (row b))
 unfolding row
-all-before true m h = ap sum (sym (take_all (m - 1) (row true) (omega arith)))
-all-before false m h = ap sum (sym (take_all (m - 1) (row false) (omega arith)))
+all_before true m h = ap sum (sym (take_all (m - 1) (row true) (omega arith)))
+all_before false m h = ap sum (sym (take_all (m - 1) (row false) (omega arith)))
 
 after_more : (s d l : ℕ) → leb (s + d) (s + l) ≡ leb d l
 after_more s d l = go (leb d l) refl
@@ -55,8 +55,8 @@ after_more s d l = go (leb d l) refl
     go false e = lt-leb (s + d) (s + l) (omega (arith, leb-false d l e))
 
 -- the dates of a month are those that, with the days before it, do not pass the days before the next
-pub by-starts : (b : Bool) (m d : ℕ) → 1 ≤ m → leb (sum (take (m - 1) (row b)) + d) (sum (take (m + 1 - 1) (row b))) ≡ leb d (get_or (row b) (m - 1) 0)
-by-starts b m d h =
+pub by_starts : (b : Bool) (m d : ℕ) → 1 ≤ m → leb (sum (take (m - 1) (row b)) + d) (sum (take (m + 1 - 1) (row b))) ≡ leb d (get_or (row b) (m - 1) 0)
+by_starts b m d h =
     let e : m + 1 - 1 ≡ suc (m - 1) = omega arith in
     rw (e, sum_more) (after_more (sum (take (m - 1) (row b))) d (get_or (row b) (m - 1) 0))
 
@@ -110,8 +110,8 @@ not400 : (y : ℕ) → (y % 100 ≡ 0 → ⊥) → y % 400 ≡ 0 → ⊥
 not400 y h e = omega arith
 
 -- a year adds its days to the count: by the three tests of a leap year
-year : (y : ℕ) → closed y + sum (row (isLeap y)) ≡ closed (suc y)
-unfolding isLeap row
+year : (y : ℕ) → closed y + sum (row (is_leap y)) ≡ closed (suc y)
+unfolding is_leap row
 year y = go (eqb (y % 4) 0) refl (eqb (y % 100) 0) refl (eqb (y % 400) 0) refl
   where
     go : (a : Bool) → eqb (y % 4) 0 ≡ a → (b : Bool) → eqb (y % 100) 0 ≡ b → (d : Bool) → eqb (y % 400) 0 ≡ d
@@ -128,15 +128,15 @@ year y = go (eqb (y % 4) 0) refl (eqb (y % 100) 0) refl (eqb (y % 400) 0) refl
     go true p true q true r =
         rw (up4 y (eqb-true _ _ p), up100 y (eqb-true _ _ q), up400 y (eqb-true _ _ r)) (three y _ _ _ (fewer y))
 
-pub years : (y : ℕ) → daysBefore y ≡ closed y
+pub years : (y : ℕ) → days_before y ≡ closed y
 years zero = refl
-years (suc y) = ap (λ (n : ℕ). n + sum (row (isLeap y))) (years y) ∙ year y
+years (suc y) = ap (λ (n : ℕ). n + sum (row (is_leap y))) (years y) ∙ year y
 
 -- a day is not real where one of its tests fails; and where the others hold, the last decides
-pub not-real : (n k : ℕ) → get_or (realTests n) k true ≡ false → false ≡ isReal n
-unfolding isReal
-not-real n k e = one-fails (realTests n) k e
+pub not_real : (n k : ℕ) → get_or (real_tests n) k true ≡ false → false ≡ is_real n
+unfolding is_real
+not_real n k e = one_fails (real_tests n) k e
 
-pub real-by-last : (n : ℕ) → 1 ≤ yearOf n → yearOf n ≤ 9999 → 1 ≤ monthOf n → monthOf n ≤ 12 → 1 ≤ dateOf n → leb (dateOf n) (monthLength n) ≡ isReal n
-unfolding isReal
-real-by-last n a b c d e = rw (le-leb _ _ a, le-leb _ _ b, le-leb _ _ c, le-leb _ _ d, le-leb _ _ e, and-true)
+pub real_by_last : (n : ℕ) → 1 ≤ year_of n → year_of n ≤ 9999 → 1 ≤ month_of n → month_of n ≤ 12 → 1 ≤ date_of n → leb (date_of n) (month_length n) ≡ is_real n
+unfolding is_real
+real_by_last n a b c d e = rw (le-leb _ _ a, le-leb _ _ b, le-leb _ _ c, le-leb _ _ d, le-leb _ _ e, and-true)

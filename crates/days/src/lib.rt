@@ -5,10 +5,10 @@
 // the day of a number as its own number does with that one. Stands on `laws` alone.
 ghost use Rattle.std.specs.Prelude.{◌≡◌, suc, ◌+◌, ◌-◌, ◌≤◌, ◌<◌, take};
 ghost use Rattle.laws.specs.Lists.{sum};
-ghost use Rattle.days.specs.Days.{isLeap, row, isReal, daysBefore, dayNumber, dayOf};
+ghost use Rattle.days.specs.Days.{is_leap, row, is_real, days_before, day_number, day_of};
 
 fn is_leap(year: u32) -> bool
-    ensures { result ≡ isLeap year }
+    ensures { result ≡ is_leap year }
 {
     ((year % 4 == 0) & !(year % 100 == 0)) | (year % 400 == 0)
 }
@@ -32,7 +32,7 @@ fn days_before(leap: bool, month: u32) -> u32
 }
 
 pub fn is_real(day: u32) -> bool
-    ensures { result ≡ isReal day }
+    ensures { result ≡ is_real day }
 {
     let year = day / 10000;
     let month = day / 100 % 100;
@@ -59,14 +59,14 @@ pub fn is_real(day: u32) -> bool
 // The days of the years before one.
 fn years_before(year: u32) -> u32
     requires { year ≤ 1000000 }
-    ensures { (result ≡ daysBefore year) × (result ≤ 400000000) }
+    ensures { (result ≡ days_before year) × (result ≤ 400000000) }
 {
     365 * year + (year + 3) / 4 - (year + 99) / 100 + (year + 399) / 400
 }
 
 // Real days are as many days apart as their numbers are.
 pub fn day_number(day: u32) -> u32
-    ensures { result ≡ dayNumber day }
+    ensures { result ≡ day_number day }
 {
     let year = day / 10000;
     let month = day / 100 % 100;
@@ -77,7 +77,7 @@ pub fn day_number(day: u32) -> u32
 // The year of a number, by the mean length of a year: the guess is never too early, and at most a year late.
 fn year_of(number: u32) -> u32
     requires { (367 ≤ number) × (number ≤ 3652425) }
-    ensures { (1 ≤ result) × (result ≤ 9999) × (daysBefore result < number) × (number ≤ daysBefore (suc result)) }
+    ensures { (1 ≤ result) × (result ≤ 9999) × (days_before result < number) × (number ≤ days_before (suc result)) }
 {
     let guess = 400 * (number + 1) / 146097;
     if number <= years_before(guess) {
@@ -103,7 +103,7 @@ fn month_of(leap: bool, rest: u32) -> u32
 
 // The real day of a number; 0 where all are later, and the last of all where all are earlier.
 pub fn day_of(number: u32) -> u32
-    ensures { result ≡ dayOf number }
+    ensures { result ≡ day_of number }
 {
     if number < 367 {
         return 0;

@@ -12,21 +12,21 @@ use Rattle.laws.proofs.Refusals.{chosen}
 use Rattle.text.specs.Strings.{Wrote}
 use Rattle.delivery.specs.declared.Delivered.{Delivered}
 use Rattle.delivery.specs.declared.Delivered.TheVariants.{Written}
-use Rattle.delivery.specs.Delivery.{deliveredNumber, deliveredOr}
+use Rattle.delivery.specs.Delivery.{delivered_number, delivered_or}
 use Rattle.delivery.specs.Model.{Answers}
 
-abbrev targetBy : Bool → List ℕ → List ℕ → List ℕ
-targetBy b text before = cond b (text ++ drop (length text) before) before
+abbrev target_by : Bool → List ℕ → List ℕ → List ℕ
+target_by b text before = cond b (text ++ drop (length text) before) before
 
 module _ {refusal : ℕ} {text before : List ℕ} where
   -- a refusal leaves the target as it was
-  pub refused : (r : Delivered) → deliveredNumber r ≡ refusal → 1 ≤ deliveredNumber r → ((old : ℕ) → deliveredOr r old ≡ old) → Answers refusal text before r before
+  pub refused : (r : Delivered) → delivered_number r ≡ refusal → 1 ≤ delivered_number r → ((old : ℕ) → delivered_or r old ≡ old) → Answers refusal text before r before
   refused r e h w =
       let z = ne_eqb refusal 0 (λ q. omega (arith, e, h, q)) in
       record {
         number = e;
         written = λ old. w old ∙ sym (ap (λ (b : Bool). cond b (length text) old) z);
-        target = sym (ap (λ (b : Bool). targetBy b text before) z);
+        target = sym (ap (λ (b : Bool). target_by b text before) z);
       }
 
   pub done : refusal ≡ 0 → {after : List ℕ} {n : ℕ} → Wrote before 0 text after n → Answers refusal text before (Written n) after
@@ -38,13 +38,13 @@ module _ {refusal : ℕ} {text before : List ℕ} where
         target =
             w.holds ∙ put_is before 0 text
             ∙ ap (λ (k : ℕ). text ++ drop k before) (let q : 0 + length text ≡ length text = omega arith in q)
-            ∙ sym (ap (λ (b : Bool). targetBy b text before) z);
+            ∙ sym (ap (λ (b : Bool). target_by b text before) z);
       }
 
   -- the same answer by another list of refusals, of which the same comes first; where none does, of the same text
-  pub answers-as : {refusal' : ℕ} {text' : List ℕ} {r : Delivered} {after : List ℕ} → refusal ≡ refusal' → (refusal ≡ 0 → text ≡ text')
+  pub answers_as : {refusal' : ℕ} {text' : List ℕ} {r : Delivered} {after : List ℕ} → refusal ≡ refusal' → (refusal ≡ 0 → text ≡ text')
       → Answers refusal text before r after → Answers refusal' text' before r after
-  answers-as {refusal'} {text'} {r} {after} e f A = record {
+  answers_as {refusal'} {text'} {r} {after} e f A = record {
     number = A.number ∙ e;
     written = λ old.
         A.written old ∙ chosen refusal (length text) (length text') old (λ z. ap length (f z))
@@ -52,5 +52,5 @@ module _ {refusal : ℕ} {text before : List ℕ} where
     target =
         A.target
         ∙ chosen refusal (text ++ drop (length text) before) (text' ++ drop (length text') before) before (λ z. ap (λ (t : List ℕ). t ++ drop (length t) before) (f z))
-        ∙ ap (λ (k : ℕ). targetBy (eqb k 0) text' before) e;
+        ∙ ap (λ (k : ℕ). target_by (eqb k 0) text' before) e;
   }

@@ -12,7 +12,7 @@ use Rattle.text.specs.Strings.{Wrote}
 use Rattle.text.proofs.Wrote.{then, same_length}
 use Rattle.delivery.specs.declared.Delivered.{Delivered}
 use Rattle.delivery.specs.declared.Delivered.TheVariants.{Written, TooLarge, TooShort}
-use Rattle.delivery.specs.Model.{Answers, linesRefusals}
+use Rattle.delivery.specs.Model.{Answers, lines_refusals}
 use Rattle.delivery.proofs.Answered.{refused, done}
 
 -- `front` are the items' lines, whose length is told up to the limit, and `rest` is what follows them
@@ -21,42 +21,42 @@ module _ (front rest before : List ℕ) {t : ℕ} (z : min 4000000001 (length fr
   text = front ++ rest
 
   abbrev refusal : ℕ
-  refusal = first (linesRefusals false text (length before))
+  refusal = first (lines_refusals false text (length before))
 
   long : length text ≡ length front + length rest
   long = length-append front rest
 
-  pub lines-large : 4000000000 < t + length rest → Answers refusal text before TooLarge before
-  lines-large h =
+  pub lines_large : 4000000000 < t + length rest → Answers refusal text before TooLarge before
+  lines_large h =
       let e : ltb 4000000000 (length text) ≡ true = lt-ltb 4000000000 (length text) (omega (arith, z, long, h)) in refused TooLarge (rw e) (omega arith) (λ old. refl)
 
   module _ (h : t + length rest ≤ 4000000000) where
     e : ltb 4000000000 (length text) ≡ false
     e = le-ltb 4000000000 (length text) (omega (arith, z, long, h))
 
-    pub lines-short : length before < t + length rest → Answers refusal text before TooShort before
-    lines-short l =
+    pub lines_short : length before < t + length rest → Answers refusal text before TooShort before
+    lines_short l =
         let f : ltb (length before) (length text) ≡ true = lt-ltb (length before) (length text) (omega (arith, z, long, h, l)) in refused TooShort (rw (e, f)) (omega arith) (λ old. refl)
 
     module _ (l : t + length rest ≤ length before) where
-      pub lines-room : length front ≤ length before
-      lines-room = omega (arith, z, h, l)
+      pub lines_room : length front ≤ length before
+      lines_room = omega (arith, z, h, l)
 
-      pub rest-room : {mid : List ℕ} {next : ℕ} → Wrote before 0 front mid next → next + length rest ≤ length mid
-      rest-room w = omega (arith, z, h, l, w.ends, same_length w)
+      pub rest_room : {mid : List ℕ} {next : ℕ} → Wrote before 0 front mid next → next + length rest ≤ length mid
+      rest_room w = omega (arith, z, h, l, w.ends, same_length w)
 
-      pub lines-done : {mid after : List ℕ} {next end : ℕ} → Wrote before 0 front mid next → Wrote mid next rest after end → Answers refusal text before (Written end) after
-      lines-done v w =
+      pub lines_done : {mid after : List ℕ} {next end : ℕ} → Wrote before 0 front mid next → Wrote mid next rest after end → Answers refusal text before (Written end) after
+      lines_done v w =
           let f : ltb (length before) (length text) ≡ false = le-ltb (length before) (length text) (omega (arith, z, long, h, l)) in done (rw (e, f)) (then v w)
 
 -- a sum that is too large, whatever the text
-pub sums-large : (large : Bool) (text before : List ℕ) → large ≡ true → Answers (first (linesRefusals large text (length before))) text before TooLarge before
-sums-large large text before e =
-    refused TooLarge (sym (ap (λ (b : Bool). first (linesRefusals b text (length before))) e)) (omega arith) (λ old. refl)
+pub sums_large : (large : Bool) (text before : List ℕ) → large ≡ true → Answers (first (lines_refusals large text (length before))) text before TooLarge before
+sums_large large text before e =
+    refused TooLarge (sym (ap (λ (b : Bool). first (lines_refusals b text (length before))) e)) (omega arith) (λ old. refl)
 
 -- what a first text says of the same one in other words
 pub same_lines : (large : Bool) {text text' before : List ℕ} {r : Delivered} {after : List ℕ} → large ≡ false → text ≡ text'
-    → Answers (first (linesRefusals false text (length before))) text before r after → Answers (first (linesRefusals large text' (length before))) text' before r after
+    → Answers (first (lines_refusals false text (length before))) text before r after → Answers (first (lines_refusals large text' (length before))) text' before r after
 same_lines large {text} {text'} {before} {r} {after} e p A =
-    subst (λ (b : Bool). Answers (first (linesRefusals b text' (length before))) text' before r after) (sym e)
-    (subst (λ (t : List ℕ). Answers (first (linesRefusals false t (length before))) t before r after) p A)
+    subst (λ (b : Bool). Answers (first (lines_refusals b text' (length before))) text' before r after) (sym e)
+    (subst (λ (t : List ℕ). Answers (first (lines_refusals false t (length before))) t before r after) p A)

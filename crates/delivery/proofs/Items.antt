@@ -10,26 +10,26 @@ use Rattle.laws.specs.Lists.{any_of}
 use Rattle.laws.specs.Refusals.{◌if◌, first}
 use Rattle.laws.proofs.Any.{or_right}
 use Rattle.lines.specs.Lines.{lines}
-use Rattle.lines.specs.Texts.{fileOf}
-use Rattle.heading_writer.specs.Writing.{headingText}
+use Rattle.lines.specs.Texts.{file_of}
+use Rattle.heading_writer.specs.Writing.{heading_text}
 use Rattle.rules.specs.Terms.{Terms, input}
 use Rattle.rules.specs.Rows.{rows_from}
 use Rattle.item_reader.specs.Slips.{Headed}
-use Rattle.closing_lines.specs.Closing.{closingTexts}
-use Rattle.outgoing_lines.specs.Outgoing.{Orders, textsFrom, anyUnderived}
+use Rattle.closing_lines.specs.Closing.{closing_texts}
+use Rattle.outgoing_lines.specs.Outgoing.{Orders, texts_from, any_underived}
 use Rattle.surveying.specs.declared.Lead.{Lead}
 use Rattle.surveying.specs.declared.Survey.{Survey}
 use Rattle.surveying.specs.declared.Survey.TheVariants.{NotSent as Unsent, Sent}
-use Rattle.surveying.specs.Items.{items_of, anyUnsent, mixed, sumsOut}
-use Rattle.surveying.specs.Model.{itemsBarred, Surveys, Leads}
-use Rattle.surveying.proofs.Leading.{headed-barred}
+use Rattle.surveying.specs.Items.{items_of, any_unsent, mixed, sums_out}
+use Rattle.surveying.specs.Model.{items_barred, Surveys, Leads}
+use Rattle.surveying.proofs.Leading.{headed_barred}
 use Rattle.delivery.specs.declared.Delivered.{Delivered}
 use Rattle.delivery.specs.declared.Delivered.TheVariants.{NotSent, Mixed}
-use Rattle.delivery.specs.Delivery.{closingHeading, isLargeSum, outputFile, notSent, tooLarge}
-use Rattle.delivery.specs.Model.{Answers, linesRefusals, itemsRefusals, sentFile}
-use Rattle.delivery.proofs.Answered.{refused, answers-as}
-use Rattle.delivery.proofs.Sending.{same_sent, same-to, same-mixed, sent-derived}
-use Rattle.delivery.proofs.Groups.{counts_whole, large-same, sums-whole}
+use Rattle.delivery.specs.Delivery.{closing_heading, is_large_sum, output_file, not_sent, too_large}
+use Rattle.delivery.specs.Model.{Answers, lines_refusals, items_refusals, sent_file}
+use Rattle.delivery.proofs.Answered.{refused, answers_as}
+use Rattle.delivery.proofs.Sending.{same_sent, same_to, same_mixed, sent_derived}
+use Rattle.delivery.proofs.Groups.{counts_whole, large_same, sums_whole}
 
 abbrev by : Bool → Bool → Bool → Bool → ℕ
 by a b c d = first ((31 if a) ∷ (32 if b) ∷ (33 if c) ∷ (34 if d) ∷ [])
@@ -39,28 +39,28 @@ module _ (s : List ℕ) (q : Orders) (certis day : ℕ) (before : List ℕ) (l :
   terms = input certis day
 
   abbrev file : List ℕ
-  file = outputFile s q certis day
+  file = output_file s q certis day
 
   abbrev unsent : Bool
-  unsent = notSent s q certis day
+  unsent = not_sent s q certis day
 
   abbrev mixes : Bool
   mixes = mixed q (items_of s)
 
   abbrev large : Bool
-  large = tooLarge s q certis day
+  large = too_large s q certis day
 
   abbrev short : Bool
   short = ltb (length before) (length file)
 
   abbrev refusal : ℕ
-  refusal = first (itemsRefusals s q certis day (length before))
+  refusal = first (items_refusals s q certis day (length before))
 
-  asked : (itemsBarred terms (items_of s) || anyUnsent q lead.to 0 (items_of s)) ≡ unsent
-  asked = λ i. sym (headed-barred s l h terms) i || same_sent q (items_of s) lead L i
+  asked : (items_barred terms (items_of s) || any_unsent q lead.to 0 (items_of s)) ≡ unsent
+  asked = λ i. sym (headed_barred s l h terms) i || same_sent q (items_of s) lead L i
 
-  pub items-unsent : (r : Survey) (counts sums : List ℕ) → Surveys q terms lead s r counts sums → r ≡ Unsent → Answers refusal file before NotSent before
-  items-unsent r counts sums S' e =
+  pub items_unsent : (r : Survey) (counts sums : List ℕ) → Surveys q terms lead s r counts sums → r ≡ Unsent → Answers refusal file before NotSent before
+  items_unsent r counts sums S' e =
       let S = subst (λ (r : Survey). Surveys q terms lead s r counts sums) e S' in
       refused NotSent (sym (ap (λ (a : Bool). by a mixes large short) (sym asked ∙ S))) (omega arith) (λ old. refl)
 
@@ -68,46 +68,46 @@ module _ (s : List ℕ) (q : Orders) (certis day : ℕ) (before : List ℕ) (l :
     S : Surveys q terms lead s (Sent other) counts sums
     S = subst (λ (r : Survey). Surveys q terms lead s r counts sums) told S'
 
-    none : anyUnsent q lead.to 0 (items_of s) ≡ false
-    none = or_right (itemsBarred terms (items_of s)) (anyUnsent q lead.to 0 (items_of s)) S.0
+    none : any_unsent q lead.to 0 (items_of s) ≡ false
+    none = or_right (items_barred terms (items_of s)) (any_unsent q lead.to 0 (items_of s)) S.0
 
-    pub items-derived : anyUnderived q 0 (rows_from 1 (lines s)) ≡ false
-    items-derived = sent-derived q lead.to s none
+    pub items_derived : any_underived q 0 (rows_from 1 (lines s)) ≡ false
+    items_derived = sent_derived q lead.to s none
 
-    past-31 : refusal ≡ by false mixes large short
-    past-31 = ap (λ (a : Bool). by a mixes large short) (sym asked ∙ S.0)
+    past_31 : refusal ≡ by false mixes large short
+    past_31 = ap (λ (a : Bool). by a mixes large short) (sym asked ∙ S.0)
 
     mixing : other ≡ mixes
-    mixing = S.1 ∙ same-mixed q (items_of s) lead L none
+    mixing = S.1 ∙ same_mixed q (items_of s) lead L none
 
-    pub items-mixed : other ≡ true → Answers refusal file before Mixed before
-    items-mixed e = refused Mixed (sym (past-31 ∙ ap (λ (b : Bool). by false b large short) (sym mixing ∙ e))) (omega arith) (λ old. refl)
+    pub items_mixed : other ≡ true → Answers refusal file before Mixed before
+    items_mixed e = refused Mixed (sym (past_31 ∙ ap (λ (b : Bool). by false b large short) (sym mixing ∙ e))) (omega arith) (λ old. refl)
 
     module _ (e : other ≡ false) (n : ℕ) (k : n ≡ length (items_of s)) (a : 1 ≤ n) (b : n ≤ 30000) where
-      past-32 : refusal ≡ by false false large short
-      past-32 = past-31 ∙ ap (λ (b : Bool). by false b large short) (sym mixing ∙ e)
+      past_32 : refusal ≡ by false false large short
+      past_32 = past_31 ∙ ap (λ (b : Bool). by false b large short) (sym mixing ∙ e)
 
       abbrev sent : List ℕ
-      sent = sentFile s q certis day n lead.to counts sums
+      sent = sent_file s q certis day n lead.to counts sums
 
-      same-large : any_of isLargeSum sums ≡ any_of isLargeSum (sumsOut q (items_of s))
-      same-large = ap (any_of isLargeSum) S.3 ∙ large-same q (items_of s)
+      same_large : any_of is_large_sum sums ≡ any_of is_large_sum (sums_out q (items_of s))
+      same_large = ap (any_of is_large_sum) S.3 ∙ large_same q (items_of s)
 
-      same-file : any_of isLargeSum sums ≡ false → sent ≡ file
-      unfolding sentFile outputFile
-      same-file z =
-          let to = same-to q (items_of s) lead (omega (arith, k, a)) L none in
+      same_file : any_of is_large_sum sums ≡ false → sent ≡ file
+      unfolding sent_file output_file
+      same_file z =
+          let to = same_to q (items_of s) lead (omega (arith, k, a)) L none in
           let cs = S.2 ∙ counts_whole q (items_of s) (omega (arith, k, b)) in
-          let ss = S.3 ∙ sums-whole q (items_of s) (sym (ap (any_of isLargeSum) S.3) ∙ z) in
-          (λ i. fileOf (textsFrom q 0 0 (rows_from 1 (lines s)) ++ (headingText (closingHeading certis day (to i)) ∷ closingTexts q.start (q.start + (k i - 1)) (cs i) (ss i))))
+          let ss = S.3 ∙ sums_whole q (items_of s) (sym (ap (any_of is_large_sum) S.3) ∙ z) in
+          (λ i. file_of (texts_from q 0 0 (rows_from 1 (lines s)) ++ (heading_text (closing_heading certis day (to i)) ∷ closing_texts q.start (q.start + (k i - 1)) (cs i) (ss i))))
 
-      pub items-sent : {r : Delivered} {after : List ℕ} → Answers (first (linesRefusals (any_of isLargeSum sums) sent (length before))) sent before r after → Answers refusal file before r after
-      items-sent {r} {after} = go (any_of isLargeSum sums) refl
+      pub items_sent : {r : Delivered} {after : List ℕ} → Answers (first (lines_refusals (any_of is_large_sum sums) sent (length before))) sent before r after → Answers refusal file before r after
+      items_sent {r} {after} = go (any_of is_large_sum sums) refl
         where
-          go : (t : Bool) → any_of isLargeSum sums ≡ t → Answers (first (linesRefusals t sent (length before))) sent before r after → Answers refusal file before r after
+          go : (t : Bool) → any_of is_large_sum sums ≡ t → Answers (first (lines_refusals t sent (length before))) sent before r after → Answers refusal file before r after
           go true z A =
-              answers-as (sym (past-32 ∙ ap (λ (c : Bool). by false false (c || ltb 4000000000 (length file)) short) (sym same-large ∙ z))) (λ y. absurd (omega (arith, y))) A
+              answers_as (sym (past_32 ∙ ap (λ (c : Bool). by false false (c || ltb 4000000000 (length file)) short) (sym same_large ∙ z))) (λ y. absurd (omega (arith, y))) A
           go false z A =
-              answers-as
-              ((λ i. first (linesRefusals false (same-file z i) (length before))) ∙ sym (past-32 ∙ ap (λ (c : Bool). by false false (c || ltb 4000000000 (length file)) short) (sym same-large ∙ z)))
-              (λ _. same-file z) A
+              answers_as
+              ((λ i. first (lines_refusals false (same_file z i) (length before))) ∙ sym (past_32 ∙ ap (λ (c : Bool). by false false (c || ltb 4000000000 (length file)) short) (sym same_large ∙ z)))
+              (λ _. same_file z) A

@@ -7,13 +7,13 @@ ghost use Rattle.laws.specs.Lists.{any_of};
 ghost use Rattle.laws.specs.Refusals.{first};
 ghost use Rattle.text.specs.Strings.{Wrote};
 ghost use Rattle.lines.specs.Lines.{lines};
-ghost use Rattle.lines.specs.Texts.{fileOf};
+ghost use Rattle.lines.specs.Texts.{file_of};
 ghost use Rattle.rules.specs.Rows.{rows_from};
 ghost use Rattle.item_reader.specs.Slips.{Headed};
-ghost use Rattle.outgoing_lines.specs.Outgoing.{anyUnderived, itemsText};
+ghost use Rattle.outgoing_lines.specs.Outgoing.{any_underived, items_text};
 ghost use Rattle.surveying.specs.Items.{items_of};
-ghost use Rattle.delivery.specs.Delivery.{isLargeSum, outputFile, deliveredNumber, deliveredOr, Delivers};
-ghost use Rattle.delivery.specs.Model.{Answers, closingRows, linesRefusals, itemsRefusals, sentFile};
+ghost use Rattle.delivery.specs.Delivery.{is_large_sum, output_file, delivered_number, delivered_or, Delivers};
+ghost use Rattle.delivery.specs.Model.{Answers, closing_rows, lines_refusals, items_refusals, sent_file};
 
 use closing_lines::put_closing;
 use heading_writer::put_heading;
@@ -48,7 +48,7 @@ fn put_end(
     sums: &[u64; 10],
 ) -> usize
     requires { 753 ≤ length out.old }
-    ensures text { Wrote out.old 0 (fileOf (closingRows certis day to first last counts.now sums.now)) out.new result }
+    ensures text { Wrote out.old 0 (file_of (closing_rows certis day to first last counts.now sums.now)) out.new result }
     ensures end { result ≤ 753 }
 {
     let h = Heading {
@@ -68,7 +68,7 @@ fn put_end(
 
 // Whether a sum has more digits than a closing item takes.
 fn any_large(sums: &[u64]) -> bool
-    ensures { result ≡ any_of isLargeSum sums.now }
+    ensures { result ≡ any_of is_large_sum sums.now }
 {
     let mut d = 0;
     while d < sums.len() {
@@ -89,9 +89,9 @@ fn put_file(
     rest: &[u8],
     target: &mut [u8],
 ) -> Delivered
-    requires value { anyUnderived (record { outcomes = outcomes.now; standings = standings.now; start = start }) 0 (rows_from 1 (lines items.now)) ≡ false }
+    requires value { any_underived (record { outcomes = outcomes.now; standings = standings.now; start = start }) 0 (rows_from 1 (lines items.now)) ≡ false }
     requires rest_len_bound { length rest.now ≤ 753 }
-    ensures { Answers (first (linesRefusals false (itemsText (record { outcomes = outcomes.entry.now; standings = standings.now; start = start }) items.now ++ rest.now) (length target.old))) (itemsText (record { outcomes = outcomes.entry.now; standings = standings.now; start = start }) items.now ++ rest.now) target.old result target.new }
+    ensures { Answers (first (lines_refusals false (items_text (record { outcomes = outcomes.entry.now; standings = standings.now; start = start }) items.now ++ rest.now) (length target.old))) (items_text (record { outcomes = outcomes.entry.now; standings = standings.now; start = start }) items.now ++ rest.now) target.old result target.new }
 {
     let size = size_of(items, outcomes) + (rest.len() as u64);
     if 4000000000 < size {
@@ -119,9 +119,9 @@ fn deliver_sent(
     sums: &[u64; 10],
     target: &mut [u8],
 ) -> Delivered
-    requires value { anyUnderived (record { outcomes = outcomes.now; standings = standings.now; start = start }) 0 (rows_from 1 (lines items.now)) ≡ false }
+    requires value { any_underived (record { outcomes = outcomes.now; standings = standings.now; start = start }) 0 (rows_from 1 (lines items.now)) ≡ false }
     requires le_n { (1 ≤ n) × (n ≤ 30000) }
-    ensures { Answers (first (linesRefusals (any_of isLargeSum sums.now) (sentFile items.now (record { outcomes = outcomes.entry.now; standings = standings.now; start = start }) certis day n to counts.now sums.now) (length target.old))) (sentFile items.now (record { outcomes = outcomes.entry.now; standings = standings.now; start = start }) certis day n to counts.now sums.now) target.old result target.new }
+    ensures { Answers (first (lines_refusals (any_of is_large_sum sums.now) (sent_file items.now (record { outcomes = outcomes.entry.now; standings = standings.now; start = start }) certis day n to counts.now sums.now) (length target.old))) (sent_file items.now (record { outcomes = outcomes.entry.now; standings = standings.now; start = start }) certis day n to counts.now sums.now) target.old result target.new }
 {
     if any_large(sums) {
         return Delivered::TooLarge;
@@ -145,7 +145,7 @@ fn deliver_items(
 ) -> Delivered
     requires headed { Headed items.now 0 × (0 < length items.now) }
     requires n_value { (n ≡ length (items_of items.now)) × (1 ≤ n) × (n ≤ 30000) }
-    ensures { Answers (first (itemsRefusals items.now (record { outcomes = outcomes.entry.now; standings = standings.now; start = start }) certis day (length target.old))) (outputFile items.now (record { outcomes = outcomes.entry.now; standings = standings.now; start = start }) certis day) target.old result target.new }
+    ensures { Answers (first (items_refusals items.now (record { outcomes = outcomes.entry.now; standings = standings.now; start = start }) certis day (length target.old))) (output_file items.now (record { outcomes = outcomes.entry.now; standings = standings.now; start = start }) certis day) target.old result target.new }
 {
     let outcome = at_or_zero(outcomes, 0);
     let standing = at_or_zero(standings, 0);
@@ -212,7 +212,7 @@ pub fn deliver(
 
 // Document 02's number of an answer, 0 for a file that was written.
 pub fn number_of(r: Delivered) -> u32
-    ensures { result ≡ deliveredNumber r }
+    ensures { result ≡ delivered_number r }
 {
     match r {
         Delivered::Written(_) => 0,
@@ -228,7 +228,7 @@ pub fn number_of(r: Delivered) -> u32
 
 // How many bytes were written, or another number where none was.
 pub fn written_or(r: Delivered, old: u64) -> u64
-    ensures { result ≡ deliveredOr r old }
+    ensures { result ≡ delivered_or r old }
 {
     match r {
         Delivered::Written(n) => n,

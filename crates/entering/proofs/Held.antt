@@ -6,37 +6,37 @@ use mathlib.Core.Bool.{Bool, true, not, ◌&&◌, ◌||◌}
 use mathlib.Core.List.{List}
 use Rattle.lines.specs.Lines.{body}
 use Rattle.days.specs.Days.{later}
-use Rattle.register.specs.Register.{Range, inOrder, registerOf, is_register}
-use Rattle.register.specs.Entering.{Use, kept, holds, standsIn, addAll, entered}
+use Rattle.register.specs.Register.{Range, in_order, register_of, is_register}
+use Rattle.register.specs.Entering.{Use, kept, holds, stands_in, add_all, entered}
 use Rattle.register.specs.Spans.{Sound}
-use Rattle.register.proofs.Sets.{order-strung, strung-order, kept-members, all-members, all_sound, all-ordered, determined}
-use Rattle.register.proofs.Formed.{Formed, formed, stand-sound}
-use Rattle.adding.proofs.Uses.{uses-fit, kept-strung, kept-sound}
-use Rattle.adding.proofs.Lengths.{is-formed}
-use Rattle.entering.specs.Jobs.{usesOf}
+use Rattle.register.proofs.Sets.{order_strung, strung_order, kept_members, all_members, all_sound, all_ordered, determined}
+use Rattle.register.proofs.Formed.{Formed, formed, stand_sound}
+use Rattle.adding.proofs.Uses.{uses_fit, kept_strung, kept_sound}
+use Rattle.adding.proofs.Lengths.{is_formed}
+use Rattle.entering.specs.Jobs.{uses_of}
 
 module _ (register file : List ℕ) (day : ℕ) (e : is_register register ≡ true) where
-  f : Formed (registerOf register)
-  f = formed (registerOf register) (is-formed register e)
+  f : Formed (register_of register)
+  f = formed (register_of register) (is_formed register e)
 
-  S₀ : Sound (registerOf register).ranges
-  S₀ = stand-sound (registerOf register).latest (registerOf register).ranges f.stand
+  S₀ : Sound (register_of register).ranges
+  S₀ = stand_sound (register_of register).latest (register_of register).ranges f.stand
 
-  S : Sound (kept day (registerOf register).ranges)
-  S = kept-sound day (registerOf register).ranges S₀
+  S : Sound (kept day (register_of register).ranges)
+  S = kept_sound day (register_of register).ranges S₀
 
-  O : inOrder (kept day (registerOf register).ranges) ≡ true
-  O = strung-order 0 (kept day (registerOf register).ranges) S (kept-strung 0 day (registerOf register).ranges (order-strung (registerOf register).ranges S₀ f.order))
+  O : in_order (kept day (register_of register).ranges) ≡ true
+  O = strung_order 0 (kept day (register_of register).ranges) S (kept_strung 0 day (register_of register).ranges (order_strung (register_of register).ranges S₀ f.order))
 
-  pub entered-holds : (v : Use) → holds (entered (registerOf register) day (usesOf file)).ranges v ≡ ((holds (registerOf register).ranges v && not (later day v.day 10)) || standsIn v (usesOf file))
-  entered-holds v =
-      all-members (usesOf file) v (kept day (registerOf register).ranges) (uses-fit 1 (body file)) S O
-      ∙ ap (λ (b : Bool). b || standsIn v (usesOf file)) (kept-members day (registerOf register).ranges v)
+  pub entered_holds : (v : Use) → holds (entered (register_of register) day (uses_of file)).ranges v ≡ ((holds (register_of register).ranges v && not (later day v.day 10)) || stands_in v (uses_of file))
+  entered_holds v =
+      all_members (uses_of file) v (kept day (register_of register).ranges) (uses_fit 1 (body file)) S O
+      ∙ ap (λ (b : Bool). b || stands_in v (uses_of file)) (kept_members day (register_of register).ranges v)
 
-  pub entered_only : (rs : List Range) → Sound rs → inOrder rs ≡ true → ((v : Use) → holds rs v ≡ ((holds (registerOf register).ranges v && not (later day v.day 10)) || standsIn v (usesOf file)))
-      → rs ≡ (entered (registerOf register) day (usesOf file)).ranges
+  pub entered_only : (rs : List Range) → Sound rs → in_order rs ≡ true → ((v : Use) → holds rs v ≡ ((holds (register_of register).ranges v && not (later day v.day 10)) || stands_in v (uses_of file)))
+      → rs ≡ (entered (register_of register) day (uses_of file)).ranges
   entered_only rs R P same =
-      determined rs (addAll (usesOf file) (kept day (registerOf register).ranges)) R
-      (all_sound (usesOf file) (kept day (registerOf register).ranges) (uses-fit 1 (body file)) S)
-      P (all-ordered (usesOf file) (kept day (registerOf register).ranges) (uses-fit 1 (body file)) S O)
-      (λ v F. same v ∙ sym (entered-holds v))
+      determined rs (add_all (uses_of file) (kept day (register_of register).ranges)) R
+      (all_sound (uses_of file) (kept day (register_of register).ranges) (uses_fit 1 (body file)) S)
+      P (all_ordered (uses_of file) (kept day (register_of register).ranges) (uses_fit 1 (body file)) S O)
+      (λ v F. same v ∙ sym (entered_holds v))

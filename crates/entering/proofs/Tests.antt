@@ -11,108 +11,108 @@ use Rattle.laws.specs.Refusals.{Refusal, ◌if◌, first}
 use Rattle.laws.proofs.Put.{put_is}
 use Rattle.text.specs.Strings.{Wrote}
 use Rattle.lines.specs.Lines.{body}
-use Rattle.file_body.proofs.Body.{body-take}
+use Rattle.file_body.proofs.Body.{body_take}
 use Rattle.rules.specs.Terms.{input}
 use Rattle.rules.specs.Faults.{faults}
-use Rattle.item_reader.specs.Slips.{slipsFrom}
+use Rattle.item_reader.specs.Slips.{slips_from}
 use Rattle.listing.specs.declared.checking.Checked.{Checked}
 use Rattle.listing.specs.declared.checking.Checked.TheVariants.{Total, Refused}
 use Rattle.listing.specs.declared.checking.Unchecked.{Unchecked}
-use Rattle.listing.proofs.Answers.{body-and-mark}
+use Rattle.listing.proofs.Answers.{body_and_mark}
 use Rattle.listing.proofs.Unique.{some_number}
-use Rattle.listing.specs.Checking.{checkRefusals, uncheckedNumber, checkedNumber, checkedOr, Totals}
-use Rattle.register.specs.Register.{headBytes, registerBytes, registerOf, is_register}
+use Rattle.listing.specs.Checking.{check_refusals, unchecked_number, checked_number, checked_or, Totals}
+use Rattle.register.specs.Register.{head_bytes, register_bytes, register_of, is_register}
 use Rattle.register.specs.Entering.{used, entered}
-use Rattle.register.proofs.RoundTrip.{length-register}
+use Rattle.register.proofs.RoundTrip.{length_register}
 use Rattle.entering.specs.declared.blanking.Blanked.TheVariants.{Done, BadCode as BadBlank, TooShort as TooShortBlank}
 use Rattle.adding.specs.declared.Entered.{Entered}
 use Rattle.adding.specs.declared.Entered.TheVariants.{Refused as RefusedBy, NotRegister, OtherCode, DayBefore, HasFaults}
-use Rattle.adding.specs.Answers.{usesRefusals}
-use Rattle.entering.specs.Jobs.{usesOf, enterRefusals, Enters, newRegister, Blanks}
+use Rattle.adding.specs.Answers.{uses_refusals}
+use Rattle.entering.specs.Jobs.{uses_of, enter_refusals, Enters, new_register, Blanks}
 use Rattle.adding.specs.Steps.{EntersUses}
-use Rattle.adding.proofs.Answered.{refused, answers-as}
-use Rattle.laws.proofs.Refusals.{none-applies, first-here, first_past}
+use Rattle.adding.proofs.Answered.{refused, answers_as}
+use Rattle.laws.proofs.Refusals.{none_applies, first_here, first_past}
 
 -- ---- entering
 module _ (register file : List ℕ) (code day : ℕ) (before : List ℕ) where
   abbrev refusal : ℕ
-  refusal = first (enterRefusals register file code day (length before))
+  refusal = first (enter_refusals register file code day (length before))
 
-  abbrev from-24 : List Refusal
-  from-24 =
-      (24 if not (eqb (registerOf register).code code)) ∷
-      (25 if ltb day (registerOf register).latest) ∷
+  abbrev from_24 : List Refusal
+  from_24 =
+      (24 if not (eqb (register_of register).code code)) ∷
+      (25 if ltb day (register_of register).latest) ∷
       (26 if not (eqb (length (faults (input code day) file)) 0)) ∷
-      usesRefusals (registerOf register) (usesOf file) day (length before)
+      uses_refusals (register_of register) (uses_of file) day (length before)
 
   module _ {c : Checked} (C : Totals file (input code day) c) where
-    pub refused-by : (u : Unchecked) → c ≡ Refused u → Enters register file code day before (RefusedBy u) before
-    refused-by u e =
+    pub refused_by : (u : Unchecked) → c ≡ Refused u → Enters register file code day before (RefusedBy u) before
+    refused_by u e =
         refused (RefusedBy u)
-        (sym (first-here (checkRefusals file (input code day) 0 0 0) ((23 if not (is_register register)) ∷ from-24) (uncheckedNumber u) (sym (sym (ap checkedNumber e) ∙ C.number)) (some_number u)))
+        (sym (first_here (check_refusals file (input code day) 0 0 0) ((23 if not (is_register register)) ∷ from_24) (unchecked_number u) (sym (sym (ap checked_number e) ∙ C.number)) (some_number u)))
         (some_number u) (λ old. refl)
 
     module _ (n : ℕ) (e : c ≡ Total n) where
-      none : first (checkRefusals file (input code day) 0 0 0) ≡ 0
-      none = sym (sym (ap checkedNumber e) ∙ C.number)
+      none : first (check_refusals file (input code day) 0 0 0) ≡ 0
+      none = sym (sym (ap checked_number e) ∙ C.number)
 
-      pub total-is : n ≡ length (faults (input code day) file)
-      total-is =
-          sym (ap (λ (c : Checked). checkedOr c 0) e) ∙ C.total 0
-          ∙ ap (λ (b : Bool). cond b (length (faults (input code day) file)) 0) (eq-eqb (first (checkRefusals file (input code day) 0 0 0)) 0 none)
+      pub total_is : n ≡ length (faults (input code day) file)
+      total_is =
+          sym (ap (λ (c : Checked). checked_or c 0) e) ∙ C.total 0
+          ∙ ap (λ (b : Bool). cond b (length (faults (input code day) file)) 0) (eq-eqb (first (check_refusals file (input code day) 0 0 0)) 0 none)
 
-      pub not-long : length file ≤ 10000000
-      not-long = ltb-false 10000000 (length file) (none-applies (checkRefusals file (input code day) 0 0 0) tt none).1.1.0
+      pub not_long : length file ≤ 10000000
+      not_long = ltb-false 10000000 (length file) (none_applies (check_refusals file (input code day) 0 0 0) tt none).1.1.0
 
       -- the mark stands, and it stands last
-      pub mark-last : (1 ≤ length file) × (length file - 1 ≡ length (body file))
-      mark-last = let b = body-and-mark file (input code day) 0 0 0 none in (omega (arith, b), omega (arith, b))
+      pub mark_last : (1 ≤ length file) × (length file - 1 ≡ length (body file))
+      mark_last = let b = body_and_mark file (input code day) 0 0 0 none in (omega (arith, b), omega (arith, b))
 
-      past : refusal ≡ first ((23 if not (is_register register)) ∷ from-24)
-      past = first_past (checkRefusals file (input code day) 0 0 0) ((23 if not (is_register register)) ∷ from-24) tt none
+      past : refusal ≡ first ((23 if not (is_register register)) ∷ from_24)
+      past = first_past (check_refusals file (input code day) 0 0 0) ((23 if not (is_register register)) ∷ from_24) tt none
 
       pub not_register : is_register register ≡ false → Enters register file code day before NotRegister before
-      not_register a = refused NotRegister (sym (past ∙ ap (λ (b : Bool). first ((23 if not b) ∷ from-24)) a)) (omega arith) (λ old. refl)
+      not_register a = refused NotRegister (sym (past ∙ ap (λ (b : Bool). first ((23 if not b) ∷ from_24)) a)) (omega arith) (λ old. refl)
 
       module _ (a : is_register register ≡ true) where
-        past-23 : refusal ≡ first from-24
-        past-23 = past ∙ ap (λ (b : Bool). first ((23 if not b) ∷ from-24)) a
+        past_23 : refusal ≡ first from_24
+        past_23 = past ∙ ap (λ (b : Bool). first ((23 if not b) ∷ from_24)) a
 
-        pub other-code : ((registerOf register).code ≡ code → ⊥) → Enters register file code day before OtherCode before
-        other-code h =
+        pub other_code : ((register_of register).code ≡ code → ⊥) → Enters register file code day before OtherCode before
+        other_code h =
             refused OtherCode
-            (sym (past-23 ∙ ap (λ (b : Bool). first ((24 if not b) ∷ (25 if ltb day (registerOf register).latest) ∷ (26 if not (eqb (length (faults (input code day) file)) 0)) ∷ usesRefusals (registerOf register) (usesOf file) day (length before))) (ne_eqb (registerOf register).code code h)))
+            (sym (past_23 ∙ ap (λ (b : Bool). first ((24 if not b) ∷ (25 if ltb day (register_of register).latest) ∷ (26 if not (eqb (length (faults (input code day) file)) 0)) ∷ uses_refusals (register_of register) (uses_of file) day (length before))) (ne_eqb (register_of register).code code h)))
             (omega arith) (λ old. refl)
 
-        module _ (b : (registerOf register).code ≡ code) where
-          past-24 : refusal ≡ first ((25 if ltb day (registerOf register).latest) ∷ (26 if not (eqb (length (faults (input code day) file)) 0)) ∷ usesRefusals (registerOf register) (usesOf file) day (length before))
-          past-24 = past-23 ∙ ap (λ (b : Bool). first ((24 if not b) ∷ (25 if ltb day (registerOf register).latest) ∷ (26 if not (eqb (length (faults (input code day) file)) 0)) ∷ usesRefusals (registerOf register) (usesOf file) day (length before))) (eq-eqb (registerOf register).code code b)
+        module _ (b : (register_of register).code ≡ code) where
+          past_24 : refusal ≡ first ((25 if ltb day (register_of register).latest) ∷ (26 if not (eqb (length (faults (input code day) file)) 0)) ∷ uses_refusals (register_of register) (uses_of file) day (length before))
+          past_24 = past_23 ∙ ap (λ (b : Bool). first ((24 if not b) ∷ (25 if ltb day (register_of register).latest) ∷ (26 if not (eqb (length (faults (input code day) file)) 0)) ∷ uses_refusals (register_of register) (uses_of file) day (length before))) (eq-eqb (register_of register).code code b)
 
-          pub day-before : day < (registerOf register).latest → Enters register file code day before DayBefore before
-          day-before h =
+          pub day_before : day < (register_of register).latest → Enters register file code day before DayBefore before
+          day_before h =
               refused DayBefore
-              (sym (past-24 ∙ ap (λ (b : Bool). first ((25 if b) ∷ (26 if not (eqb (length (faults (input code day) file)) 0)) ∷ usesRefusals (registerOf register) (usesOf file) day (length before))) (lt-ltb day (registerOf register).latest h)))
+              (sym (past_24 ∙ ap (λ (b : Bool). first ((25 if b) ∷ (26 if not (eqb (length (faults (input code day) file)) 0)) ∷ uses_refusals (register_of register) (uses_of file) day (length before))) (lt-ltb day (register_of register).latest h)))
               (omega arith) (λ old. refl)
 
-          module _ (d : (registerOf register).latest ≤ day) where
-            past-25 : refusal ≡ first ((26 if not (eqb (length (faults (input code day) file)) 0)) ∷ usesRefusals (registerOf register) (usesOf file) day (length before))
-            past-25 = past-24 ∙ ap (λ (b : Bool). first ((25 if b) ∷ (26 if not (eqb (length (faults (input code day) file)) 0)) ∷ usesRefusals (registerOf register) (usesOf file) day (length before))) (le-ltb day (registerOf register).latest d)
+          module _ (d : (register_of register).latest ≤ day) where
+            past_25 : refusal ≡ first ((26 if not (eqb (length (faults (input code day) file)) 0)) ∷ uses_refusals (register_of register) (uses_of file) day (length before))
+            past_25 = past_24 ∙ ap (λ (b : Bool). first ((25 if b) ∷ (26 if not (eqb (length (faults (input code day) file)) 0)) ∷ uses_refusals (register_of register) (uses_of file) day (length before))) (le-ltb day (register_of register).latest d)
 
-            pub has-faults : (n ≡ 0 → ⊥) → Enters register file code day before HasFaults before
-            has-faults h =
+            pub has_faults : (n ≡ 0 → ⊥) → Enters register file code day before HasFaults before
+            has_faults h =
                 refused HasFaults
-                (sym (past-25 ∙ ap (λ (b : Bool). first ((26 if not b) ∷ usesRefusals (registerOf register) (usesOf file) day (length before))) (ne_eqb (length (faults (input code day) file)) 0 (λ z. h (total-is ∙ z)))))
+                (sym (past_25 ∙ ap (λ (b : Bool). first ((26 if not b) ∷ uses_refusals (register_of register) (uses_of file) day (length before))) (ne_eqb (length (faults (input code day) file)) 0 (λ z. h (total_is ∙ z)))))
                 (omega arith) (λ old. refl)
 
-            pub items : n ≡ 0 → (k : ℕ) → k ≡ length (body file) → {r : Entered} {after : List ℕ} → EntersUses (registerOf register) (used (slipsFrom 1 (take k file))) code day before r after
+            pub items : n ≡ 0 → (k : ℕ) → k ≡ length (body file) → {r : Entered} {after : List ℕ} → EntersUses (register_of register) (used (slips_from 1 (take k file))) code day before r after
                 → Enters register file code day before r after
             items z k q {r} {after} A =
-                let t : take k file ≡ body file = ap (λ (n : ℕ). take n file) q ∙ body-take file in
-                let A' : EntersUses (registerOf register) (usesOf file) code day before r after =
-                subst (λ (s : List ℕ). EntersUses (registerOf register) (used (slipsFrom 1 s)) code day before r after) t A in
-                let w : refusal ≡ first (usesRefusals (registerOf register) (usesOf file) day (length before)) =
-                past-25 ∙ ap (λ (b : Bool). first ((26 if not b) ∷ usesRefusals (registerOf register) (usesOf file) day (length before))) (eq-eqb (length (faults (input code day) file)) 0 (sym total-is ∙ z)) in
-                answers-as (sym w) (λ _. ap (λ (k : ℕ). record { code = k; latest = day; ranges = (entered (registerOf register) day (usesOf file)).ranges }) (sym b)) A'
+                let t : take k file ≡ body file = ap (λ (n : ℕ). take n file) q ∙ body_take file in
+                let A' : EntersUses (register_of register) (uses_of file) code day before r after =
+                subst (λ (s : List ℕ). EntersUses (register_of register) (used (slips_from 1 s)) code day before r after) t A in
+                let w : refusal ≡ first (uses_refusals (register_of register) (uses_of file) day (length before)) =
+                past_25 ∙ ap (λ (b : Bool). first ((26 if not b) ∷ uses_refusals (register_of register) (uses_of file) day (length before))) (eq-eqb (length (faults (input code day) file)) 0 (sym total_is ∙ z)) in
+                answers_as (sym w) (λ _. ap (λ (k : ℕ). record { code = k; latest = day; ranges = (entered (register_of register) day (uses_of file)).ranges }) (sym b)) A'
 
 pub front_fits : (k : ℕ) (l : List ℕ) → length (take k l) ≤ length l
 front_fits zero l = omega arith
@@ -121,28 +121,28 @@ front_fits (suc k) (x ∷ l) = let h = front_fits k l in omega arith
 
 -- ---- a new register
 module _ (code : ℕ) (before : List ℕ) where
-  bad-is : (ltb code 1 || ltb 9999 code) ≡ not (leb 1 code && leb code 9999)
-  bad-is = go (ltb code 1) refl (ltb 9999 code) refl
+  bad_is : (ltb code 1 || ltb 9999 code) ≡ not (leb 1 code && leb code 9999)
+  bad_is = go (ltb code 1) refl (ltb 9999 code) refl
     where
       go : (x : Bool) → ltb code 1 ≡ x → (y : Bool) → ltb 9999 code ≡ y → (x || y) ≡ not (leb 1 code && leb code 9999)
       go true p y q = rw (lt-leb 1 code (ltb-true code 1 p))
       go false p true q = rw (le-leb 1 code (ltb-false code 1 p), lt-leb code 9999 (ltb-true 9999 code q))
       go false p false q = rw (le-leb 1 code (ltb-false code 1 p), le-leb code 9999 (ltb-false 9999 code q))
 
-  pub blank-bad : (ltb code 1 || ltb 9999 code) ≡ true → Blanks code before BadBlank before
-  blank-bad a = let b : not (leb 1 code && leb code 9999) ≡ true = sym bad-is ∙ a in record { number = rw b; target = rw b }
+  pub blank_bad : (ltb code 1 || ltb 9999 code) ≡ true → Blanks code before BadBlank before
+  blank_bad a = let b : not (leb 1 code && leb code 9999) ≡ true = sym bad_is ∙ a in record { number = rw b; target = rw b }
 
   module _ (a : (ltb code 1 || ltb 9999 code) ≡ false) where
     b : not (leb 1 code && leb code 9999) ≡ false
-    b = sym bad-is ∙ a
+    b = sym bad_is ∙ a
 
-    pub blank-short : length before < 13 → Blanks code before TooShortBlank before
-    blank-short h = let c : ltb (length before) 13 ≡ true = lt-ltb _ _ h in record { number = rw (b, c); target = rw (b, c) }
+    pub blank_short : length before < 13 → Blanks code before TooShortBlank before
+    blank_short h = let c : ltb (length before) 13 ≡ true = lt-ltb _ _ h in record { number = rw (b, c); target = rw (b, c) }
 
-    pub blank-done : 13 ≤ length before → {after : List ℕ} {n : ℕ} → Wrote before 0 (headBytes code 0 0) after n → Blanks code before Done after
-    blank-done h {after} w =
+    pub blank_done : 13 ≤ length before → {after : List ℕ} {n : ℕ} → Wrote before 0 (head_bytes code 0 0) after n → Blanks code before Done after
+    blank_done h {after} w =
         let c : ltb (length before) 13 ≡ false = le-ltb _ _ h in
-        let l : 0 + length (headBytes code 0 0) ≡ 13 = (let s = length-register (newRegister code) in let t = ap length (append-nil (headBytes code 0 0)) in omega arith) in
-        let q : after ≡ registerBytes (newRegister code) ++ drop 13 before =
-        w.holds ∙ put_is before 0 (headBytes code 0 0) ∙ (λ i. sym (append-nil (headBytes code 0 0)) i ++ drop (l i) before) in
+        let l : 0 + length (head_bytes code 0 0) ≡ 13 = (let s = length_register (new_register code) in let t = ap length (append-nil (head_bytes code 0 0)) in omega arith) in
+        let q : after ≡ register_bytes (new_register code) ++ drop 13 before =
+        w.holds ∙ put_is before 0 (head_bytes code 0 0) ∙ (λ i. sym (append-nil (head_bytes code 0 0)) i ++ drop (l i) before) in
         record { number = rw (b, c); target = q ∙ (rw (b, c)) }

@@ -1,6 +1,6 @@
 // A new register for a participant.
 ghost use Rattle.std.specs.Prelude.{◌≡◌};
-ghost use Rattle.entering.specs.Jobs.{blankedNumber, Blanks};
+ghost use Rattle.entering.specs.Jobs.{blanked_number, Blanks};
 
 #[derive(Drop)]
 pub enum Blanked {
@@ -24,7 +24,7 @@ pub fn blank(code: u32, target: &mut [u8]) -> Blanked
 
 // Its number by documents 01 and 02, 0 for a register that was written.
 pub fn number_of(r: Blanked) -> u32
-    ensures { result ≡ blankedNumber r }
+    ensures { result ≡ blanked_number r }
 {
     match r {
         Blanked::Done => 0,

@@ -1,6 +1,6 @@
 // Entering a file in a register.
 ghost use Rattle.std.specs.Prelude.{◌≡◌};
-ghost use Rattle.adding.specs.Answers.{enteredNumber, writtenOr};
+ghost use Rattle.adding.specs.Answers.{entered_number, written_or};
 ghost use Rattle.entering.specs.Jobs.{Enters};
 
 use adding::{Entered, enter_items};
@@ -36,7 +36,7 @@ pub fn enter(register: &[u8], file: &[u8], code: u32, day: u32, target: &mut [u8
 
 // Document 02's number of an answer, 0 for a register that was written.
 pub fn number_of(r: Entered) -> u32
-    ensures { result ≡ enteredNumber r }
+    ensures { result ≡ entered_number r }
 {
     match r {
         Entered::Written(_) => 0,
@@ -53,7 +53,7 @@ pub fn number_of(r: Entered) -> u32
 
 // How many bytes were written, or another number where none was.
 pub fn written_or(r: Entered, old: usize) -> usize
-    ensures { result ≡ writtenOr r old }
+    ensures { result ≡ written_or r old }
 {
     match r {
         Entered::Written(n) => n,

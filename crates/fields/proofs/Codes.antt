@@ -10,8 +10,8 @@ use Rattle.laws.proofs.Entries.{and_left, and_right}
 use Rattle.fields.specs.declared.classes.Class.{Class}
 use Rattle.fields.specs.declared.classes.Class.TheVariants.{Money, Number, Range, Group, Account, Text, Free}
 use Rattle.fields.specs.Kinds.{place}
-use Rattle.fields.specs.Classes.{moneyFields, numberFields, rangeFields, groupFields, accountFields, textFields, class_of}
-use Rattle.fields.specs.Codes.{codeBy, code_of, claims}
+use Rattle.fields.specs.Classes.{money_fields, number_fields, range_fields, group_fields, account_fields, text_fields, class_of}
+use Rattle.fields.specs.Codes.{code_by, code_of, claims}
 
 -- a list with v at each of some places
 abbrev fill : List ℕ → ℕ → List ℕ → List ℕ
@@ -20,7 +20,7 @@ fill (k ∷ ks) v l = fill ks v (set l k v)
 
 -- the table as the code fills it; both sides are computed at each place
 abbrev table : List ℕ
-table = fill moneyFields 1 (fill numberFields 2 (fill rangeFields 5 (fill groupFields 6 (fill accountFields 3 (fill textFields 4 (replicate 1296 0))))))
+table = fill money_fields 1 (fill number_fields 2 (fill range_fields 5 (fill group_fields 6 (fill account_fields 3 (fill text_fields 4 (replicate 1296 0))))))
 
 -- a list holds g's numbers from i on: one walk over it computes that, and then each place can be asked
 abbrev holds : (ℕ → ℕ) → ℕ → List ℕ → Bool
@@ -33,15 +33,15 @@ held g i (x ∷ l) t zero h = eqb→eq x (g i) (and_left (eqb x (g i)) (holds g 
 held g i (x ∷ l) t (suc k) h =
     held g (suc i) l (and_right (eqb x (g i)) (holds g (suc i) l) t) k (le_of_suc-le-suc h) ∙ ap g (suc-add i k ∙ sym (add-suc i k))
 
-pub codes-are : (i : ℕ) → i < 1296 → get_or table i 0 ≡ code_of i
+pub codes_are : (i : ℕ) → i < 1296 → get_or table i 0 ≡ code_of i
 unfolding place class_of code_of
-codes-are i h = held code_of 0 table tt i h ∙ ap code_of (zero-add i)
+codes_are i h = held code_of 0 table tt i h ∙ ap code_of (zero-add i)
 
 -- no two classes have one number: it tells the class
 abbrev class_at : ℕ → Class
 class_at n = cond (eqb n 1) Money (cond (eqb n 2) Number (cond (eqb n 3) Account (cond (eqb n 4) Text (cond (eqb n 5) Range (cond (eqb n 6) Group Free)))))
 
-back : (k : Class) → class_at (codeBy k) ≡ k
+back : (k : Class) → class_at (code_by k) ≡ k
 back Money = refl
 back Number = refl
 back Range = refl
@@ -50,14 +50,14 @@ back Account = refl
 back Text = refl
 back Free = refl
 
-pub same_code : (j k : Class) {n : ℕ} → codeBy k ≡ n → n ≡ codeBy j → j ≡ k
+pub same_code : (j k : Class) {n : ℕ} → code_by k ≡ n → n ≡ code_by j → j ≡ k
 same_code j k e f = sym (back j) ∙ ap class_at (sym (e ∙ f)) ∙ back k
 
 -- what class is left, where the numbers of the others were asked for
-pub left-claim : (k : Class) {n : ℕ} → codeBy k ≡ n → claims n ≡ true → (n ≡ 1 → ⊥) → (n ≡ 5 → ⊥) → Group ≡ k
-left-claim k e c p q = go k (rw e c) (λ d. p (sym e ∙ d)) (λ d. q (sym e ∙ d))
+pub left_claim : (k : Class) {n : ℕ} → code_by k ≡ n → claims n ≡ true → (n ≡ 1 → ⊥) → (n ≡ 5 → ⊥) → Group ≡ k
+left_claim k e c p q = go k (rw e c) (λ d. p (sym e ∙ d)) (λ d. q (sym e ∙ d))
   where
-    go : (k : Class) → claims (codeBy k) ≡ true → (codeBy k ≡ 1 → ⊥) → (codeBy k ≡ 5 → ⊥) → Group ≡ k
+    go : (k : Class) → claims (code_by k) ≡ true → (code_by k ≡ 1 → ⊥) → (code_by k ≡ 5 → ⊥) → Group ≡ k
     go Money c p q = absurd (p refl)
     go Number c p q = absurd (false≢true c)
     go Range c p q = absurd (q refl)

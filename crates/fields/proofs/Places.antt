@@ -12,8 +12,8 @@ use borrow.Author.Tests.{ne_eqb, le-leb, lt-ltb, leb-true, ltb-true, eqb-true, e
 use Rattle.laws.specs.Tests.{among}
 use Rattle.laws.proofs.Finite.{at}
 use Rattle.laws.proofs.Truth.{and_parts}
-use Rattle.fields.specs.Kinds.{symbols, place, identOf, isField}
-use Rattle.fields.specs.Classes.{groupFields, sumGroup}
+use Rattle.fields.specs.Kinds.{symbols, place, ident_of, is_field}
+use Rattle.fields.specs.Classes.{group_fields, sum_group}
 
 -- a number stands in a list just where its place is in it
 pub place_in : (x : ℕ) (ys : List ℕ) → ltb (place x ys) (length ys) ≡ among x ys
@@ -25,10 +25,10 @@ place_in x (y ∷ ys) = go (eqb x y) (place_in x ys)
     go true e = lt-ltb 0 (suc (length ys)) (omega arith)
     go false e = simp leb-suc-suc e
 
-pub place-most : (x : ℕ) (ys : List ℕ) → place x ys ≤ length ys
+pub place_most : (x : ℕ) (ys : List ℕ) → place x ys ≤ length ys
 unfolding place
-place-most x [] = omega arith
-place-most x (y ∷ ys) = go (eqb x y) (place-most x ys)
+place_most x [] = omega arith
+place_most x (y ∷ ys) = go (eqb x y) (place_most x ys)
   where
     go : (t : Bool) → place x ys ≤ length ys → cond t 0 (suc (place x ys)) ≤ suc (length ys)
     go true h = omega arith
@@ -51,8 +51,8 @@ two_digits : (a b c d : ℕ) → b < 36 → d < 36 → a * 36 + b ≡ c * 36 + d
 two_digits a b c d h k e = (omega arith, omega arith)
 
 -- fields with one number have one identifier: rule 5 and 'first KC' ask for numbers and mean identifiers
-pub same-identifier : (l m : List ℕ) → isField l ≡ true → isField m ≡ true → identOf l ≡ identOf m → (get_or l 0 0 ≡ get_or m 0 0) × (get_or l 1 0 ≡ get_or m 1 0)
-same-identifier l m p q e =
+pub same_identifier : (l m : List ℕ) → is_field l ≡ true → is_field m ≡ true → ident_of l ≡ ident_of m → (get_or l 0 0 ≡ get_or m 0 0) × (get_or l 1 0 ≡ get_or m 1 0)
+same_identifier l m p q e =
     let f = and_parts (among (get_or l 0 0) symbols) (among (get_or l 1 0) symbols) (and_parts (among (get_or l 0 0) symbols && among (get_or l 1 0) symbols) (eqb (get_or l 2 0) 0x3A) p).0 in
     let g = and_parts (among (get_or m 0 0) symbols) (among (get_or m 1 0) symbols) (and_parts (among (get_or m 0 0) symbols && among (get_or m 1 0) symbols) (eqb (get_or m 2 0) 0x3A) q).0 in
     let h : place (get_or l 1 0) symbols < 36 = ltb-true _ _ (place_in (get_or l 1 0) symbols ∙ f.1) in
@@ -64,9 +64,9 @@ same-identifier l m p q e =
 abbrev pub found : ℕ → ℕ
 found b = cond (leb 48 b && leb b 57) (b - 48) (cond (leb 65 b && leb b 90) (b - 55) 36)
 
-pub symbol-at : (b : ℕ) → b < 256 → found b ≡ place b symbols
+pub symbol_at : (b : ℕ) → b < 256 → found b ≡ place b symbols
 unfolding place
-symbol-at b h = eqb→eq _ _ (at (λ c. eqb (found c) (place c symbols)) 256 tt b h)
+symbol_at b h = eqb→eq _ _ (at (λ c. eqb (found c) (place c symbols)) 256 tt b h)
 
 -- the table of places, as the code fills it, symbol by symbol
 abbrev pub filled : ℕ → List ℕ
@@ -77,8 +77,8 @@ pub filled_is : (b : ℕ) → b < 256 → get_or (filled 36) b 0 ≡ place b sym
 unfolding place
 filled_is b h = eqb→eq _ _ (at (λ c. eqb (get_or (filled 36) c 0) (place c symbols)) 256 tt b h)
 
-pub symbol-few : (k : ℕ) → k < 36 → get_or symbols k 0 < 256
-symbol-few k h = ltb→lt _ _ (at (λ i. ltb (get_or symbols i 0) 256) 36 tt k h)
+pub symbol_few : (k : ℕ) → k < 36 → get_or symbols k 0 < 256
+symbol_few k h = ltb→lt _ _ (at (λ i. ltb (get_or symbols i 0) 256) 36 tt k h)
 
 -- n numbers from a on
 abbrev row : ℕ → ℕ → List ℕ
@@ -102,17 +102,17 @@ row_out i a zero h = refl
 row_out i a (suc n) h = rw (ne_eqb i a (λ e. h (omega arith) (omega arith)), row_out i (suc a) n (λ p q. h (omega arith) (omega arith)))
 
 -- the groups stand in a row
-groups : groupFields ≡ row 1008 10
+groups : group_fields ≡ row 1008 10
 unfolding place
 groups = refl
 
 module _ (i : ℕ) where
-  pub group-in : (leb 1008 i && ltb i 1018) ≡ true → i - 1008 ≡ sumGroup i
-  unfolding sumGroup
-  group-in e =
+  pub group_in : (leb 1008 i && ltb i 1018) ≡ true → i - 1008 ≡ sum_group i
+  unfolding sum_group
+  group_in e =
       let p = and_parts (leb 1008 i) (ltb i 1018) e in
       sym (rw groups (row_in i 1008 10 (leb-true 1008 i p.0) (ltb-true i 1018 p.1)))
 
-  pub group-out : (leb 1008 i && ltb i 1018) ≡ false → 10 ≡ sumGroup i
-  unfolding sumGroup
-  group-out e = sym (rw groups (row_out i 1008 10 (λ p q. true≢false (rw (le-leb 1008 i p, lt-ltb i 1018 q) at e))))
+  pub group_out : (leb 1008 i && ltb i 1018) ≡ false → 10 ≡ sum_group i
+  unfolding sum_group
+  group_out e = sym (rw groups (row_out i 1008 10 (λ p q. true≢false (rw (le-leb 1008 i p, lt-ltb i 1018 q) at e))))

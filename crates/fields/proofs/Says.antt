@@ -10,30 +10,30 @@ use lib.Seq.{drop-drop, length-take-le, take_all}
 use lib.Dec.{eqb, leb}
 use Rattle.laws.specs.Refusals.{first}
 use Rattle.laws.proofs.Truth.{and_parts}
-use Rattle.text.specs.Digits.{isDigit, value}
+use Rattle.text.specs.Digits.{is_digit, value}
 use Rattle.number_reader.specs.declared.Run.{Run}
 use Rattle.number_reader.specs.declared.Two.TheVariants.{Found, NotTwo}
 use Rattle.fields.specs.declared.classes.Class.{Class}
 use Rattle.fields.specs.declared.classes.Class.TheVariants.{Money, Number, Range, Group, Account, Text, Free}
 use Rattle.fields.specs.declared.readings.Reading.{Reading}
 use Rattle.fields.specs.declared.readings.Reading.TheVariants.{Broken, Plain, Party}
-use Rattle.figures.specs.Layouts.{Part, num, space, run, headIs, fits, part, maybeName}
-use Rattle.number_reader.specs.Numbers.{number_at, twoOf}
+use Rattle.figures.specs.Layouts.{Part, num, space, run, head_is, fits, part, maybe_name}
+use Rattle.number_reader.specs.Numbers.{number_at, two_of}
 use Rattle.figures.specs.declared.parts.Halves.{Halves}
 use Rattle.figures.specs.declared.accounts.Account.TheVariants.{Judged}
-use Rattle.figures.specs.Accounts.{halvesOf, areDigits, accountOf, accountRefusals}
-use Rattle.fields.specs.Codes.{codeBy, claims}
-use Rattle.fields.specs.Readings.{text_of, layout_of, saidBy, ifFits, reading_of}
-use Rattle.figures.proofs.Runs.{run_length, run-again}
-use Rattle.number_reader.proofs.Told.{tests, not_found, known, size, first-is, second_is}
-use Rattle.figures.proofs.Endings.{bytes-are, empty-past}
+use Rattle.figures.specs.Accounts.{halves_of, are_digits, account_of, account_refusals}
+use Rattle.fields.specs.Codes.{code_by, claims}
+use Rattle.fields.specs.Readings.{text_of, layout_of, said_by, if_fits, reading_of}
+use Rattle.figures.proofs.Runs.{run_length, run_again}
+use Rattle.number_reader.proofs.Told.{tests, not_found, known, size, first_is, second_is}
+use Rattle.figures.proofs.Endings.{bytes_are, empty_past}
 
 module _ (k : Class) (l₁ h₁ l₂ h₂ : ℕ) (ps : List Part) (t : List ℕ) (lay : (layout_of k).own ≡ num l₁ h₁ ∷ space ∷ num l₂ h₂ ∷ ps) where
   abbrev n₁ : ℕ
-  n₁ = run isDigit h₁ t
+  n₁ = run is_digit h₁ t
 
   abbrev n₂ : ℕ
-  n₂ = run isDigit h₂ (drop (n₁ + 1) t)
+  n₂ = run is_digit h₂ (drop (n₁ + 1) t)
 
   abbrev tested : Bool
   tested = tests l₁ h₁ l₂ h₂ t
@@ -45,59 +45,59 @@ module _ (k : Class) (l₁ h₁ l₂ h₂ : ℕ) (ps : List Part) (t : List ℕ)
 
   split : fits (layout_of k).own t ≡ (tested && fits ps (drop (n₁ + 1 + n₂) t))
   unfolding fits
-  split = rw (lay, drop-drop 1 n₁ t, drop-drop n₂ (n₁ + 1) t) (regroup (leb l₁ n₁) (headIs 32 (drop n₁ t)) (leb l₂ n₂) (fits ps (drop (n₁ + 1 + n₂) t)))
+  split = rw (lay, drop-drop 1 n₁ t, drop-drop n₂ (n₁ + 1) t) (regroup (leb l₁ n₁) (head_is 32 (drop n₁ t)) (leb l₂ n₂) (fits ps (drop (n₁ + 1 + n₂) t)))
 
   first_part : part 0 (layout_of k).own t ≡ take n₁ t
   unfolding part
   first_part = rw lay
 
-  second-part : part 1 (layout_of k).own t ≡ take n₂ (drop (n₁ + 1) t)
+  second_part : part 1 (layout_of k).own t ≡ take n₂ (drop (n₁ + 1) t)
   unfolding part
-  second-part = rw (lay, drop-drop 1 n₁ t)
+  second_part = rw (lay, drop-drop 1 n₁ t)
 
-  said : reading_of k t ≡ ifFits (tested && fits ps (drop (n₁ + 1 + n₂) t)) (saidBy k (take n₁ t) (take n₂ (drop (n₁ + 1) t)))
+  said : reading_of k t ≡ if_fits (tested && fits ps (drop (n₁ + 1 + n₂) t)) (said_by k (take n₁ t) (take n₂ (drop (n₁ + 1) t)))
   unfolding reading_of
-  said = rw (split, first_part, second-part)
+  said = rw (split, first_part, second_part)
 
   -- no two numbers: the text is broken, whatever the layout asks after them
-  pub not-two : twoOf l₁ h₁ l₂ h₂ t ≡ NotTwo → Broken ≡ reading_of k t
-  not-two e = sym (said ∙ rw (not_found l₁ h₁ l₂ h₂ t e))
+  pub not_two : two_of l₁ h₁ l₂ h₂ t ≡ NotTwo → Broken ≡ reading_of k t
+  not_two e = sym (said ∙ rw (not_found l₁ h₁ l₂ h₂ t e))
 
-  module _ (v m w z : ℕ) (e : twoOf l₁ h₁ l₂ h₂ t ≡ Found v m w z) where
+  module _ (v m w z : ℕ) (e : two_of l₁ h₁ l₂ h₂ t ≡ Found v m w z) where
     -- two numbers: what is left of the text decides
-    two : ifFits (fits ps (drop z t)) (saidBy k (take m t) (take (z - (m + 1)) (drop (m + 1) t))) ≡ reading_of k t
+    two : if_fits (fits ps (drop z t)) (said_by k (take m t) (take (z - (m + 1)) (drop (m + 1) t))) ≡ reading_of k t
     two = let q = known l₁ h₁ l₂ h₂ t v m w z e in sym (said ∙ rw (q.0, ← size l₁ h₁ l₂ h₂ t v m w z e, q.1, q.4))
 
     -- the code's answer, made of the two texts, or of the two numbers
-    pub made : (r : Reading) (b : Bool) → b ≡ fits ps (drop z t) → r ≡ saidBy k (take m t) (take (z - (m + 1)) (drop (m + 1) t)) → ifFits b r ≡ reading_of k t
+    pub made : (r : Reading) (b : Bool) → b ≡ fits ps (drop z t) → r ≡ said_by k (take m t) (take (z - (m + 1)) (drop (m + 1) t)) → if_fits b r ≡ reading_of k t
     made r b p q = rw (p, q) two
 
     pub made_by : (f : ℕ → ℕ → Reading) (b : Bool) → b ≡ fits ps (drop z t)
-        → f (value (take m t)) (value (take (z - (m + 1)) (drop (m + 1) t))) ≡ saidBy k (take m t) (take (z - (m + 1)) (drop (m + 1) t))
-        → ifFits b (f v w) ≡ reading_of k t
-    made_by f b p q = made (f v w) b p (ap (λ (x : ℕ). f x w) (first-is l₁ h₁ l₂ h₂ t v m w z e) ∙ ap (f (value (take m t))) (second_is l₁ h₁ l₂ h₂ t v m w z e) ∙ q)
+        → f (value (take m t)) (value (take (z - (m + 1)) (drop (m + 1) t))) ≡ said_by k (take m t) (take (z - (m + 1)) (drop (m + 1) t))
+        → if_fits b (f v w) ≡ reading_of k t
+    made_by f b p q = made (f v w) b p (ap (λ (x : ℕ). f x w) (first_is l₁ h₁ l₂ h₂ t v m w z e) ∙ ap (f (value (take m t))) (second_is l₁ h₁ l₂ h₂ t v m w z e) ∙ q)
 
 -- one number
-pub one_number : (t : List ℕ) (a : Run) → a ≡ number_at 10 t 0 → ifFits (leb 1 a.end && fits [] (drop a.end t)) Plain ≡ reading_of Number t
+pub one_number : (t : List ℕ) (a : Run) → a ≡ number_at 10 t 0 → if_fits (leb 1 a.end && fits [] (drop a.end t)) Plain ≡ reading_of Number t
 unfolding reading_of fits
-one_number t a e = let m : a.end ≡ run isDigit 10 t = ap (λ (r : Run). r.end) e ∙ zero-add _ in rw m
+one_number t a e = let m : a.end ≡ run is_digit 10 t = ap (λ (r : Run). r.end) e ∙ zero-add _ in rw m
 
 -- a text
-text : (t : List ℕ) → ifFits (leb 1 (length t) && leb (length t) 35) Plain ≡ reading_of Text t
+text : (t : List ℕ) → if_fits (leb 1 (length t) && leb (length t) 35) Plain ≡ reading_of Text t
 unfolding reading_of
-text t = rw (bytes-are 1 35 t (omega arith))
+text t = rw (bytes_are 1 35 t (omega arith))
 
 -- a text, or any other that is no number, no account and no claim: as the code asks both at once
-pub rest : (k : Class) (t : List ℕ) {n : ℕ} → codeBy k ≡ n → claims n ≡ false → (n ≡ 2 → ⊥) → (n ≡ 3 → ⊥)
-    → ifFits (not (eqb n 4) || (leb 1 (length t) && leb (length t) 35)) Plain ≡ reading_of k t
+pub rest : (k : Class) (t : List ℕ) {n : ℕ} → code_by k ≡ n → claims n ≡ false → (n ≡ 2 → ⊥) → (n ≡ 3 → ⊥)
+    → if_fits (not (eqb n 4) || (leb 1 (length t) && leb (length t) 35)) Plain ≡ reading_of k t
 unfolding reading_of fits
 rest Money t e c p q = absurd (true≢false (ap claims e ∙ c))
 rest Number t e c p q = absurd (p (sym e))
 rest Range t e c p q = absurd (true≢false (ap claims e ∙ c))
 rest Group t e c p q = absurd (true≢false (ap claims e ∙ c))
 rest Account t e c p q = absurd (q (sym e))
-rest Text t e c p q = ap (λ (m : ℕ). ifFits (not (eqb m 4) || (leb 1 (length t) && leb (length t) 35)) Plain) (sym e) ∙ text t
-rest Free t e c p q = ap (λ (m : ℕ). ifFits (not (eqb m 4) || (leb 1 (length t) && leb (length t) 35)) Plain) (sym e)
+rest Text t e c p q = ap (λ (m : ℕ). if_fits (not (eqb m 4) || (leb 1 (length t) && leb (length t) 35)) Plain) (sym e) ∙ text t
+rest Free t e c p q = ap (λ (m : ℕ). if_fits (not (eqb m 4) || (leb 1 (length t) && leb (length t) 35)) Plain) (sym e)
 
 -- the text after the colon, as the code lends it
 lent : (l : List ℕ) (n : ℕ) → drop n l ≡ text_of l → take (length l - n) (drop n l) ≡ text_of l
@@ -112,32 +112,32 @@ pub read_as : (j k : Class) (n : ℕ) (l : List ℕ) (r : Reading) → drop n l 
 read_as j k n l r e p q = p ∙ rw (lent l n e, q)
 
 -- a run of digits, taken alone, is a part of the open account check
-alone : (lo h : ℕ) (s : List ℕ) → fits (num lo h ∷ []) (take (run isDigit h s) s) ≡ leb lo (run isDigit h s)
+alone : (lo h : ℕ) (s : List ℕ) → fits (num lo h ∷ []) (take (run is_digit h s) s) ≡ leb lo (run is_digit h s)
 unfolding fits
 alone lo h s =
-    let l : length (take (run isDigit h s) s) ≡ run isDigit h s = length-take-le (run isDigit h s) s (run_length isDigit h s) in
-    rw (run-again isDigit h s, empty-past (take (run isDigit h s) s) (run isDigit h s) (omega (arith, l)), and-true)
+    let l : length (take (run is_digit h s) s) ≡ run is_digit h s = length-take-le (run is_digit h s) s (run_length is_digit h s) in
+    rw (run_again is_digit h s, empty_past (take (run is_digit h s) s) (run is_digit h s) (omega (arith, l)), and-true)
 
 -- where a line's account fits, it says what its two halves are, and they are what the open check asks for
-pub account-line : (t : List ℕ) → fits (layout_of Account).own t ≡ true
-    → (reading_of Account t ≡ Party (halvesOf (part 0 (layout_of Account).own t) (part 1 (layout_of Account).own t)))
-    × (areDigits (part 0 (layout_of Account).own t) (part 1 (layout_of Account).own t) ≡ true)
+pub account_line : (t : List ℕ) → fits (layout_of Account).own t ≡ true
+    → (reading_of Account t ≡ Party (halves_of (part 0 (layout_of Account).own t) (part 1 (layout_of Account).own t)))
+    × (are_digits (part 0 (layout_of Account).own t) (part 1 (layout_of Account).own t) ≡ true)
 unfolding reading_of
-account-line t e =
-    let a = (and_parts (tests 0 6 1 10 t) _ (sym (split Account 0 6 1 10 maybeName t refl) ∙ e)).0 in
-    let b = and_parts (leb 0 (run isDigit 6 t)) _ a in
-    let c = and_parts (headIs 32 (drop (run isDigit 6 t) t)) _ b.1 in (
+account_line t e =
+    let a = (and_parts (tests 0 6 1 10 t) _ (sym (split Account 0 6 1 10 maybe_name t refl) ∙ e)).0 in
+    let b = and_parts (leb 0 (run is_digit 6 t)) _ a in
+    let c = and_parts (head_is 32 (drop (run is_digit 6 t) t)) _ b.1 in (
       rw e,
-      rw (first_part Account 0 6 1 10 maybeName t refl, second-part Account 0 6 1 10 maybeName t refl, alone 0 6 t, alone 1 10 (drop (run isDigit 6 t + 1) t), b.0, c.1),
+      rw (first_part Account 0 6 1 10 maybe_name t refl, second_part Account 0 6 1 10 maybe_name t refl, alone 0 6 t, alone 1 10 (drop (run is_digit 6 t + 1) t), b.0, c.1),
     )
 
 -- where a line's account fits, the open check of its two parts refuses nothing and answers what the line says
-pub line-check : (t : List ℕ) → fits (layout_of Account).own t ≡ true
-    → (first (accountRefusals (part 0 (layout_of Account).own t) (part 1 (layout_of Account).own t)) ≡ 0)
-    × (h : Halves) × (accountOf (part 0 (layout_of Account).own t) (part 1 (layout_of Account).own t) ≡ Judged h) × (reading_of Account t ≡ Party h)
-unfolding accountOf
-line-check t e =
+pub line_check : (t : List ℕ) → fits (layout_of Account).own t ≡ true
+    → (first (account_refusals (part 0 (layout_of Account).own t) (part 1 (layout_of Account).own t)) ≡ 0)
+    × (h : Halves) × (account_of (part 0 (layout_of Account).own t) (part 1 (layout_of Account).own t) ≡ Judged h) × (reading_of Account t ≡ Party h)
+unfolding account_of
+line_check t e =
     let p = part 0 (layout_of Account).own t in
     let q = part 1 (layout_of Account).own t in
-    let l = account-line t e in
-    (rw l.1, halvesOf p q, rw l.1, l.0)
+    let l = account_line t e in
+    (rw l.1, halves_of p q, rw l.1, l.0)

@@ -5,18 +5,18 @@ use Rattle.fields.specs.declared.classes.Class.TheVariants.{Money, Number, Range
 use Rattle.fields.specs.Classes.{class_of}
 
 -- 1 takes any tail and claims at once; 5 and above claim when they close
-abbrev pub codeBy : Class → ℕ
-codeBy Free = 0
-codeBy Money = 1
-codeBy Number = 2
-codeBy Account = 3
-codeBy Text = 4
-codeBy Range = 5
-codeBy Group = 6
+abbrev pub code_by : Class → ℕ
+code_by Free = 0
+code_by Money = 1
+code_by Number = 2
+code_by Account = 3
+code_by Text = 4
+code_by Range = 5
+code_by Group = 6
 
 -- that of an identifier
 unfoldable pub code_of : ℕ → ℕ
-code_of i = codeBy (class_of i)
+code_of i = code_by (class_of i)
 
 -- a KC, an IN, an S0 to S9: it says something that the item's heading needs
 abbrev pub claims : ℕ → Bool

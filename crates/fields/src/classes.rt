@@ -1,6 +1,6 @@
 // Classes of fields: the identifiers that share a layout.
 ghost use Rattle.std.specs.Prelude.{◌≡◌, ℕ, ◌<◌, get_or};
-ghost use Rattle.fields.specs.Classes.{sumGroup};
+ghost use Rattle.fields.specs.Classes.{sum_group};
 ghost use Rattle.fields.specs.Codes.{code_of};
 
 // KC; EC, AK, ZK; IN; S0 to S9; UD, UK; DI, KI, ZP, AV; any other identifier.
@@ -47,7 +47,7 @@ pub const GROUPS: usize = 10;
 
 // The digit of a group's identifier, and the number of groups for any other identifier.
 pub fn sum_group(ident: usize) -> usize
-    ensures { result ≡ sumGroup ident }
+    ensures { result ≡ sum_group ident }
 {
     if (S0 <= ident) & (ident < S0 + GROUPS) {
         return ident - S0;

@@ -1,8 +1,8 @@
 // What a field's own text says, class by class.
 ghost use Rattle.std.specs.Prelude.{◌≡◌, true, false, ◌≤◌, length, drop};
-ghost use Rattle.figures.specs.Layouts.{fits, no_more, maybeRest, maybeName};
-ghost use Rattle.fields.specs.Codes.{codeBy, claims};
-ghost use Rattle.fields.specs.Readings.{text_of, reading_of, ifFits};
+ghost use Rattle.figures.specs.Layouts.{fits, no_more, maybe_rest, maybe_name};
+ghost use Rattle.fields.specs.Codes.{code_by, claims};
+ghost use Rattle.fields.specs.Readings.{text_of, reading_of, if_fits};
 
 use crate::classes::Class;
 use figures::parts;
@@ -23,7 +23,7 @@ pub enum Reading {
 }
 
 pub fn if_fits(fits: bool, said: Reading) -> Reading
-    ensures { result ≡ ifFits fits said }
+    ensures { result ≡ if_fits fits said }
 {
     if fits {
         return said;
@@ -40,7 +40,7 @@ fn ends(t: &[u8], at: usize) -> bool
 
 // Whether nothing stands from a place on, or a space and any rest.
 fn ends_or_rest(t: &[u8], at: usize) -> bool
-    ensures { result ≡ fits maybeRest (drop at t.now) }
+    ensures { result ≡ fits maybe_rest (drop at t.now) }
 {
     if t.len() <= at {
         return true;
@@ -50,7 +50,7 @@ fn ends_or_rest(t: &[u8], at: usize) -> bool
 
 // Whether nothing stands from a place on, or a space and a name.
 fn ends_or_name(t: &[u8], at: usize) -> bool
-    ensures { result ≡ fits maybeName (drop at t.now) }
+    ensures { result ≡ fits maybe_name (drop at t.now) }
 {
     if t.len() <= at {
         return true;
@@ -159,7 +159,7 @@ fn after_colon(line: &[u8]) -> usize
 
 // What a field line says whose class, by its number, claims something.
 pub fn read_claim(class: u8, line: &[u8]) -> Reading
-    ensures { (k : Class) → codeBy k ≡ class → claims class ≡ true → result ≡ reading_of k (text_of line.now) }
+    ensures { (k : Class) → code_by k ≡ class → claims class ≡ true → result ≡ reading_of k (text_of line.now) }
 {
     let from = after_colon(line);
     let t = &line[from..];
@@ -175,7 +175,7 @@ pub fn read_claim(class: u8, line: &[u8]) -> Reading
 // What a field line says of any other class; of most only a text's length is asked, which takes no branch. The library calls it at one
 // place, so that it is inlined there and no `Reading` is made.
 pub fn read_plain(class: u8, line: &[u8]) -> Reading
-    ensures { (k : Class) → codeBy k ≡ class → claims class ≡ false → result ≡ reading_of k (text_of line.now) }
+    ensures { (k : Class) → code_by k ≡ class → claims class ≡ false → result ≡ reading_of k (text_of line.now) }
 {
     let from = after_colon(line);
     let t = &line[from..];

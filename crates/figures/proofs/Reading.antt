@@ -4,61 +4,61 @@ use Rattle.std.proofs.Common.{◌≡◌, ℕ, suc, ◌+◌, ◌-◌, ◌*◌, �
 use lib.Bits.{bit_or, or_add_and, and_le_r}
 use lib.Dec.{leb-zero}
 use borrow.Author.Tests.{lt-leb, eqb-false}
-use Rattle.text.specs.Digits.{isDigit, value, valueAfter}
+use Rattle.text.specs.Digits.{is_digit, value, value_after}
 use Rattle.figures.specs.declared.parts.Weighed.{Weighed}
 use Rattle.figures.specs.Layouts.{run, fits}
-use Rattle.figures.specs.Parts.{doubledAfter, bitsAfter, weighedFrom, weighedAt}
+use Rattle.figures.specs.Parts.{doubled_after, bits_after, weighed_from, weighed_at}
 use Rattle.figures.specs.Accounts.{passes, no_part, part_of}
-use Rattle.figures.proofs.Runs.{run_past, run-other}
-use Rattle.figures.proofs.Endings.{empty-past, empty-before}
-use Rattle.figures.proofs.Weights.{doubled-passes}
+use Rattle.figures.proofs.Runs.{run_past, run_other}
+use Rattle.figures.proofs.Endings.{empty_past, empty_before}
+use Rattle.figures.proofs.Weights.{doubled_passes}
 
-same-weighed : {a b c d e f : ℕ} → a ≡ b → c ≡ d → e ≡ f → ◌≡◌ {A = Weighed} (record { sum = a; any = c; end = e }) (record { sum = b; any = d; end = f })
-same-weighed p q r = rw (p, q, r)
+same_weighed : {a b c d e f : ℕ} → a ≡ b → c ≡ d → e ≡ f → ◌≡◌ {A = Weighed} (record { sum = a; any = c; end = e }) (record { sum = b; any = d; end = f })
+same_weighed p q r = rw (p, q, r)
 
 -- digits that are at their end
-stopped : (k sum any i : ℕ) (s : List ℕ) → run isDigit k s ≡ 0 → weighedFrom k sum any i s ≡ record { sum = sum; any = any; end = i }
-unfolding doubledAfter bitsAfter
-stopped k sum any i s e = rw e (same-weighed refl refl (omega arith))
+stopped : (k sum any i : ℕ) (s : List ℕ) → run is_digit k s ≡ 0 → weighed_from k sum any i s ≡ record { sum = sum; any = any; end = i }
+unfolding doubled_after bits_after
+stopped k sum any i s e = rw e (same_weighed refl refl (omega arith))
 
-digit-first : (k sum any i b : ℕ) (s : List ℕ) → isDigit b ≡ true
-    → weighedFrom (suc k) sum any i (b ∷ s) ≡ weighedFrom k (2 * sum + (b - 48)) (bit_or any (b - 48)) (i + 1) s
-unfolding run doubledAfter bitsAfter
-digit-first k sum any i b s e = rw e (same-weighed refl refl (omega arith))
+digit_first : (k sum any i b : ℕ) (s : List ℕ) → is_digit b ≡ true
+    → weighed_from (suc k) sum any i (b ∷ s) ≡ weighed_from k (2 * sum + (b - 48)) (bit_or any (b - 48)) (i + 1) s
+unfolding run doubled_after bits_after
+digit_first k sum any i b s e = rw e (same_weighed refl refl (omega arith))
 
 -- what holds at the loop's head
 pub record Read (t : List ℕ) (at most stop sum any i : ℕ) : Type 0 where
   pub few : most ≤ 10
   pub until : stop ≡ min (length t) (at + most)
-  pub same : weighedAt most t at ≡ weighedFrom (at + most - i) sum any i (drop i t)
+  pub same : weighed_at most t at ≡ weighed_from (at + most - i) sum any i (drop i t)
   pub past : at ≤ i
   pub inside : i ≤ stop
   pub small : sum + 9 ≤ 9 * 2 ^ (i - at)
 
 -- what is answered
 abbrev pub Answer : List ℕ → ℕ → ℕ → ℕ → ℕ → ℕ → Type 0
-Answer t at most sum any i = (record { sum = sum; any = any; end = i } ≡ weighedAt most t at) × (at ≤ i) × (i ≤ length t)
+Answer t at most sum any i = (record { sum = sum; any = any; end = i } ≡ weighed_at most t at) × (at ≤ i) × (i ≤ length t)
 
-pub read-start : (t : List ℕ) (at most stop : ℕ) → (at ≤ length t) × (most ≤ 10) → stop ≡ min (length t) (at + most) → Read t at most stop 0 0 at
-read-start t at most stop h e =
+pub read_start : (t : List ℕ) (at most stop : ℕ) → (at ≤ length t) × (most ≤ 10) → stop ≡ min (length t) (at + most) → Read t at most stop 0 0 at
+read_start t at most stop h e =
     let m : at + most - at ≡ most = omega arith in
     let z : at - at ≡ 0 = omega arith in
     record { few = h.1; until = e; same = rw m; past = omega arith; inside = omega (arith, h.0); small = rw z (omega arith) }
 
 module _ (t : List ℕ) (at most stop sum any i : ℕ) (r : Read t at most stop sum any i) where
-  pub sum-le : sum ≤ 9207
-  sum-le = omega (arith, r.small, pow_mono {i = i - at} {j = 10} (omega (arith, r.few, r.until, r.inside)))
+  pub sum_le : sum ≤ 9207
+  sum_le = omega (arith, r.small, pow_mono {i = i - at} {j = 10} (omega (arith, r.few, r.until, r.inside)))
 
-  answered : run isDigit (at + most - i) (drop i t) ≡ 0 → Answer t at most sum any i
+  answered : run is_digit (at + most - i) (drop i t) ≡ 0 → Answer t at most sum any i
   answered e = (sym (r.same ∙ stopped (at + most - i) sum any i (drop i t) e), r.past, omega (arith, r.until, r.inside))
 
   -- so many digits, or the text's end
-  pub read-end : stop ≤ i → Answer t at most sum any i
+  pub read_end : stop ≤ i → Answer t at most sum any i
   unfolding run
-  read-end h = answered (go (leb (length t) i) refl)
+  read_end h = answered (go (leb (length t) i) refl)
     where
-      go : (b : Bool) → leb (length t) i ≡ b → run isDigit (at + most - i) (drop i t) ≡ 0
-      go true e = run_past isDigit (at + most - i) t i (leb-true (length t) i e)
+      go : (b : Bool) → leb (length t) i ≡ b → run is_digit (at + most - i) (drop i t) ≡ 0
+      go true e = run_past is_digit (at + most - i) t i (leb-true (length t) i e)
       go false e = let z : at + most - i ≡ 0 = omega (arith, r.until, leb-false (length t) i e) in rw z
 
   -- a byte, less 48 by remainder of 256
@@ -70,20 +70,20 @@ module _ (t : List ℕ) (at most stop sum any i : ℕ) (r : Read t at most stop 
         let low : leb 48 (get_or t i 0) ≡ true = le-leb 48 (get_or t i 0) (omega arith) in
         let high : leb (get_or t i 0) 57 ≡ true = le-leb (get_or t i 0) 57 (omega arith) in
         let m : at + most - i ≡ suc (at + most - (i + 1)) = omega (arith, r.until) in
-        let g : isDigit (get_or t i 0) ≡ true = rw (low, high) in
+        let g : is_digit (get_or t i 0) ≡ true = rw (low, high) in
         let j : i + 1 - at ≡ suc (i - at) = omega (arith, r.past) in
         record {
           few = r.few;
           until = r.until;
-          same = r.same ∙ rw (m, drop-cons t i 0 (omega (arith, r.until))) (rw (← add-one i) (rw (← e) (digit-first (at + most - (i + 1)) sum any i (get_or t i 0) (drop (i + 1) t) g)));
+          same = r.same ∙ rw (m, drop-cons t i 0 (omega (arith, r.until))) (rw (← add-one i) (rw (← e) (digit_first (at + most - (i + 1)) sum any i (get_or t i 0) (drop (i + 1) t) g)));
           past = omega (arith, r.past);
           inside = omega arith;
           small = let q : 2 ^ (i + 1 - at) ≡ 2 ^ (i - at) * 2 = ap (λ (k : ℕ). 2 ^ k) j ∙ pow-suc 2 (i - at) in omega (arith, r.small);
         }
 
     -- any other
-    pub read-other : 9 < d → Answer t at most sum any i
-    read-other k = answered (run-other isDigit (at + most - i) t i (omega (arith, r.until)) (go (leb 48 (get_or t i 0)) refl))
+    pub read_other : 9 < d → Answer t at most sum any i
+    read_other k = answered (run_other is_digit (at + most - i) t i (omega (arith, r.until)) (go (leb 48 (get_or t i 0)) refl))
       where
         go : (b : Bool) → leb 48 (get_or t i 0) ≡ b → (b && leb (get_or t i 0) 57) ≡ false
         go true e = lt-leb (get_or t i 0) 57 (omega (arith, leb-true 48 (get_or t i 0) e))
@@ -104,33 +104,33 @@ both_zero a d v e = go (eqb a 0) refl (sym e)
         let nv : v ≡ 0 → ⊥ = eqb-false v 0 (q ∙ p) in
         ne_eqb (bit_or a d) 0 (λ z. omega (arith, or_add_and a d, and_le_r a d)) ∙ sym (ne_eqb (v * 10 + d) 0 (λ z. omega arith))
 
-bits-zero : (a v : ℕ) (s : List ℕ) → eqb a 0 ≡ eqb v 0 → eqb (bitsAfter a s) 0 ≡ eqb (valueAfter v s) 0
-unfolding bitsAfter valueAfter
-bits-zero a v [] e = e
-bits-zero a v (b ∷ s) e = bits-zero (bit_or a (b - 48)) (v * 10 + (b - 48)) s (both_zero a (b - 48) v e)
+bits_zero : (a v : ℕ) (s : List ℕ) → eqb a 0 ≡ eqb v 0 → eqb (bits_after a s) 0 ≡ eqb (value_after v s) 0
+unfolding bits_after value_after
+bits_zero a v [] e = e
+bits_zero a v (b ∷ s) e = bits_zero (bit_or a (b - 48)) (v * 10 + (b - 48)) s (both_zero a (b - 48) v e)
 
 -- what is told of a part by its digits' sum and bits
-module _ (k : ℕ) (t : List ℕ) (at : ℕ) {w : Weighed} (e : w ≡ weighedAt k t at) where
-  pub end_is : w.end ≡ at + run isDigit k (drop at t)
+module _ (k : ℕ) (t : List ℕ) (at : ℕ) {w : Weighed} (e : w ≡ weighed_at k t at) where
+  pub end_is : w.end ≡ at + run is_digit k (drop at t)
   end_is = ap (λ (x : Weighed). x.end) e
 
-  pub passes-is : eqb (w.sum % 11) 0 ≡ passes (take (run isDigit k (drop at t)) (drop at t))
-  passes-is = ap (λ (x : Weighed). eqb (x.sum % 11) 0) e ∙ doubled-passes (take (run isDigit k (drop at t)) (drop at t))
+  pub passes_is : eqb (w.sum % 11) 0 ≡ passes (take (run is_digit k (drop at t)) (drop at t))
+  passes_is = ap (λ (x : Weighed). eqb (x.sum % 11) 0) e ∙ doubled_passes (take (run is_digit k (drop at t)) (drop at t))
 
-  pub zero_is : eqb w.any 0 ≡ eqb (value (take (run isDigit k (drop at t)) (drop at t))) 0
-  zero_is = ap (λ (x : Weighed). eqb x.any 0) e ∙ bits-zero 0 0 (take (run isDigit k (drop at t)) (drop at t)) refl
+  pub zero_is : eqb w.any 0 ≡ eqb (value (take (run is_digit k (drop at t)) (drop at t))) 0
+  zero_is = ap (λ (x : Weighed). eqb x.any 0) e ∙ bits_zero 0 0 (take (run is_digit k (drop at t)) (drop at t)) refl
 
 -- a part alone
-module _ (k : ℕ) (s : List ℕ) {w : Weighed} (e : w ≡ weighedAt k s 0) where
-  length-is : run isDigit k s ≡ w.end
-  length-is = omega (arith, end_is k s 0 e)
+module _ (k : ℕ) (s : List ℕ) {w : Weighed} (e : w ≡ weighed_at k s 0) where
+  length_is : run is_digit k s ≡ w.end
+  length_is = omega (arith, end_is k s 0 e)
 
-  pub no-part : w.end < length s → no_part ≡ part_of k s
+  pub no_part_lem : w.end < length s → no_part ≡ part_of k s
   unfolding part_of fits
-  no-part h = rw (length-is, empty-before s w.end h, leb-zero w.end)
+  no_part_lem h = rw (length_is, empty_before s w.end h, leb-zero w.end)
 
-  pub is-part : length s ≤ w.end → record { digits = true; some = not (eqb w.any 0); passes = eqb (w.sum % 11) 0 } ≡ part_of k s
+  pub is_part : length s ≤ w.end → record { digits = true; some = not (eqb w.any 0); passes = eqb (w.sum % 11) 0 } ≡ part_of k s
   unfolding part_of fits
-  is-part h =
-      let a : take (run isDigit k s) s ≡ s = rw length-is (take_all w.end s h) in
-      rw (zero_is k s 0 e, passes-is k s 0 e, a, length-is, empty-past s w.end h, leb-zero w.end)
+  is_part h =
+      let a : take (run is_digit k s) s ≡ s = rw length_is (take_all w.end s h) in
+      rw (zero_is k s 0 e, passes_is k s 0 e, a, length_is, empty_past s w.end h, leb-zero w.end)

@@ -1,7 +1,7 @@
 -- The run of bytes of a sort that a text begins with: how long it is, what stands in it, and that what follows it does not matter.
 use Rattle.std.proofs.Common.{◌≡◌, ℕ, zero, suc, ◌^◌, ◌<◌, ◌≤◌, Bool, true, false, cond, List, [], ◌∷◌, length, get_or, take, drop, refl, ◌∙◌, zero-le, le_of_suc-le-suc, not-suc-le-zero, arith, drop_of_length-le, length-take-le, drop-cons}
-use Rattle.text.specs.Digits.{isDigit, allDigits, value}
-use Rattle.text.proofs.Widths.{value-lt}
+use Rattle.text.specs.Digits.{is_digit, all_are_digits, value}
+use Rattle.text.proofs.Widths.{value_lt}
 use Rattle.text.proofs.Reading.{small}
 use Rattle.figures.specs.Layouts.{run}
 use Rattle.figures.specs.Described.{all_of}
@@ -10,11 +10,11 @@ at_most : (t : Bool) (n h : ℕ) → n ≤ h → cond t (suc n) 0 ≤ suc h
 at_most true n h l = omega arith
 at_most false n h l = zero-le
 
-pub run-le : (f : ℕ → Bool) (h : ℕ) (s : List ℕ) → run f h s ≤ h
+pub run_le : (f : ℕ → Bool) (h : ℕ) (s : List ℕ) → run f h s ≤ h
 unfolding run
-run-le f zero s = zero-le
-run-le f (suc h) [] = zero-le
-run-le f (suc h) (b ∷ s) = at_most (f b) (run f h s) h (run-le f h s)
+run_le f zero s = zero-le
+run_le f (suc h) [] = zero-le
+run_le f (suc h) (b ∷ s) = at_most (f b) (run f h s) h (run_le f h s)
 
 pub run_length : (f : ℕ → Bool) (h : ℕ) (s : List ℕ) → run f h s ≤ length s
 unfolding run
@@ -22,22 +22,22 @@ run_length f zero s = zero-le
 run_length f (suc h) [] = zero-le
 run_length f (suc h) (b ∷ s) = at_most (f b) (run f h s) (length s) (run_length f h s)
 
-pub run-all : (f : ℕ → Bool) (h : ℕ) (s : List ℕ) → all_of f (take (run f h s) s) ≡ true
+pub run_all : (f : ℕ → Bool) (h : ℕ) (s : List ℕ) → all_of f (take (run f h s) s) ≡ true
 unfolding run all_of
-run-all f zero s = refl
-run-all f (suc h) [] = refl
-run-all f (suc h) (b ∷ s) = go (f b) refl (run-all f h s)
+run_all f zero s = refl
+run_all f (suc h) [] = refl
+run_all f (suc h) (b ∷ s) = go (f b) refl (run_all f h s)
   where
     go : (t : Bool) → f b ≡ t → all_of f (take (run f h s) s) ≡ true → all_of f (take (cond t (suc (run f h s)) 0) (b ∷ s)) ≡ true
     go true e r = rw (e, r)
     go false e r = refl
 
 -- a run, taken alone
-pub run-again : (f : ℕ → Bool) (h : ℕ) (s : List ℕ) → run f h (take (run f h s) s) ≡ run f h s
+pub run_again : (f : ℕ → Bool) (h : ℕ) (s : List ℕ) → run f h (take (run f h s) s) ≡ run f h s
 unfolding run
-run-again f zero s = refl
-run-again f (suc h) [] = refl
-run-again f (suc h) (b ∷ s) = go (f b) refl (run-again f h s)
+run_again f zero s = refl
+run_again f (suc h) [] = refl
+run_again f (suc h) (b ∷ s) = go (f b) refl (run_again f h s)
   where
     go : (t : Bool) → f b ≡ t → run f h (take (run f h s) s) ≡ run f h s → run f (suc h) (take (cond t (suc (run f h s)) 0) (b ∷ s)) ≡ cond t (suc (run f h s)) 0
     go true e r = rw (e, r)
@@ -51,29 +51,29 @@ run_take f (suc h) (suc k) [] l = refl
 run_take f (suc h) (suc k) (b ∷ s) l = rw (run_take f h k s (le_of_suc-le-suc l))
 
 -- no run at a text's end, nor at a byte of another sort
-pub run-nil : (f : ℕ → Bool) (h : ℕ) → run f h [] ≡ 0
+pub run_nil : (f : ℕ → Bool) (h : ℕ) → run f h [] ≡ 0
 unfolding run
-run-nil f zero = refl
-run-nil f (suc h) = refl
+run_nil f zero = refl
+run_nil f (suc h) = refl
 
 pub run_past : (f : ℕ → Bool) (h : ℕ) (t : List ℕ) (i : ℕ) → length t ≤ i → run f h (drop i t) ≡ 0
-run_past f h t i l = rw (drop_of_length-le t l) (run-nil f h)
+run_past f h t i l = rw (drop_of_length-le t l) (run_nil f h)
 
-pub run-other : (f : ℕ → Bool) (h : ℕ) (t : List ℕ) (i : ℕ) → i < length t → f (get_or t i 0) ≡ false → run f h (drop i t) ≡ 0
+pub run_other : (f : ℕ → Bool) (h : ℕ) (t : List ℕ) (i : ℕ) → i < length t → f (get_or t i 0) ≡ false → run f h (drop i t) ≡ 0
 unfolding run
-run-other f zero t i l e = refl
-run-other f (suc h) t i l e = rw (drop-cons t i 0 l, e)
+run_other f zero t i l e = refl
+run_other f (suc h) t i l e = rw (drop-cons t i 0 l, e)
 
 -- a run of digits
-pub all_digits : (s : List ℕ) → allDigits s ≡ all_of isDigit s
-unfolding allDigits all_of
+pub all_digits : (s : List ℕ) → all_are_digits s ≡ all_of is_digit s
+unfolding all_are_digits all_of
 all_digits [] = refl
 all_digits (b ∷ s) = rw (all_digits s)
 
-pub run-digits : (h : ℕ) (s : List ℕ) → allDigits (take (run isDigit h s) s) ≡ true
-run-digits h s = all_digits (take (run isDigit h s) s) ∙ run-all isDigit h s
+pub run_digits : (h : ℕ) (s : List ℕ) → all_are_digits (take (run is_digit h s) s) ≡ true
+run_digits h s = all_digits (take (run is_digit h s) s) ∙ run_all is_digit h s
 
-pub run_value : (h : ℕ) (s : List ℕ) → value (take (run isDigit h s) s) < 10 ^ h
+pub run_value : (h : ℕ) (s : List ℕ) → value (take (run is_digit h s) s) < 10 ^ h
 run_value h s =
-    let l : length (take (run isDigit h s) s) ≡ run isDigit h s = length-take-le (run isDigit h s) s (run_length isDigit h s) in
-    small h (value (take (run isDigit h s) s)) (run isDigit h s) (rw l at (value-lt (take (run isDigit h s) s) (run-digits h s))) (run-le isDigit h s)
+    let l : length (take (run is_digit h s) s) ≡ run is_digit h s = length-take-le (run is_digit h s) s (run_length is_digit h s) in
+    small h (value (take (run is_digit h s) s)) (run is_digit h s) (rw l at (value_lt (take (run is_digit h s) s) (run_digits h s))) (run_le is_digit h s)

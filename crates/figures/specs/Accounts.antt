@@ -10,7 +10,7 @@ use Rattle.figures.specs.declared.parts.Number.TheVariants.{Good, Failing, Zero}
 use Rattle.figures.specs.declared.parts.Halves.{Halves}
 use Rattle.figures.specs.Layouts.{num, fits}
 
--- the weight of a digit that k others follow (document 02, A6: 'powers of two by remainder of 11'); `as-listed` (proofs/Weights.antt)
+-- the weight of a digit that k others follow (document 02, A6: 'powers of two by remainder of 11'); `as_listed` (proofs/Weights.antt)
 -- computes that for 0 to 9 they are document 01's 1, 2, 4, 8, 5, 10, 9, 7, 3, 6
 unfoldable pub weight : ℕ → ℕ
 weight k = 2 ^ k % 11
@@ -25,12 +25,12 @@ unfoldable pub passes : List ℕ → Bool
 passes bs = weighed bs % 11 == 0
 
 -- 'number good, failing or zero', and at zero 'the sum isn't judged'
-abbrev pub numberBy : Bool → Bool → Number
-numberBy zero passes = cond zero Zero (cond passes Good Failing)
+abbrev pub number_by : Bool → Bool → Number
+number_by zero passes = cond zero Zero (cond passes Good Failing)
 
 -- what is answered 'for each half': 'prefix good or failing', and the number
-unfoldable pub halvesOf : List ℕ → List ℕ → Halves
-halvesOf prefix number = record { prefix = passes prefix; number = numberBy (value number == 0) (passes number) }
+unfoldable pub halves_of : List ℕ → List ℕ → Halves
+halves_of prefix number = record { prefix = passes prefix; number = number_by (value number == 0) (passes number) }
 
 -- what is told of a part of at most so many digits, and of what is none
 abbrev pub no_part : PartRead
@@ -40,43 +40,43 @@ unfoldable pub part_of : ℕ → List ℕ → PartRead
 part_of most bs = cond (fits (num 0 most ∷ []) bs) (record { digits = true; some = not (value bs == 0); passes = passes bs }) no_part
 
 -- a first part of 0 to 6 digits and a second of 1 to 10
-abbrev pub areDigits : List ℕ → List ℕ → Bool
-areDigits prefix number = fits (num 0 6 ∷ []) prefix && fits (num 1 10 ∷ []) number
+abbrev pub are_digits : List ℕ → List ℕ → Bool
+are_digits prefix number = fits (num 0 6 ∷ []) prefix && fits (num 1 10 ∷ []) number
 
-abbrev pub accountBy : Bool → Halves → Account
-accountBy digits halves = cond digits (Judged halves) NotDigits
+abbrev pub account_by : Bool → Halves → Account
+account_by digits halves = cond digits (Judged halves) NotDigits
 
 -- the answer of the open job
-unfoldable pub accountOf : List ℕ → List ℕ → Account
-accountOf prefix number = accountBy (areDigits prefix number) (halvesOf prefix number)
+unfoldable pub account_of : List ℕ → List ℕ → Account
+account_of prefix number = account_by (are_digits prefix number) (halves_of prefix number)
 
 -- its one refusal
-abbrev pub accountRefusals : List ℕ → List ℕ → List Refusal
-accountRefusals prefix number = (10 if not (areDigits prefix number)) ∷ []
+abbrev pub account_refusals : List ℕ → List ℕ → List Refusal
+account_refusals prefix number = (10 if not (are_digits prefix number)) ∷ []
 
 -- document 01's number of each answer, 0 where nothing is refused
-abbrev pub accountNumber : Account → ℕ
-accountNumber (Judged h) = 0
-accountNumber NotDigits = 10
+abbrev pub account_number : Account → ℕ
+account_number (Judged h) = 0
+account_number NotDigits = 10
 
 -- the two halves as numbers: 0 good, 1 failing, 2 zero
-abbrev pub prefixAnswer : Bool → ℕ
-prefixAnswer good = cond good 0 1
+abbrev pub prefix_answer : Bool → ℕ
+prefix_answer good = cond good 0 1
 
-abbrev pub numberAnswer : Number → ℕ
-numberAnswer Good = 0
-numberAnswer Failing = 1
-numberAnswer Zero = 2
+abbrev pub number_answer : Number → ℕ
+number_answer Good = 0
+number_answer Failing = 1
+number_answer Zero = 2
 
 -- and those of each answer; on a refusal what stood there before
-abbrev pub prefixValue : Account → ℕ → ℕ
-prefixValue (Judged h) old = prefixAnswer h.prefix
-prefixValue NotDigits old = old
+abbrev pub prefix_value : Account → ℕ → ℕ
+prefix_value (Judged h) old = prefix_answer h.prefix
+prefix_value NotDigits old = old
 
-abbrev pub numberValue : Account → ℕ → ℕ
-numberValue (Judged h) old = numberAnswer h.number
-numberValue NotDigits old = old
+abbrev pub number_value : Account → ℕ → ℕ
+number_value (Judged h) old = number_answer h.number
+number_value NotDigits old = old
 
 -- what the open job promises of its answer: document 01's number for it, and what it says of the two halves
 abbrev pub Judges : List ℕ → List ℕ → Account → Type 0
-Judges prefix number r = (accountNumber r ≡ first (accountRefusals prefix number)) × (r ≡ accountOf prefix number)
+Judges prefix number r = (account_number r ≡ first (account_refusals prefix number)) × (r ≡ account_of prefix number)

@@ -1,6 +1,6 @@
 // The account check, an open job, and its answer as numbers.
 ghost use Rattle.std.specs.Prelude.{◌≡◌};
-ghost use Rattle.figures.specs.Accounts.{accountBy, accountNumber, numberAnswer, prefixValue, numberValue, Judges};
+ghost use Rattle.figures.specs.Accounts.{account_by, account_number, number_answer, prefix_value, number_value, Judges};
 
 use crate::parts;
 use crate::parts::{Halves, Number};
@@ -13,7 +13,7 @@ pub enum Account {
 }
 
 fn account_by(digits: bool, halves: Halves) -> Account
-    ensures { result ≡ accountBy digits halves }
+    ensures { result ≡ account_by digits halves }
 {
     if digits {
         return Account::Judged(halves);
@@ -38,7 +38,7 @@ pub fn check(prefix: &[u8], number: &[u8]) -> Account
 
 // Document 01's number of an answer, 0 for none.
 pub fn number_of(a: Account) -> u32
-    ensures { result ≡ accountNumber a }
+    ensures { result ≡ account_number a }
 {
     match a {
         Account::Judged(_) => 0,
@@ -48,7 +48,7 @@ pub fn number_of(a: Account) -> u32
 
 // The answer for the prefix, 0 good and 1 failing; on a refusal what stood there before.
 pub fn prefix_value(a: Account, old: u32) -> u32
-    ensures { result ≡ prefixValue a old }
+    ensures { result ≡ prefix_value a old }
 {
     match a {
         Account::Judged(h) => if h.prefix { 0 } else { 1 },
@@ -57,7 +57,7 @@ pub fn prefix_value(a: Account, old: u32) -> u32
 }
 
 fn number_answer(n: Number) -> u32
-    ensures { result ≡ numberAnswer n }
+    ensures { result ≡ number_answer n }
 {
     match n {
         Number::Good => 0,
@@ -68,7 +68,7 @@ fn number_answer(n: Number) -> u32
 
 // The answer for the number, 0 good, 1 failing and 2 zero; on a refusal what stood there before.
 pub fn number_value(a: Account, old: u32) -> u32
-    ensures { result ≡ numberValue a old }
+    ensures { result ≡ number_value a old }
 {
     match a {
         Account::Judged(h) => {

@@ -1,7 +1,7 @@
 // The two parts of an account, and what each is as a half of it.
 ghost use Rattle.std.specs.Prelude.{◌≡◌, ◌+◌, ◌≤◌, min, length};
-ghost use Rattle.figures.specs.Parts.{weighedAt};
-ghost use Rattle.figures.specs.Accounts.{numberBy, no_part, part_of};
+ghost use Rattle.figures.specs.Parts.{weighed_at};
+ghost use Rattle.figures.specs.Accounts.{number_by, no_part, part_of};
 
 // Digits of a part: their sum, doubled and added from the left, their bits, and the place after them.
 #[derive(Drop)]
@@ -32,7 +32,7 @@ fn stop_of(size: usize, at: usize, most: usize) -> usize
 // the sum of those to its left: that divides by 11 where the weighed sum does.
 pub fn weighed_at(t: &[u8], at: usize, most: usize) -> Weighed
     requires { (at ≤ length t.now) × (most ≤ 10) }
-    ensures { (result ≡ weighedAt most t.now at) × (at ≤ result.end) × (result.end ≤ length t.now) }
+    ensures { (result ≡ weighed_at most t.now at) × (at ≤ result.end) × (result.end ≤ length t.now) }
 {
     let stop = stop_of(t.len(), at, most);
     let mut sum: u64 = 0;
@@ -100,7 +100,7 @@ pub struct Halves {
 }
 
 pub fn number_by(zero: bool, passes: bool) -> Number
-    ensures { result ≡ numberBy zero passes }
+    ensures { result ≡ number_by zero passes }
 {
     if zero {
         return Number::Zero;

@@ -18,9 +18,9 @@ both false b e = absurd (false≢true e)
 
 module _ (s : List ℕ) (i n b : ℕ) where
   -- the block would reach past the end
-  pub clear-past : length s < i + n → false ≡ clear s i n b
+  pub clear_past : length s < i + n → false ≡ clear s i n b
   unfolding clear
-  clear-past h = simp (lt-leb (i + n) (length s) h)
+  clear_past h = simp (lt-leb (i + n) (length s) h)
 
   -- it stands within, and a search through it says whether b is there
   pub clear_in : (found : Bool) → i + n ≤ length s → found ≡ any_of (is_byte b) (take (i + n - i) (drop i s)) → not found ≡ clear s i n b
@@ -30,9 +30,9 @@ module _ (s : List ℕ) (i n b : ℕ) where
       simp (le-leb (i + n) (length s) h, e, m)
 
   module _ (e : clear s i n b ≡ true) where
-    pub clear-fits : i + n ≤ length s
+    pub clear_fits : i + n ≤ length s
     unfolding clear
-    clear-fits = leb-true (i + n) (length s) (both (leb (i + n) (length s)) (any_of (is_byte b) (take n (drop i s))) e).0
+    clear_fits = leb-true (i + n) (length s) (both (leb (i + n) (length s)) (any_of (is_byte b) (take n (drop i s))) e).0
 
     pub clear_none : any_of (is_byte b) (take n (drop i s)) ≡ false
     unfolding clear

@@ -3,11 +3,11 @@ use Rattle.std.specs.Prelude.{ℕ, ◌*◌, ◌≤◌, ◌≡◌, cond, List, []
 use Rattle.headings.specs.declared.Read.{Read}
 use Rattle.headings.specs.declared.Read.TheVariants.{Reads, Unreadable}
 use Rattle.register.specs.Entering.{Use}
-use Rattle.register.specs.Spans.{Span, dayKey, useKeys, froms, tos}
+use Rattle.register.specs.Spans.{Span, day_key, use_keys, froms, tos}
 
 -- the key of a heading, 0 where it uses no number
 abbrev pub key_at : Read → ℕ
-key_at (Reads h) = cond (eqb h.number.0 0) 0 (dayKey h.day h.number.0)
+key_at (Reads h) = cond (eqb h.number.0 0) 0 (day_key h.day h.number.0)
 key_at Unreadable = 0
 
 -- each day is later than 0 and has eight digits, as a day of an accepted file has
@@ -19,11 +19,11 @@ Dated (u ∷ us) = (1 ≤ u.day) × (u.day ≤ 99999999) × Dated us
 pub record Gathered (size : ℕ) (us : List Use) (n : ℕ) (keys : List ℕ) : Type 0 where
   pub few : 54 * n ≤ size
   pub within : n ≤ length keys
-  pub holds : take n keys ≡ useKeys us
+  pub holds : take n keys ≡ use_keys us
 
 -- the first n places of two rows hold the ends of some spans
 pub record Kept (ss : List Span) (n : ℕ) (starts ends : List ℕ) : Type 0 where
-  pub starts-in : n ≤ length starts
-  pub ends-in : n ≤ length ends
-  pub starts-at : take n starts ≡ froms ss
+  pub starts_in : n ≤ length starts
+  pub ends_in : n ≤ length ends
+  pub starts_at : take n starts ≡ froms ss
   pub ends_at : take n ends ≡ tos ss

@@ -2,11 +2,11 @@
 // an accepted file, these in order, and the ends of the ranges that stay. Stands on `item_reader` for the items, `register` for the bytes, and
 // `sorting`; its proofs cite `merging`.
 ghost use Rattle.std.specs.Prelude.{◌≡◌, true, ◌+◌, ◌*◌, ◌≤◌, length, drop};
-ghost use Rattle.item_reader.specs.Slips.{slipsFrom};
+ghost use Rattle.item_reader.specs.Slips.{slips_from};
 ghost use Rattle.item_reader.specs.Accepted.{Readable, Each};
-ghost use Rattle.register.specs.Register.{rangesIn};
+ghost use Rattle.register.specs.Register.{ranges_in};
 ghost use Rattle.register.specs.Entering.{used, kept};
-ghost use Rattle.register.specs.Spans.{dayKey, spansOf};
+ghost use Rattle.register.specs.Spans.{day_key, spans_of};
 ghost use Rattle.sorting.specs.Sorting.{Rises, Within, Ordered};
 ghost use Rattle.gathering.specs.Keys.{Gathered, Kept};
 
@@ -14,15 +14,15 @@ use register::bytes;
 
 // A day and a number in one.
 fn day_key(day: u32, number: u32) -> u64
-    ensures { result ≡ dayKey day number }
+    ensures { result ≡ day_key day number }
 {
     (day as u64) * 10000000 + (number as u64)
 }
 
 // The keys of the items of a file whose headings read, in the order of the file. A heading has 54 bytes, so that they have room.
 pub fn gather(s: &[u8], keys: &mut [u64]) -> usize
-    requires { (length s.now ≤ 54 * length keys.old) × Each Readable (slipsFrom 1 s.now) }
-    ensures { Gathered (length s.now) (used (slipsFrom 1 s.now)) result keys.new }
+    requires { (length s.now ≤ 54 * length keys.old) × Each Readable (slips_from 1 s.now) }
+    ensures { Gathered (length s.now) (used (slips_from 1 s.now)) result keys.new }
 {
     let mut n = 0;
     // A day, and bytes that stand for it: no heading has these.
@@ -73,7 +73,7 @@ pub fn put_in_order(keys: &mut [u64])
 // The first and last keys of the ranges that stay for an accounting day.
 pub fn keep(register: &[u8], day: u32, n: usize, starts: &mut [u64], ends: &mut [u64]) -> usize
     requires { (13 + 12 * n ≤ length register.now) × (n ≤ length starts.old) × (n ≤ length ends.old) }
-    ensures { Kept (spansOf (kept day (rangesIn n (drop 13 register.now)))) result starts.new ends.new }
+    ensures { Kept (spans_of (kept day (ranges_in n (drop 13 register.now)))) result starts.new ends.new }
 {
     let mut k = 0;
     let mut at = 13;

@@ -3,11 +3,11 @@
 // come, or the end, that is judged in its place.
 // Promised (specs/Reached.antt): after any pieces, one behind the other, what is known is what would be known of the text that they
 // make (`go_on`); at the end the faults of that text are listed, beside each the offset of its line (`finish`), as `pass` lists those
-// of a whole body. Proved over a list of pieces in proofs/Reached.antt (`over-all`, `all_listed`). No rule is judged here: lines are
+// of a whole body. Proved over a list of pieces in proofs/Reached.antt (`over_all`, `all_listed`). No rule is judged here: lines are
 // judged by `pass`, and what of a text is whole and what is kept of it is said by `joining`.
 ghost use Rattle.std.specs.Prelude.{◌≡◌, ◌+◌, ◌≤◌, length};
 ghost use Rattle.pass.specs.Standing.{Bounded, Fed};
-ghost use Rattle.joining.specs.Held.{keptIn, endedText};
+ghost use Rattle.joining.specs.Held.{kept_in, ended_text};
 ghost use Rattle.going.specs.Reached.{Sound, Begun, Gone, Done, Judged};
 
 use joining::Held;
@@ -50,10 +50,10 @@ fn judge_kept(
     stood: &mut [u32; 1296],
     p: Pass,
 ) -> Pass
-    requires held_bound { at + length (endedText (keptIn held)) ≤ 10000000 }
+    requires held_bound { at + length (ended_text (kept_in held)) ≤ 10000000 }
     requires bounded { Bounded at p lines.old rules.old offsets.old }
-    ensures bounded_2 { Bounded (at + length (endedText (keptIn held))) result lines.new rules.new offsets.new }
-    ensures fed { Fed (endedText (keptIn held)) at basis lines.old rules.old offsets.old stood.old p lines.new rules.new offsets.new stood.new result }
+    ensures bounded_2 { Bounded (at + length (ended_text (kept_in held))) result lines.new rules.new offsets.new }
+    ensures fed { Fed (ended_text (kept_in held)) at basis lines.old rules.old offsets.old stood.old p lines.new rules.new offsets.new stood.new result }
 {
     let t = joining::ended(held);
     let text = t.text;

@@ -21,12 +21,12 @@ pub record Handing (from : List ℕ) (n : ℕ) (to₀ to : List ℕ) (i : ℕ) :
   pub is : to ≡ take i from ++ drop i to₀
 
 -- none is
-pub hand-start : {from : List ℕ} {n : ℕ} {to : List ℕ} → n ≤ length from → n ≤ length to → Handing from n to to 0
-hand-start h k = record { there = h; room = k; upto = omega arith; long = refl; is = refl }
+pub hand_start : {from : List ℕ} {n : ℕ} {to : List ℕ} → n ≤ length from → n ≤ length to → Handing from n to to 0
+hand_start h k = record { there = h; room = k; upto = omega arith; long = refl; is = refl }
 
 -- one more
-pub hand-more : {from : List ℕ} {n : ℕ} {to₀ to : List ℕ} {i : ℕ} → Handing from n to₀ to i → i < n → Handing from n to₀ (set to i (get_or from i 0)) (i + 1)
-hand-more {from} {n} {to₀} {to} {i} H h =
+pub hand_more : {from : List ℕ} {n : ℕ} {to₀ to : List ℕ} {i : ℕ} → Handing from n to₀ to i → i < n → Handing from n to₀ (set to i (get_or from i 0)) (i + 1)
+hand_more {from} {n} {to₀} {to} {i} H h =
     let x : ℕ = get_or from i 0 in
     let rest : List ℕ = drop (suc i) to₀ in
     record {

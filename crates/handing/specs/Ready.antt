@@ -10,5 +10,5 @@ ascends k [] = true
 ascends k (x ∷ xs) = leb k (key x) && ascends (key x) xs
 
 -- the n pairs are there, the slices are of one length, and the pairs are in order
-unfoldable pub isReady : ℕ → List ℕ → List ℕ → Bool
-isReady n ls rs = leb n (length ls) && (eqb (length ls) (length rs) && ascends 0 (held n ls rs))
+unfoldable pub is_ready : ℕ → List ℕ → List ℕ → Bool
+is_ready n ls rs = leb n (length ls) && (eqb (length ls) (length rs) && ascends 0 (held n ls rs))

@@ -1,10 +1,10 @@
 // Whether two slices hold `n` pairs of a line and a rule in order, which is what entering asks of them.
 ghost use Rattle.std.specs.Prelude.{◌≡◌};
-ghost use Rattle.handing.specs.Ready.{isReady};
+ghost use Rattle.handing.specs.Ready.{is_ready};
 
 // One look at each pair: it must not come before the one above it.
 pub fn is_ready(lines: &[u32], rules: &[u32], n: usize) -> bool
-    ensures { result ≡ isReady n lines.now rules.now }
+    ensures { result ≡ is_ready n lines.now rules.now }
 {
     if lines.len() < n {
         return false;

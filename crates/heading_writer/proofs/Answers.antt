@@ -10,30 +10,30 @@ use Rattle.laws.specs.Lists.{put}
 use Rattle.laws.specs.Refusals.{first}
 use Rattle.text.specs.Forms.{template}
 use Rattle.text.specs.Strings.{Wrote}
-use Rattle.text.proofs.Pieces.{text-length}
+use Rattle.text.proofs.Pieces.{text_length}
 use Rattle.headings.specs.declared.Heading.{Heading}
 use Rattle.headings.specs.Reading.{layout}
-use Rattle.heading_writer.specs.Writing.{parts, fitsHeading, headingText, writeRefusals, writtenTarget}
+use Rattle.heading_writer.specs.Writing.{parts, fits_heading, heading_text, write_refusals, written_target}
 
-pub text-size : (h : Heading) → length (headingText h) ≡ 54
-unfolding headingText template
-text-size h = text-length layout (parts h)
+pub text_size : (h : Heading) → length (heading_text h) ≡ 54
+unfolding heading_text template
+text_size h = text_length layout (parts h)
 
 -- what a target holds whose start a heading was written to
-pub at-start : (h : Heading) {before after : List ℕ} {end : ℕ} → Wrote before 0 (headingText h) after end → after ≡ headingText h ++ drop 54 before
+pub at_start : (h : Heading) {before after : List ℕ} {end : ℕ} → Wrote before 0 (heading_text h) after end → after ≡ heading_text h ++ drop 54 before
 unfolding put
-at-start h {before} w = w.holds ∙ ap (λ (n : ℕ). headingText h ++ drop n before) (zero-add (length (headingText h)) ∙ text-size h)
+at_start h {before} w = w.holds ∙ ap (λ (n : ℕ). heading_text h ++ drop n before) (zero-add (length (heading_text h)) ∙ text_size h)
 
 module _ (h : Heading) (t : List ℕ) where
-  pub too_large : fitsHeading h ≡ false → (17 ≡ first (writeRefusals h (length t))) × (t ≡ writtenTarget h t)
-  unfolding writtenTarget
+  pub too_large : fits_heading h ≡ false → (17 ≡ first (write_refusals h (length t))) × (t ≡ written_target h t)
+  unfolding written_target
   too_large e = (rw e, rw e)
 
-  module _ (e : fitsHeading h ≡ true) where
-    pub too_short : length t < 54 → (16 ≡ first (writeRefusals h (length t))) × (t ≡ writtenTarget h t)
-    unfolding writtenTarget
+  module _ (e : fits_heading h ≡ true) where
+    pub too_short : length t < 54 → (16 ≡ first (write_refusals h (length t))) × (t ≡ written_target h t)
+    unfolding written_target
     too_short l = (rw (e, lt-ltb _ 54 l), rw (e, lt-ltb _ 54 l))
 
-    pub done : 54 ≤ length t → (0 ≡ first (writeRefusals h (length t))) × (headingText h ++ drop 54 t ≡ writtenTarget h t)
-    unfolding writtenTarget
+    pub done : 54 ≤ length t → (0 ≡ first (write_refusals h (length t))) × (heading_text h ++ drop 54 t ≡ written_target h t)
+    unfolding written_target
     done l = (rw (e, le-ltb _ 54 l), rw (e, le-ltb _ 54 l))

@@ -1,7 +1,7 @@
 -- Writing a heading: its 54 bytes, and what a target holds after.
 use Rattle.std.specs.Prelude.{ℕ, ◌≡◌, Bool, cond, not, List, [], ◌∷◌, ◌++◌, length, drop, eqb, ltb}
 use Rattle.laws.specs.Refusals.{Refusal, ◌if◌, first}
-use Rattle.text.specs.Forms.{numbersFit, formText}
+use Rattle.text.specs.Forms.{numbers_fit, form_text}
 use Rattle.headings.specs.declared.Heading.{Heading}
 use Rattle.heading_writer.specs.declared.Written.{Written}
 use Rattle.heading_writer.specs.declared.Written.TheVariants.{Done, TooLarge, TooShort}
@@ -13,35 +13,35 @@ parts h =
     h.kind ∷ h.day ∷ h.first.0 ∷ h.number.0 ∷ h.second.0 ∷ h.output.0 ∷ h.third.0 ∷ []
 
 -- each part fits its digits
-unfoldable pub fitsHeading : Heading → Bool
-fitsHeading h = numbersFit layout (parts h)
+unfoldable pub fits_heading : Heading → Bool
+fits_heading h = numbers_fit layout (parts h)
 
-unfoldable pub headingText : Heading → List ℕ
-headingText h = formText layout (parts h)
+unfoldable pub heading_text : Heading → List ℕ
+heading_text h = form_text layout (parts h)
 
 -- its part from the first code on
-unfoldable pub sevensText : Heading → List ℕ
-sevensText h = formText (drop 4 layout) (drop 2 (parts h))
+unfoldable pub sevens_text : Heading → List ℕ
+sevens_text h = form_text (drop 4 layout) (drop 2 (parts h))
 
 -- 'A refusal changes no lent byte. A longer target keeps its bytes after the 54th.'
 -- What a target holds after a job that refuses with a number, or with 0 and then writes 54 bytes
-abbrev pub targetAfter : ℕ → List ℕ → List ℕ → List ℕ
-targetAfter refusal text target = cond (eqb refusal 0) (text ++ drop 54 target) target
+abbrev pub target_after : ℕ → List ℕ → List ℕ → List ℕ
+target_after refusal text target = cond (eqb refusal 0) (text ++ drop 54 target) target
 
 -- document 01's number for each answer
-abbrev pub writtenNumber : Written → ℕ
-writtenNumber Done = 0
-writtenNumber TooLarge = 17
-writtenNumber TooShort = 16
+abbrev pub written_number : Written → ℕ
+written_number Done = 0
+written_number TooLarge = 17
+written_number TooShort = 16
 
 -- '16: target under 54 bytes', '17: a value too large for its digits', 'writing tests 17 before 16'
-abbrev pub writeRefusals : Heading → ℕ → List Refusal
-writeRefusals h room = (17 if not (fitsHeading h)) ∷ (16 if ltb room 54) ∷ []
+abbrev pub write_refusals : Heading → ℕ → List Refusal
+write_refusals h room = (17 if not (fits_heading h)) ∷ (16 if ltb room 54) ∷ []
 
 -- the target after writing
-unfoldable pub writtenTarget : Heading → List ℕ → List ℕ
-writtenTarget h target = targetAfter (first (writeRefusals h (length target))) (headingText h) target
+unfoldable pub written_target : Heading → List ℕ → List ℕ
+written_target h target = target_after (first (write_refusals h (length target))) (heading_text h) target
 
 -- what writing promises of its answer, and of the target after it
 abbrev pub Writes : Heading → List ℕ → Written → List ℕ → Type 0
-Writes h target w after = (writtenNumber w ≡ first (writeRefusals h (length target))) × (after ≡ writtenTarget h target)
+Writes h target w after = (written_number w ≡ first (write_refusals h (length target))) × (after ≡ written_target h target)

@@ -3,7 +3,7 @@
 // (proofs/RoundTrips.antt). Stands on `headings` (the parts, the layout, reading) and `text` (digits, strings, forms).
 ghost use Rattle.std.specs.Prelude.{◌≡◌, ◌+◌, ◌≤◌, length};
 ghost use Rattle.text.specs.Strings.{Wrote};
-ghost use Rattle.heading_writer.specs.Writing.{fitsHeading, headingText, sevensText, writtenNumber, Writes};
+ghost use Rattle.heading_writer.specs.Writing.{fits_heading, heading_text, sevens_text, written_number, Writes};
 
 use headings::Heading;
 use text::forms::{put_digits, put_spaced};
@@ -18,7 +18,7 @@ pub enum Written {
 
 // Whether each part of a heading fits its digits.
 fn fits(h: Heading) -> bool
-    ensures { result ≡ fitsHeading h }
+    ensures { result ≡ fits_heading h }
 {
     (h.kind < 100)
         & (h.day < 100000000)
@@ -32,7 +32,7 @@ fn fits(h: Heading) -> bool
 // Writes the five seven-digit parts from a place on, each after a space, and answers the place after them.
 fn put_sevens(out: &mut [u8], at: usize, h: Heading) -> usize
     requires { at + 40 ≤ length out.old }
-    ensures text { Wrote out.old at (sevensText h) out.new result }
+    ensures text { Wrote out.old at (sevens_text h) out.new result }
     ensures end { result ≡ at + 40 }
 {
     let mut next = put_spaced(out, at, 7, h.first.0 as u64);
@@ -45,7 +45,7 @@ fn put_sevens(out: &mut [u8], at: usize, h: Heading) -> usize
 // Writes a heading's 54 bytes from a place on, of each part its last digits, and answers the place after them.
 pub fn put_heading(out: &mut [u8], at: usize, h: Heading) -> usize
     requires { at + 54 ≤ length out.old }
-    ensures text { Wrote out.old at (headingText h) out.new result }
+    ensures text { Wrote out.old at (heading_text h) out.new result }
     ensures end { result ≡ at + 54 }
 {
     let mut next = put(out, at, b"HD:");
@@ -70,7 +70,7 @@ pub fn write(h: Heading, target: &mut [u8]) -> Written
 
 // Document 01's number of an answer, 0 where nothing is refused.
 pub fn number_of(w: Written) -> u32
-    ensures { result ≡ writtenNumber w }
+    ensures { result ≡ written_number w }
 {
     match w {
         Written::Done => 0,

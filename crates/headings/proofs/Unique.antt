@@ -5,5 +5,5 @@ use Prim.Native.Nat.{ℕ}
 use Rattle.headings.specs.declared.Read.{Read}
 use Rattle.headings.specs.Reading.{ReadsAs}
 
-pub read-unique : (s : List ℕ) {r r' : Read} → ReadsAs s r → ReadsAs s r' → r ≡ r'
-read-unique s e f = e.1 ∙ sym f.1
+pub read_unique : (s : List ℕ) {r r' : Read} → ReadsAs s r → ReadsAs s r' → r ≡ r'
+read_unique s e f = e.1 ∙ sym f.1

@@ -2,7 +2,7 @@
 use Rattle.std.specs.Prelude.{ℕ, ◌≡◌, Bool, cond, not, List, [], ◌∷◌, get_or}
 use Rattle.laws.specs.Ascii.{ascii}
 use Rattle.laws.specs.Refusals.{Refusal, ◌if◌, first}
-use Rattle.text.specs.Forms.{Piece, fixed, padded, template, hasForm, numbers}
+use Rattle.text.specs.Forms.{Piece, fixed, padded, template, has_form, numbers}
 use Rattle.headings.specs.declared.Heading.{Heading}
 use Rattle.headings.specs.declared.Read.{Read}
 use Rattle.headings.specs.declared.Read.TheVariants.{Reads, Unreadable}
@@ -14,8 +14,8 @@ layout =
     ∷ padded 7 ∷ fixed (ascii " ") ∷ padded 7 ∷ fixed (ascii " ") ∷ padded 7 ∷ []
 
 -- a heading of seven numbers in the order of the layout
-abbrev pub headingFrom : List ℕ → Heading
-headingFrom vs =
+abbrev pub heading_from : List ℕ → Heading
+heading_from vs =
     record {
       kind = get_or vs 0 0;
       day = get_or vs 1 0;
@@ -26,22 +26,22 @@ headingFrom vs =
       third = record { 0 = get_or vs 6 0 };
     }
 
-abbrev pub isHeading : List ℕ → Bool
-isHeading s = hasForm (template layout) s
+abbrev pub is_heading : List ℕ → Bool
+is_heading s = has_form (template layout) s
 
 -- what reading a text gives
-unfoldable pub headingOf : List ℕ → Read
-headingOf s = cond (isHeading s) (Reads (headingFrom (numbers layout s))) Unreadable
+unfoldable pub heading_of : List ℕ → Read
+heading_of s = cond (is_heading s) (Reads (heading_from (numbers layout s))) Unreadable
 
 -- document 01's number for each answer
-abbrev pub readNumber : Read → ℕ
-readNumber (Reads h) = 0
-readNumber Unreadable = 11
+abbrev pub read_number : Read → ℕ
+read_number (Reads h) = 0
+read_number Unreadable = 11
 
 -- '11: not 54 bytes in the heading layout'
-abbrev pub readRefusals : List ℕ → List Refusal
-readRefusals s = (11 if not (isHeading s)) ∷ []
+abbrev pub read_refusals : List ℕ → List Refusal
+read_refusals s = (11 if not (is_heading s)) ∷ []
 
 -- what reading promises of its answer: document 01's number for it, and the heading that the text says
 abbrev pub ReadsAs : List ℕ → Read → Type 0
-ReadsAs s r = (readNumber r ≡ first (readRefusals s)) × (r ≡ headingOf s)
+ReadsAs s r = (read_number r ≡ first (read_refusals s)) × (r ≡ heading_of s)

@@ -1,9 +1,9 @@
 // The types of items. Each set is one list in specs/ItemTypes.antt.
 ghost use Rattle.std.specs.Prelude.{◌≡◌};
-ghost use Rattle.headings.specs.ItemTypes.{isInput, isTrilateral, isPriority, isPayment};
+ghost use Rattle.headings.specs.ItemTypes.{is_input, is_trilateral, is_priority, is_payment};
 
 pub fn is_input(kind: u32) -> bool
-    ensures { result ≡ isInput kind }
+    ensures { result ≡ is_input kind }
 {
     (kind == 1)
         | (kind == 11)
@@ -25,19 +25,19 @@ pub fn is_input(kind: u32) -> bool
 }
 
 pub fn is_trilateral(kind: u32) -> bool
-    ensures { result ≡ isTrilateral kind }
+    ensures { result ≡ is_trilateral kind }
 {
     (kind == 35) | (kind == 37) | (kind == 45)
 }
 
 pub fn is_priority(kind: u32) -> bool
-    ensures { result ≡ isPriority kind }
+    ensures { result ≡ is_priority kind }
 {
     (kind == 1) | (kind == 21) | (kind == 44) | (kind == 45)
 }
 
 pub fn is_payment(kind: u32) -> bool
-    ensures { result ≡ isPayment kind }
+    ensures { result ≡ is_payment kind }
 {
     is_input(kind) & !(kind == 51)
 }

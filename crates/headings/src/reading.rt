@@ -1,6 +1,6 @@
 // Reading a heading's text, an open job: 54 bytes in the layout, or refusal 11.
 ghost use Rattle.std.specs.Prelude.{◌≡◌};
-ghost use Rattle.headings.specs.Reading.{readNumber, ReadsAs};
+ghost use Rattle.headings.specs.Reading.{read_number, ReadsAs};
 
 use super::{Code, Heading, ItemNo, Read};
 use text::forms::{has_form, part};
@@ -28,7 +28,7 @@ pub fn read(text: &[u8]) -> Read
 
 // Document 01's number of an answer, 0 where nothing is refused.
 pub fn number_of(r: Read) -> u32
-    ensures { result ≡ readNumber r }
+    ensures { result ≡ read_number r }
 {
     match r {
         Read::Reads(h) => 0,

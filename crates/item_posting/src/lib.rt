@@ -2,8 +2,8 @@
 // body and every list of at most 64 participants: what `PostsItems` of specs/Items.antt says. Stands on `booking` for the items, and on
 // `listing` for checking's refusals, which an answer can hold.
 ghost use Rattle.std.specs.Prelude.{map, ◌≤◌, length};
-ghost use Rattle.item_reader.specs.Slips.{slipsFrom};
-ghost use Rattle.turnovers.specs.Scheme.{postingOf};
+ghost use Rattle.item_reader.specs.Slips.{slips_from};
+ghost use Rattle.turnovers.specs.Scheme.{posting_of};
 ghost use Rattle.item_posting.specs.Items.{PostsItems};
 
 use listing::checking::Unchecked;
@@ -22,7 +22,7 @@ pub enum Posted {
 // The items of an accepted file. All goes to a copy, which is stored once, so that a refusal found on the way leaves the sheet alone.
 pub fn post_items(codes: &[u32], turnovers: &mut [i64; 256], s: &[u8]) -> Posted
     requires { length codes.now ≤ 64 }
-    ensures { PostsItems codes.now turnovers.old (map postingOf (slipsFrom 1 s.now)) result turnovers.new }
+    ensures { PostsItems codes.now turnovers.old (map posting_of (slips_from 1 s.now)) result turnovers.new }
 {
     let mut work = *turnovers;
     let t = booking::book_items(codes, &mut work, s);

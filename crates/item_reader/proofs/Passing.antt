@@ -8,12 +8,12 @@ use lib.Dec.{eqb}
 use borrow.Author.Tests.{eqb-true}
 use Rattle.laws.specs.Ascii.{ascii}
 use Rattle.laws.specs.Tests.{is_byte}
-use Rattle.laws.proofs.Truth.{never_true, both_left, both_right, by-test}
+use Rattle.laws.proofs.Truth.{never_true, both_left, both_right, by_test}
 use Rattle.text.specs.Strings.{begins}
 use Rattle.lines.specs.Lines.{Line, crlf, onto, lines}
-use Rattle.lines.proofs.Lines.{lines_cut, lines-on, crlf-not}
+use Rattle.lines.proofs.Lines.{lines_cut, lines_on, crlf_not}
 use Rattle.headings.specs.declared.Read.TheVariants.{Unreadable}
-use Rattle.headings.specs.Reading.{headingOf}
+use Rattle.headings.specs.Reading.{heading_of}
 use Rattle.figures.specs.Layouts.{fits, part}
 use Rattle.figures.proofs.Runs.{run_value}
 use Rattle.fields.specs.declared.kinds.Kind.{Kind}
@@ -25,50 +25,50 @@ use Rattle.fields.specs.Readings.{text_of, layout_of, reading_of}
 use Rattle.fields.specs.Tails.{takes, says_of}
 use Rattle.rules.specs.declared.FirstKc.{FirstKc}
 use Rattle.rules.specs.declared.FirstKc.TheVariants.{NoKc}
-use Rattle.rules.specs.Rows.{Row, FieldRow, LowRow, sorted, sortedAs, rows_from}
+use Rattle.rules.specs.Rows.{Row, FieldRow, LowRow, sorted, sorted_as, rows_from}
 use Rattle.rules.specs.Tree.{Owned, File, tree, ◌▹◌}
-use Rattle.rules.specs.Said.{says, continued, head_of, or_else, ifThere, firstSaid, is, kcBy, kcOf}
+use Rattle.rules.specs.Said.{says, continued, head_of, or_else, if_there, first_said, is, kc_by, kc_of}
 use Rattle.item_reader.specs.declared.Slip.{Slip}
-use Rattle.item_reader.specs.Slips.{amountOf, kcAmong, slipOf}
-use Rattle.item_reader.proofs.Starts.{kind-told, heading-not, kc-not}
+use Rattle.item_reader.specs.Slips.{amount_of, kc_among, slip_of}
+use Rattle.item_reader.proofs.Starts.{kind_told, heading_not, kc_not}
 
 -- ---- the first KC
 -- a KC says what its own line says: its continuations are carried unread
-pub says-kc : (row : Row) (ls : List LowRow) → says (record { owner = record { row = row; ident = named "KC" }; below = ls }) ≡ reading_of Money (text_of row.bytes)
+pub says_kc : (row : Row) (ls : List LowRow) → says (record { owner = record { row = row; ident = named "KC" }; below = ls }) ≡ reading_of Money (text_of row.bytes)
 unfolding says says_of class_of takes place
-says-kc row ls = refl
+says_kc row ls = refl
 
-kc-first : (row : Row) (i : ℕ) (ls : List LowRow) (gs : List (Owned FieldRow)) → i ≡ named "KC"
-    → kcAmong (record { owner = record { row = row; ident = i }; below = ls } ∷ gs) ≡ kcBy (reading_of Money (text_of row.bytes))
-unfolding firstSaid place
-kc-first row i ls gs e =
-    ap (λ (j : ℕ). kcAmong (record { owner = record { row = row; ident = j }; below = ls } ∷ gs)) e ∙ ap kcBy (says-kc row ls)
+kc_first : (row : Row) (i : ℕ) (ls : List LowRow) (gs : List (Owned FieldRow)) → i ≡ named "KC"
+    → kc_among (record { owner = record { row = row; ident = i }; below = ls } ∷ gs) ≡ kc_by (reading_of Money (text_of row.bytes))
+unfolding first_said place
+kc_first row i ls gs e =
+    ap (λ (j : ℕ). kc_among (record { owner = record { row = row; ident = j }; below = ls } ∷ gs)) e ∙ ap kc_by (says_kc row ls)
 
-kc-other : (row : Row) (i : ℕ) (ls : List LowRow) (gs : List (Owned FieldRow)) → eqb i (named "KC") ≡ false
-    → kcAmong (record { owner = record { row = row; ident = i }; below = ls } ∷ gs) ≡ kcAmong gs
-unfolding firstSaid
-kc-other row i ls gs e =
-    ap (λ (t : Bool). kcOf (or_else (ifThere t (says (record { owner = record { row = row; ident = i }; below = ls }))) (firstSaid (is (named "KC")) gs))) e
+kc_other : (row : Row) (i : ℕ) (ls : List LowRow) (gs : List (Owned FieldRow)) → eqb i (named "KC") ≡ false
+    → kc_among (record { owner = record { row = row; ident = i }; below = ls } ∷ gs) ≡ kc_among gs
+unfolding first_said
+kc_other row i ls gs e =
+    ap (λ (t : Bool). kc_of (or_else (if_there t (says (record { owner = record { row = row; ident = i }; below = ls }))) (first_said (is (named "KC")) gs))) e
 
 -- amounts have fifteen digits at most
-paid-small : (s : List ℕ) → amountOf (kcBy (reading_of Money s)) < 1000000000000000
+paid_small : (s : List ℕ) → amount_of (kc_by (reading_of Money s)) < 1000000000000000
 unfolding reading_of part
-paid-small s = by-test (fits (layout_of Money).own s)
+paid_small s = by_test (fits (layout_of Money).own s)
     (λ q. rw q (run_value 15 s))
     (λ q. rw q (omega arith))
 
 -- ---- what is seen of some lines, the first of which has the number n
-abbrev pub slipsIn : ℕ → List Line → List Slip
-slipsIn n ls = map slipOf (tree (rows_from n ls)).items
+abbrev pub slips_in : ℕ → List Line → List Slip
+slips_in n ls = map slip_of (tree (rows_from n ls)).items
 
-abbrev pub kcIn : ℕ → List Line → FirstKc
-kcIn n ls = kcAmong (tree (rows_from n ls)).loose
+abbrev pub kc_in : ℕ → List Line → FirstKc
+kc_in n ls = kc_among (tree (rows_from n ls)).loose
 
-abbrev pub topIn : ℕ → List Line → Bool
-topIn n ls = continued (tree (rows_from n ls)).top
+abbrev pub top_in : ℕ → List Line → Bool
+top_in n ls = continued (tree (rows_from n ls)).top
 
-pub none_in : (n : ℕ) → (slipsIn n [] ≡ []) × (kcIn n [] ≡ NoKc) × (topIn n [] ≡ false)
-unfolding rows_from continued firstSaid
+pub none_in : (n : ℕ) → (slips_in n [] ≡ []) × (kc_in n [] ≡ NoKc) × (top_in n [] ≡ false)
+unfolding rows_from continued first_said
 none_in n = (refl, refl, refl)
 
 abbrev row_of : ℕ → Line → Row
@@ -79,45 +79,45 @@ module _ (l : Line) (ls : List Line) (n : ℕ) where
   abbrev rest : File
   rest = tree (rows_from (suc n) ls)
 
-  cut_at : (k : Kind) → kind_of l.bytes ≡ k → tree (rows_from n (l ∷ ls)) ≡ sortedAs k (row_of n l) ▹ rest
+  cut_at : (k : Kind) → kind_of l.bytes ≡ k → tree (rows_from n (l ∷ ls)) ≡ sorted_as k (row_of n l) ▹ rest
   unfolding rows_from sorted
-  cut_at k e = ap (λ (q : Kind). sortedAs q (row_of n l) ▹ rest) e
+  cut_at k e = ap (λ (q : Kind). sorted_as q (row_of n l) ▹ rest) e
 
-  in-heading : kind_of l.bytes ≡ Heading
-      → (slipsIn n (l ∷ ls) ≡ record { head = cond (topIn (suc n) ls) Unreadable (headingOf l.bytes); kc = kcIn (suc n) ls } ∷ slipsIn (suc n) ls) × (kcIn n (l ∷ ls) ≡ NoKc) × (topIn n (l ∷ ls) ≡ false)
-  unfolding head_of firstSaid continued
-  in-heading e =
+  in_heading : kind_of l.bytes ≡ Heading
+      → (slips_in n (l ∷ ls) ≡ record { head = cond (top_in (suc n) ls) Unreadable (heading_of l.bytes); kc = kc_in (suc n) ls } ∷ slips_in (suc n) ls) × (kc_in n (l ∷ ls) ≡ NoKc) × (top_in n (l ∷ ls) ≡ false)
+  unfolding head_of first_said continued
+  in_heading e =
       let c = cut_at Heading e in
-      (ap (λ (f : File). map slipOf f.items) c, ap (λ (f : File). kcAmong f.loose) c, ap (λ (f : File). continued f.top) c)
+      (ap (λ (f : File). map slip_of f.items) c, ap (λ (f : File). kc_among f.loose) c, ap (λ (f : File). continued f.top) c)
 
-  in-continuation : kind_of l.bytes ≡ Continuation → (slipsIn n (l ∷ ls) ≡ slipsIn (suc n) ls) × (kcIn n (l ∷ ls) ≡ kcIn (suc n) ls) × (topIn n (l ∷ ls) ≡ true)
+  in_continuation : kind_of l.bytes ≡ Continuation → (slips_in n (l ∷ ls) ≡ slips_in (suc n) ls) × (kc_in n (l ∷ ls) ≡ kc_in (suc n) ls) × (top_in n (l ∷ ls) ≡ true)
   unfolding continued
-  in-continuation e =
+  in_continuation e =
       let c = cut_at Continuation e in
-      (ap (λ (f : File). map slipOf f.items) c, ap (λ (f : File). kcAmong f.loose) c, ap (λ (f : File). continued f.top) c)
+      (ap (λ (f : File). map slip_of f.items) c, ap (λ (f : File). kc_among f.loose) c, ap (λ (f : File). continued f.top) c)
 
-  in-other : kind_of l.bytes ≡ Other → (slipsIn n (l ∷ ls) ≡ slipsIn (suc n) ls) × (kcIn n (l ∷ ls) ≡ kcIn (suc n) ls) × (topIn n (l ∷ ls) ≡ topIn (suc n) ls)
+  in_other : kind_of l.bytes ≡ Other → (slips_in n (l ∷ ls) ≡ slips_in (suc n) ls) × (kc_in n (l ∷ ls) ≡ kc_in (suc n) ls) × (top_in n (l ∷ ls) ≡ top_in (suc n) ls)
   unfolding continued
-  in-other e =
+  in_other e =
       let c = cut_at Other e in
-      (ap (λ (f : File). map slipOf f.items) c, ap (λ (f : File). kcAmong f.loose) c, ap (λ (f : File). continued f.top) c)
+      (ap (λ (f : File). map slip_of f.items) c, ap (λ (f : File). kc_among f.loose) c, ap (λ (f : File). continued f.top) c)
 
   module _ (i : ℕ) (e : kind_of l.bytes ≡ Field i) where
-    in_field : (slipsIn n (l ∷ ls) ≡ slipsIn (suc n) ls) × (topIn n (l ∷ ls) ≡ false)
+    in_field : (slips_in n (l ∷ ls) ≡ slips_in (suc n) ls) × (top_in n (l ∷ ls) ≡ false)
     unfolding continued
     in_field =
         let c = cut_at (Field i) e in
-        (ap (λ (f : File). map slipOf f.items) c, ap (λ (f : File). continued f.top) c)
+        (ap (λ (f : File). map slip_of f.items) c, ap (λ (f : File). continued f.top) c)
 
-    in-kc : i ≡ named "KC" → kcIn n (l ∷ ls) ≡ kcBy (reading_of Money (text_of l.bytes))
-    in-kc q = ap (λ (f : File). kcAmong f.loose) (cut_at (Field i) e) ∙ kc-first (row_of n l) i rest.top rest.loose q
+    in_kc : i ≡ named "KC" → kc_in n (l ∷ ls) ≡ kc_by (reading_of Money (text_of l.bytes))
+    in_kc q = ap (λ (f : File). kc_among f.loose) (cut_at (Field i) e) ∙ kc_first (row_of n l) i rest.top rest.loose q
 
-    in-no-kc : eqb i (named "KC") ≡ false → kcIn n (l ∷ ls) ≡ kcIn (suc n) ls
-    in-no-kc q = ap (λ (f : File). kcAmong f.loose) (cut_at (Field i) e) ∙ kc-other (row_of n l) i rest.top rest.loose q
+    in_no_kc : eqb i (named "KC") ≡ false → kc_in n (l ∷ ls) ≡ kc_in (suc n) ls
+    in_no_kc q = ap (λ (f : File). kc_among f.loose) (cut_at (Field i) e) ∙ kc_other (row_of n l) i rest.top rest.loose q
 
 -- ---- the number does not matter
 Alike : ℕ → ℕ → List Line → Type 0
-Alike n m ls = (slipsIn n ls ≡ slipsIn m ls) × (kcIn n ls ≡ kcIn m ls) × (topIn n ls ≡ topIn m ls)
+Alike n m ls = (slips_in n ls ≡ slips_in m ls) × (kc_in n ls ≡ kc_in m ls) × (top_in n ls ≡ top_in m ls)
 
 alike : (ls : List Line) (n m : ℕ) → Alike n m ls
 unfolding Alike
@@ -129,156 +129,156 @@ alike (l ∷ ls) n m = go (kind_of l.bytes) refl (alike ls (suc n) (suc m))
   where
     go : (k : Kind) → kind_of l.bytes ≡ k → Alike (suc n) (suc m) ls → Alike n m (l ∷ ls)
     go Heading e w =
-        let a = in-heading l ls n e in
-        let b = in-heading l ls m e in
-        (a.0 ∙ (λ i. record { head = cond (w.2 i) Unreadable (headingOf l.bytes); kc = w.1 i } ∷ w.0 i) ∙ sym b.0, a.1 ∙ sym b.1, a.2 ∙ sym b.2)
+        let a = in_heading l ls n e in
+        let b = in_heading l ls m e in
+        (a.0 ∙ (λ i. record { head = cond (w.2 i) Unreadable (heading_of l.bytes); kc = w.1 i } ∷ w.0 i) ∙ sym b.0, a.1 ∙ sym b.1, a.2 ∙ sym b.2)
     go Continuation e w =
-        let a = in-continuation l ls n e in
-        let b = in-continuation l ls m e in
+        let a = in_continuation l ls n e in
+        let b = in_continuation l ls m e in
         (a.0 ∙ w.0 ∙ sym b.0, a.1 ∙ w.1 ∙ sym b.1, a.2 ∙ sym b.2)
     go (Field i) e w =
         let a = in_field l ls n i e in
         let b = in_field l ls m i e in
         (a.0 ∙ w.0 ∙ sym b.0, kcs (eqb i (named "KC")) refl, a.1 ∙ sym b.1)
       where
-        kcs : (t : Bool) → eqb i (named "KC") ≡ t → kcIn n (l ∷ ls) ≡ kcIn m (l ∷ ls)
-        kcs true q = in-kc l ls n i e (eqb-true i (named "KC") q) ∙ sym (in-kc l ls m i e (eqb-true i (named "KC") q))
-        kcs false q = in-no-kc l ls n i e q ∙ w.1 ∙ sym (in-no-kc l ls m i e q)
+        kcs : (t : Bool) → eqb i (named "KC") ≡ t → kc_in n (l ∷ ls) ≡ kc_in m (l ∷ ls)
+        kcs true q = in_kc l ls n i e (eqb-true i (named "KC") q) ∙ sym (in_kc l ls m i e (eqb-true i (named "KC") q))
+        kcs false q = in_no_kc l ls n i e q ∙ w.1 ∙ sym (in_no_kc l ls m i e q)
     go Other e w =
-        let a = in-other l ls n e in
-        let b = in-other l ls m e in
+        let a = in_other l ls n e in
+        let b = in_other l ls m e in
         (a.0 ∙ w.0 ∙ sym b.0, a.1 ∙ w.1 ∙ sym b.1, a.2 ∙ w.2 ∙ sym b.2)
 
-pub kc-alike : (ls : List Line) (n m : ℕ) → kcIn n ls ≡ kcIn m ls
+pub kc_alike : (ls : List Line) (n m : ℕ) → kc_in n ls ≡ kc_in m ls
 unfolding Alike
-kc-alike ls n m = (alike ls n m).1
+kc_alike ls n m = (alike ls n m).1
 
-pub top-alike : (ls : List Line) (n m : ℕ) → topIn n ls ≡ topIn m ls
+pub top_alike : (ls : List Line) (n m : ℕ) → top_in n ls ≡ top_in m ls
 unfolding Alike
-top-alike ls n m = (alike ls n m).2
+top_alike ls n m = (alike ls n m).2
 
 -- the first KC of any lines is small
-pub kc-small : (ls : List Line) (n : ℕ) → amountOf (kcIn n ls) < 1000000000000000
-kc-small [] n = subst (λ (k : FirstKc). amountOf k < 1000000000000000) (sym (none_in n).1) (omega arith)
-kc-small (l ∷ ls) n = go (kind_of l.bytes) refl (kc-small ls (suc n))
+pub kc_small : (ls : List Line) (n : ℕ) → amount_of (kc_in n ls) < 1000000000000000
+kc_small [] n = subst (λ (k : FirstKc). amount_of k < 1000000000000000) (sym (none_in n).1) (omega arith)
+kc_small (l ∷ ls) n = go (kind_of l.bytes) refl (kc_small ls (suc n))
   where
-    by : {k : FirstKc} → kcIn n (l ∷ ls) ≡ k → amountOf k < 1000000000000000 → amountOf (kcIn n (l ∷ ls)) < 1000000000000000
-    by e h = subst (λ (k : FirstKc). amountOf k < 1000000000000000) (sym e) h
+    by : {k : FirstKc} → kc_in n (l ∷ ls) ≡ k → amount_of k < 1000000000000000 → amount_of (kc_in n (l ∷ ls)) < 1000000000000000
+    by e h = subst (λ (k : FirstKc). amount_of k < 1000000000000000) (sym e) h
 
-    go : (k : Kind) → kind_of l.bytes ≡ k → amountOf (kcIn (suc n) ls) < 1000000000000000 → amountOf (kcIn n (l ∷ ls)) < 1000000000000000
-    go Heading e w = by (in-heading l ls n e).1 (omega arith)
-    go Continuation e w = by (in-continuation l ls n e).1 w
+    go : (k : Kind) → kind_of l.bytes ≡ k → amount_of (kc_in (suc n) ls) < 1000000000000000 → amount_of (kc_in n (l ∷ ls)) < 1000000000000000
+    go Heading e w = by (in_heading l ls n e).1 (omega arith)
+    go Continuation e w = by (in_continuation l ls n e).1 w
     go (Field i) e w = kcs (eqb i (named "KC")) refl
       where
-        kcs : (t : Bool) → eqb i (named "KC") ≡ t → amountOf (kcIn n (l ∷ ls)) < 1000000000000000
-        kcs true q = by (in-kc l ls n i e (eqb-true i (named "KC") q)) (paid-small (text_of l.bytes))
-        kcs false q = by (in-no-kc l ls n i e q) w
-    go Other e w = by (in-other l ls n e).1 w
+        kcs : (t : Bool) → eqb i (named "KC") ≡ t → amount_of (kc_in n (l ∷ ls)) < 1000000000000000
+        kcs true q = by (in_kc l ls n i e (eqb-true i (named "KC") q)) (paid_small (text_of l.bytes))
+        kcs false q = by (in_no_kc l ls n i e q) w
+    go Other e w = by (in_other l ls n e).1 w
 
 -- ---- past one line
 module _ (l : Line) (ls : List Line) (n : ℕ) where
-  pub item-here : kind_of l.bytes ≡ Heading → slipsIn n (l ∷ ls) ≡ record { head = cond (topIn n ls) Unreadable (headingOf l.bytes); kc = kcIn n ls } ∷ slipsIn n ls
+  pub item_here : kind_of l.bytes ≡ Heading → slips_in n (l ∷ ls) ≡ record { head = cond (top_in n ls) Unreadable (heading_of l.bytes); kc = kc_in n ls } ∷ slips_in n ls
   unfolding Alike
-  item-here e =
+  item_here e =
       let w = alike ls (suc n) n in
-      (in-heading l ls n e).0 ∙ (λ i. record { head = cond (w.2 i) Unreadable (headingOf l.bytes); kc = w.1 i } ∷ w.0 i)
+      (in_heading l ls n e).0 ∙ (λ i. record { head = cond (w.2 i) Unreadable (heading_of l.bytes); kc = w.1 i } ∷ w.0 i)
 
-  pub kc-none : kind_of l.bytes ≡ Heading → kcIn n (l ∷ ls) ≡ NoKc
-  kc-none e = (in-heading l ls n e).1
+  pub kc_none : kind_of l.bytes ≡ Heading → kc_in n (l ∷ ls) ≡ NoKc
+  kc_none e = (in_heading l ls n e).1
 
-  pub kc-here : kind_of l.bytes ≡ Field (named "KC") → kcIn n (l ∷ ls) ≡ kcBy (reading_of Money (text_of l.bytes))
-  kc-here e = in-kc l ls n (named "KC") e refl
+  pub kc_here : kind_of l.bytes ≡ Field (named "KC") → kc_in n (l ∷ ls) ≡ kc_by (reading_of Money (text_of l.bytes))
+  kc_here e = in_kc l ls n (named "KC") e refl
 
-  pub top-heading : kind_of l.bytes ≡ Heading → topIn n (l ∷ ls) ≡ false
-  top-heading e = (in-heading l ls n e).2
+  pub top_heading : kind_of l.bytes ≡ Heading → top_in n (l ∷ ls) ≡ false
+  top_heading e = (in_heading l ls n e).2
 
-  pub top-continuation : kind_of l.bytes ≡ Continuation → topIn n (l ∷ ls) ≡ true
-  top-continuation e = (in-continuation l ls n e).2
+  pub top_continuation : kind_of l.bytes ≡ Continuation → top_in n (l ∷ ls) ≡ true
+  top_continuation e = (in_continuation l ls n e).2
 
-  pub top_field : (i : ℕ) → kind_of l.bytes ≡ Field i → topIn n (l ∷ ls) ≡ false
+  pub top_field : (i : ℕ) → kind_of l.bytes ≡ Field i → top_in n (l ∷ ls) ≡ false
   top_field i e = (in_field l ls n i e).1
 
-  pub top-other : kind_of l.bytes ≡ Other → topIn n (l ∷ ls) ≡ topIn n ls
+  pub top_other : kind_of l.bytes ≡ Other → top_in n (l ∷ ls) ≡ top_in n ls
   unfolding Alike
-  top-other e = (in-other l ls n e).2 ∙ (alike ls (suc n) n).2
+  top_other e = (in_other l ls n e).2 ∙ (alike ls (suc n) n).2
 
-  pub slips-past : (kind_of l.bytes ≡ Heading → ⊥) → slipsIn n (l ∷ ls) ≡ slipsIn n ls
+  pub slips_past : (kind_of l.bytes ≡ Heading → ⊥) → slips_in n (l ∷ ls) ≡ slips_in n ls
   unfolding Alike
-  slips-past h = go (kind_of l.bytes) refl ∙ (alike ls (suc n) n).0
+  slips_past h = go (kind_of l.bytes) refl ∙ (alike ls (suc n) n).0
     where
-      go : (k : Kind) → kind_of l.bytes ≡ k → slipsIn n (l ∷ ls) ≡ slipsIn (suc n) ls
+      go : (k : Kind) → kind_of l.bytes ≡ k → slips_in n (l ∷ ls) ≡ slips_in (suc n) ls
       go Heading e = absurd (h e)
-      go Continuation e = (in-continuation l ls n e).0
+      go Continuation e = (in_continuation l ls n e).0
       go (Field i) e = (in_field l ls n i e).0
-      go Other e = (in-other l ls n e).0
+      go Other e = (in_other l ls n e).0
 
-  kc-past : (kind_of l.bytes ≡ Heading → ⊥) → (kind_of l.bytes ≡ Field (named "KC") → ⊥) → kcIn n (l ∷ ls) ≡ kcIn n ls
+  kc_past : (kind_of l.bytes ≡ Heading → ⊥) → (kind_of l.bytes ≡ Field (named "KC") → ⊥) → kc_in n (l ∷ ls) ≡ kc_in n ls
   unfolding Alike
-  kc-past h q = go (kind_of l.bytes) refl ∙ (alike ls (suc n) n).1
+  kc_past h q = go (kind_of l.bytes) refl ∙ (alike ls (suc n) n).1
     where
-      go : (k : Kind) → kind_of l.bytes ≡ k → kcIn n (l ∷ ls) ≡ kcIn (suc n) ls
+      go : (k : Kind) → kind_of l.bytes ≡ k → kc_in n (l ∷ ls) ≡ kc_in (suc n) ls
       go Heading e = absurd (h e)
-      go Continuation e = (in-continuation l ls n e).1
-      go (Field i) e = in-no-kc l ls n i e (never_true (eqb i (named "KC")) (λ t. q (e ∙ ap Field (eqb-true i (named "KC") t))))
-      go Other e = (in-other l ls n e).1
+      go Continuation e = (in_continuation l ls n e).1
+      go (Field i) e = in_no_kc l ls n i e (never_true (eqb i (named "KC")) (λ t. q (e ∙ ap Field (eqb-true i (named "KC") t))))
+      go Other e = (in_other l ls n e).1
 
 -- ---- the lines after the one that the bytes begin in
 abbrev pub others : List Line → List Line
 others [] = []
 others (l ∷ ls) = ls
 
-others-onto : (b : ℕ) (ls : List Line) → others (onto b ls) ≡ others ls
+others_onto : (b : ℕ) (ls : List Line) → others (onto b ls) ≡ others ls
 unfolding onto
-others-onto b [] = refl
-others-onto b (l ∷ ls) = refl
+others_onto b [] = refl
+others_onto b (l ∷ ls) = refl
 
-others-on : (b : ℕ) (x : List ℕ) → crlf (b ∷ x) ≡ false → others (lines (b ∷ x)) ≡ others (lines x)
-others-on b x e = ap others (lines-on b x e) ∙ others-onto b (lines x)
+others_on : (b : ℕ) (x : List ℕ) → crlf (b ∷ x) ≡ false → others (lines (b ∷ x)) ≡ others (lines x)
+others_on b x e = ap others (lines_on b x e) ∙ others_onto b (lines x)
 
 -- the first line of some bytes, where it is no heading
-pub line-slips : (x : List ℕ) (n : ℕ) → begins x (ascii "HD:") ≡ false → slipsIn n (lines x) ≡ slipsIn n (others (lines x))
-line-slips x n h = go (lines x) refl
+pub line_slips : (x : List ℕ) (n : ℕ) → begins x (ascii "HD:") ≡ false → slips_in n (lines x) ≡ slips_in n (others (lines x))
+line_slips x n h = go (lines x) refl
   where
-    go : (ls : List Line) → lines x ≡ ls → slipsIn n ls ≡ slipsIn n (others ls)
+    go : (ls : List Line) → lines x ≡ ls → slips_in n ls ≡ slips_in n (others ls)
     go [] e = refl
-    go (l ∷ ls) e = slips-past l ls n (λ q. heading-not x h (sym (kind-told x l ls e) ∙ q))
+    go (l ∷ ls) e = slips_past l ls n (λ q. heading_not x h (sym (kind_told x l ls e) ∙ q))
 
 -- .. and no KC
-pub line-kc : (x : List ℕ) (n : ℕ) → begins x (ascii "HD:") ≡ false → begins x (ascii "KC:") ≡ false → kcIn n (lines x) ≡ kcIn n (others (lines x))
-line-kc x n h k = go (lines x) refl
+pub line_kc : (x : List ℕ) (n : ℕ) → begins x (ascii "HD:") ≡ false → begins x (ascii "KC:") ≡ false → kc_in n (lines x) ≡ kc_in n (others (lines x))
+line_kc x n h k = go (lines x) refl
   where
-    go : (ls : List Line) → lines x ≡ ls → kcIn n ls ≡ kcIn n (others ls)
+    go : (ls : List Line) → lines x ≡ ls → kc_in n ls ≡ kc_in n (others ls)
     go [] e = refl
-    go (l ∷ ls) e = kc-past l ls n (λ q. heading-not x h (sym (kind-told x l ls e) ∙ q)) (λ q. kc-not x k (sym (kind-told x l ls e) ∙ q))
+    go (l ∷ ls) e = kc_past l ls n (λ q. heading_not x h (sym (kind_told x l ls e) ∙ q)) (λ q. kc_not x k (sym (kind_told x l ls e) ∙ q))
 
 -- ---- past one byte: of a CR LF, what stands after it decides
-after-crlf : (b c : ℕ) (x y : List ℕ) → crlf (b ∷ c ∷ x) ≡ true → begins (b ∷ c ∷ x) (0x0d ∷ 0x0a ∷ y) ≡ begins x y
+after_crlf : (b c : ℕ) (x y : List ℕ) → crlf (b ∷ c ∷ x) ≡ true → begins (b ∷ c ∷ x) (0x0d ∷ 0x0a ∷ y) ≡ begins x y
 unfolding crlf begins
-after-crlf b c x y e = rw (both_left (is_byte 0x0d b) (is_byte 0x0a c) e, both_right (is_byte 0x0d b) (is_byte 0x0a c) e)
+after_crlf b c x y e = rw (both_left (is_byte 0x0d b) (is_byte 0x0a c) e, both_right (is_byte 0x0d b) (is_byte 0x0a c) e)
 
-lf-on : (b c : ℕ) (x : List ℕ) → crlf (b ∷ c ∷ x) ≡ true → others (lines (c ∷ x)) ≡ others (lines x)
+lf_on : (b c : ℕ) (x : List ℕ) → crlf (b ∷ c ∷ x) ≡ true → others (lines (c ∷ x)) ≡ others (lines x)
 unfolding crlf
-lf-on b c x e =
-    others-on c x (crlf-not c x (ap (is_byte 0x0d) (eqb-true c 0x0a (both_right (is_byte 0x0d b) (is_byte 0x0a c) e))))
+lf_on b c x e =
+    others_on c x (crlf_not c x (ap (is_byte 0x0d) (eqb-true c 0x0a (both_right (is_byte 0x0d b) (is_byte 0x0a c) e))))
 
 cut_on : (b c : ℕ) (x : List ℕ) → crlf (b ∷ c ∷ x) ≡ true → others (lines (b ∷ c ∷ x)) ≡ lines x
 cut_on b c x e = ap others (lines_cut (b ∷ c ∷ x) e)
 
-one-alone : (b : ℕ) → crlf (b ∷ []) ≡ false
+one_alone : (b : ℕ) → crlf (b ∷ []) ≡ false
 unfolding crlf
-one-alone b = refl
+one_alone b = refl
 
-pub byte-slips : (b : ℕ) (x : List ℕ) (n : ℕ) → begins (b ∷ x) (0x0d ∷ 0x0a ∷ ascii "HD:") ≡ false → slipsIn n (others (lines (b ∷ x))) ≡ slipsIn n (others (lines x))
-byte-slips b [] n h = ap (slipsIn n) (others-on b [] (one-alone b))
-byte-slips b (c ∷ x) n h = by-test (crlf (b ∷ c ∷ x))
-    (λ e. ap (slipsIn n) (cut_on b c x e) ∙ line-slips x n (sym (after-crlf b c x (ascii "HD:") e) ∙ h) ∙ ap (slipsIn n) (sym (lf-on b c x e)))
-    (λ e. ap (slipsIn n) (others-on b (c ∷ x) e))
+pub byte_slips : (b : ℕ) (x : List ℕ) (n : ℕ) → begins (b ∷ x) (0x0d ∷ 0x0a ∷ ascii "HD:") ≡ false → slips_in n (others (lines (b ∷ x))) ≡ slips_in n (others (lines x))
+byte_slips b [] n h = ap (slips_in n) (others_on b [] (one_alone b))
+byte_slips b (c ∷ x) n h = by_test (crlf (b ∷ c ∷ x))
+    (λ e. ap (slips_in n) (cut_on b c x e) ∙ line_slips x n (sym (after_crlf b c x (ascii "HD:") e) ∙ h) ∙ ap (slips_in n) (sym (lf_on b c x e)))
+    (λ e. ap (slips_in n) (others_on b (c ∷ x) e))
 
-pub byte-kc : (b : ℕ) (x : List ℕ) (n : ℕ) → begins (b ∷ x) (0x0d ∷ 0x0a ∷ ascii "HD:") ≡ false → begins (b ∷ x) (0x0d ∷ 0x0a ∷ ascii "KC:") ≡ false
-    → kcIn n (others (lines (b ∷ x))) ≡ kcIn n (others (lines x))
-byte-kc b [] n h k = ap (kcIn n) (others-on b [] (one-alone b))
-byte-kc b (c ∷ x) n h k = by-test (crlf (b ∷ c ∷ x))
+pub byte_kc : (b : ℕ) (x : List ℕ) (n : ℕ) → begins (b ∷ x) (0x0d ∷ 0x0a ∷ ascii "HD:") ≡ false → begins (b ∷ x) (0x0d ∷ 0x0a ∷ ascii "KC:") ≡ false
+    → kc_in n (others (lines (b ∷ x))) ≡ kc_in n (others (lines x))
+byte_kc b [] n h k = ap (kc_in n) (others_on b [] (one_alone b))
+byte_kc b (c ∷ x) n h k = by_test (crlf (b ∷ c ∷ x))
     (λ e.
-    ap (kcIn n) (cut_on b c x e) ∙ line-kc x n (sym (after-crlf b c x (ascii "HD:") e) ∙ h) (sym (after-crlf b c x (ascii "KC:") e) ∙ k)
-    ∙ ap (kcIn n) (sym (lf-on b c x e)))
-    (λ e. ap (kcIn n) (others-on b (c ∷ x) e))
+    ap (kc_in n) (cut_on b c x e) ∙ line_kc x n (sym (after_crlf b c x (ascii "HD:") e) ∙ h) (sym (after_crlf b c x (ascii "KC:") e) ∙ k)
+    ∙ ap (kc_in n) (sym (lf_on b c x e)))
+    (λ e. ap (kc_in n) (others_on b (c ∷ x) e))

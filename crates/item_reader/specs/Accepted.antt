@@ -6,7 +6,7 @@ use Rattle.words.specs.Words.{bytes_of}
 use Rattle.headings.specs.declared.Heading.{Heading}
 use Rattle.headings.specs.declared.Amount.{Amount}
 use Rattle.headings.specs.declared.Read.TheVariants.{Reads}
-use Rattle.headings.specs.ItemTypes.{isPayment}
+use Rattle.headings.specs.ItemTypes.{is_payment}
 use Rattle.headings.specs.HeadRules.{rule10, rule13, rule14}
 use Rattle.rules.specs.declared.FirstKc.TheVariants.{Pays}
 use Rattle.rules.specs.Terms.{Terms}
@@ -24,7 +24,7 @@ pub record Fine (terms : Terms) (s : Slip) : Type 0 where
   pub own : heading.first.0 ≡ terms.code.0
   pub number : rule13 heading ≡ false
   pub codes : rule14 heading ≡ false
-  pub paid : isPayment heading.kind ≡ true → (a : Amount) × (d : ℕ) × (s.kc ≡ Pays a d)
+  pub paid : is_payment heading.kind ≡ true → (a : Amount) × (d : ℕ) × (s.kc ≡ Pays a d)
 
 abbrev pub Each : (Slip → Type 0) → List Slip → Type 0
 Each P [] = Unit {0}

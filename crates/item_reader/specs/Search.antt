@@ -5,11 +5,11 @@ use Rattle.text.specs.Strings.{begins}
 use Rattle.lines.specs.Reading.{line_at, span}
 use Rattle.headings.specs.declared.Read.{Read}
 use Rattle.headings.specs.declared.Read.TheVariants.{Reads, Unreadable}
-use Rattle.headings.specs.Reading.{headingOf}
+use Rattle.headings.specs.Reading.{heading_of}
 use Rattle.fields.specs.declared.classes.Class.TheVariants.{Money}
 use Rattle.fields.specs.Readings.{text_of, reading_of}
 use Rattle.rules.specs.declared.FirstKc.{FirstKc}
-use Rattle.rules.specs.Said.{kcBy}
+use Rattle.rules.specs.Said.{kc_by}
 use Rattle.sign_finder.specs.Signs.{IsSign}
 use Rattle.item_reader.specs.declared.Gap.{Gap}
 use Rattle.item_reader.specs.declared.Title.{Title}
@@ -21,17 +21,17 @@ IsGap s at g =
     ⊎ ((begins (drop at s) (ascii "HD:") ≡ false) × IsSign s 0x48 0x44 at (length s) g.end × (g.next ≡ cond (ltb g.end (length s)) (g.end + 2) g.end))
 
 -- what the line at a place says as a KC
-abbrev pub kcLine : List ℕ → ℕ → FirstKc
-kcLine s at = kcBy (reading_of Money (text_of (span at (line_at s at).end s)))
+abbrev pub kc_line : List ℕ → ℕ → FirstKc
+kc_line s at = kc_by (reading_of Money (text_of (span at (line_at s at).end s)))
 
 -- a heading reads
-abbrev pub readsTo : Read → Bool
-readsTo (Reads h) = true
-readsTo Unreadable = false
+abbrev pub reads_to : Read → Bool
+reads_to (Reads h) = true
+reads_to Unreadable = false
 
 -- what the code reads of a heading's own line, and where the line after it starts
 pub record IsTitle (s : List ℕ) (at : ℕ) (r : Title) : Type 0 where
-  pub head : r.head ≡ headingOf (span at (line_at s at).end s)
+  pub head : r.head ≡ heading_of (span at (line_at s at).end s)
   pub next : r.next ≡ (line_at s at).next
 
 -- two bytes behind the 54 of a heading, or no byte where there are not as many

@@ -10,7 +10,7 @@ use Rattle.rules.specs.declared.FirstSum.{FirstSum}
 use Rattle.rules.specs.declared.FirstSum.TheVariants.{NoSum, BrokenSum, Says}
 use Rattle.rules.specs.declared.Sum.{Sum}
 use Rattle.rules.specs.declared.Sums.{Sums}
-use Rattle.rules.specs.Said.{kcBy, statedBy}
+use Rattle.rules.specs.Said.{kc_by, stated_by}
 
 -- what the item's closed fields say that its heading needs: the first KC, the first IN, and the first S0 to S9
 pub record Claims : Type 0 where
@@ -19,37 +19,37 @@ pub record Claims : Type 0 where
   pub sums : Sums
 
 -- of its parts, as the code has them
-abbrev pub claimsAs : FirstKc → FirstIn → Sums → Claims
-claimsAs kc span sums = record { kc = kc; span = span; sums = sums }
+abbrev pub claims_as : FirstKc → FirstIn → Sums → Claims
+claims_as kc span sums = record { kc = kc; span = span; sums = sums }
 
-abbrev pub noSum : Sum
-noSum = record { stated = NoSum }
+abbrev pub no_sum : Sum
+no_sum = record { stated = NoSum }
 
-abbrev pub noSums : Sums
-noSums = record { groups = replicate 10 noSum }
+abbrev pub no_sums : Sums
+no_sums = record { groups = replicate 10 no_sum }
 
-abbrev pub noClaims : Claims
-noClaims = claimsAs NoKc NoIn noSums
+abbrev pub no_claims : Claims
+no_claims = claims_as NoKc NoIn no_sums
 
-abbrev pub kcKept : FirstKc → FirstKc → FirstKc
-kcKept NoKc k = k
-kcKept BrokenKc k = BrokenKc
-kcKept (Pays a d) k = Pays a d
+abbrev pub kc_kept : FirstKc → FirstKc → FirstKc
+kc_kept NoKc k = k
+kc_kept BrokenKc k = BrokenKc
+kc_kept (Pays a d) k = Pays a d
 
 -- a field at its own line: a KC takes any tail, so it is claimed at once
-abbrev pub kcOwn : FirstKc → ℕ → Reading → FirstKc
-kcOwn kc ident said = cond (eqb ident (named "KC")) (kcKept kc (kcBy said)) kc
+abbrev pub kc_own : FirstKc → ℕ → Reading → FirstKc
+kc_own kc ident said = cond (eqb ident (named "KC")) (kc_kept kc (kc_by said)) kc
 
-abbrev pub spanKept : FirstIn → FirstIn → FirstIn
-spanKept NoIn x = x
-spanKept BrokenIn x = BrokenIn
-spanKept (Runs a b) x = Runs a b
+abbrev pub span_kept : FirstIn → FirstIn → FirstIn
+span_kept NoIn x = x
+span_kept BrokenIn x = BrokenIn
+span_kept (Runs a b) x = Runs a b
 
-abbrev pub statedKept : FirstSum → FirstSum → FirstSum
-statedKept NoSum x = x
-statedKept BrokenSum x = BrokenSum
-statedKept (Says n a) x = Says n a
+abbrev pub stated_kept : FirstSum → FirstSum → FirstSum
+stated_kept NoSum x = x
+stated_kept BrokenSum x = BrokenSum
+stated_kept (Says n a) x = Says n a
 
-unfoldable pub groupClaims : Sums → ℕ → Reading → Sums
-groupClaims sums d said =
-    cond (leb 10 d) sums (record { groups = set sums.groups d (record { stated = statedKept (get_or sums.groups d noSum).stated (statedBy said) }) })
+unfoldable pub group_claims : Sums → ℕ → Reading → Sums
+group_claims sums d said =
+    cond (leb 10 d) sums (record { groups = set sums.groups d (record { stated = stated_kept (get_or sums.groups d no_sum).stated (stated_by said) }) })

@@ -1,7 +1,7 @@
 // What an item's closed fields say that its heading needs.
 ghost use Rattle.std.specs.Prelude.{◌≡◌};
-ghost use Rattle.rules.specs.Said.{kcBy, spanBy, statedBy};
-ghost use Rattle.items.specs.Claims.{noSums, kcKept, kcOwn, spanKept, statedKept, groupClaims};
+ghost use Rattle.rules.specs.Said.{kc_by, span_by, stated_by};
+ghost use Rattle.items.specs.Claims.{no_sums, kc_kept, kc_own, span_kept, stated_kept, group_claims};
 
 use fields::classes;
 use fields::readings::Reading;
@@ -9,7 +9,7 @@ use rules::{FirstIn, FirstKc, FirstSum, Sum, Sums};
 
 // Nothing is stated of any group.
 pub fn no_sums() -> Sums
-    ensures { result ≡ noSums }
+    ensures { result ≡ no_sums }
 {
     let none = Sum {
         stated: FirstSum::NoSum,
@@ -20,7 +20,7 @@ pub fn no_sums() -> Sums
 
 // What a KC line says.
 pub fn kc_by(said: Reading) -> FirstKc
-    ensures { result ≡ kcBy said }
+    ensures { result ≡ kc_by said }
 {
     match said {
         Reading::Paid(amount, day) => FirstKc::Pays(amount, day),
@@ -34,7 +34,7 @@ pub fn kc_by(said: Reading) -> FirstKc
 
 // The first of two.
 pub fn kc_kept(first: FirstKc, then: FirstKc) -> FirstKc
-    ensures { result ≡ kcKept first then }
+    ensures { result ≡ kc_kept first then }
 {
     match first {
         FirstKc::NoKc => then,
@@ -45,7 +45,7 @@ pub fn kc_kept(first: FirstKc, then: FirstKc) -> FirstKc
 
 // A KC is claimed at its own line: it takes any tail.
 pub fn kc_own(kc: FirstKc, ident: usize, said: Reading) -> FirstKc
-    ensures { result ≡ kcOwn kc ident said }
+    ensures { result ≡ kc_own kc ident said }
 {
     if ident == classes::KC {
         return kc_kept(kc, kc_by(said));
@@ -55,7 +55,7 @@ pub fn kc_own(kc: FirstKc, ident: usize, said: Reading) -> FirstKc
 
 // What an IN line says.
 pub fn span_by(said: Reading) -> FirstIn
-    ensures { result ≡ spanBy said }
+    ensures { result ≡ span_by said }
 {
     match said {
         Reading::Span(a, b) => FirstIn::Runs(a, b),
@@ -68,7 +68,7 @@ pub fn span_by(said: Reading) -> FirstIn
 }
 
 pub fn span_kept(first: FirstIn, then: FirstIn) -> FirstIn
-    ensures { result ≡ spanKept first then }
+    ensures { result ≡ span_kept first then }
 {
     match first {
         FirstIn::NoIn => then,
@@ -78,7 +78,7 @@ pub fn span_kept(first: FirstIn, then: FirstIn) -> FirstIn
 }
 
 fn stated_by(said: Reading) -> FirstSum
-    ensures { result ≡ statedBy said }
+    ensures { result ≡ stated_by said }
 {
     match said {
         Reading::Stated(n, a) => FirstSum::Says(n, a),
@@ -91,7 +91,7 @@ fn stated_by(said: Reading) -> FirstSum
 }
 
 fn stated_kept(first: FirstSum, then: FirstSum) -> FirstSum
-    ensures { result ≡ statedKept first then }
+    ensures { result ≡ stated_kept first then }
 {
     match first {
         FirstSum::NoSum => then,
@@ -102,7 +102,7 @@ fn stated_kept(first: FirstSum, then: FirstSum) -> FirstSum
 
 // The groups with what is said of one more.
 pub fn group_claims(sums: Sums, d: usize, said: Reading) -> Sums
-    ensures { result ≡ groupClaims sums d said }
+    ensures { result ≡ group_claims sums d said }
 {
     if 10 <= d {
         return sums;

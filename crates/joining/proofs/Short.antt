@@ -7,92 +7,92 @@ use native.Mathlib.Omega.{arith}
 use borrow.Author.Tests.{eqb-true}
 use lib.ListN.{length, take, drop, take-append-drop, drop_of_length-le}
 use lib.Seq.{take_all}
-use Rattle.laws.proofs.Truth.{by-test}
+use Rattle.laws.proofs.Truth.{by_test}
 use Rattle.laws.specs.Lists.{any_of}
 use Rattle.laws.specs.Tests.{is_byte}
 use Rattle.laws.proofs.Any.{any_append}
-use Rattle.text.specs.Characters.{isAdmissible, isInadmissible}
+use Rattle.text.specs.Characters.{is_admissible, is_inadmissible}
 use Rattle.lines.specs.Lines.{crlf, lines}
-use Rattle.lines.proofs.Lines.{crlf-not}
-use Rattle.joining.specs.Short.{sign, shortTo, short, endsCr, crIf, withoutCr, kept, keptText}
-use Rattle.joining.proofs.Cutting.{crlf-two, Clear, ahead, clear_lines}
+use Rattle.lines.proofs.Lines.{crlf_not}
+use Rattle.joining.specs.Short.{sign, short_to, short, ends_cr, cr_if, without_cr, kept, kept_text}
+use Rattle.joining.proofs.Cutting.{crlf_two, Clear, ahead, clear_lines}
 
 -- ---- the byte that stands for others
 
 abbrev bad : List ℕ → Bool
-bad s = any_of isInadmissible s
+bad s = any_of is_inadmissible s
 
 abbrev mark : Bool → ℕ
 mark t = cond t 0x7F 0x20
 
-mark-bad : (t : Bool) → isInadmissible (mark t) ≡ t
-unfolding isAdmissible
-mark-bad true = refl
-mark-bad false = refl
+mark_bad : (t : Bool) → is_inadmissible (mark t) ≡ t
+unfolding is_admissible
+mark_bad true = refl
+mark_bad false = refl
 
-sign-bad : (s : List ℕ) → bad (sign s) ≡ bad s
+sign_bad : (s : List ℕ) → bad (sign s) ≡ bad s
 unfolding sign any_of
-sign-bad [] = refl
-sign-bad (b ∷ s) = or-false (isInadmissible (mark (bad (b ∷ s)))) ∙ mark-bad (bad (b ∷ s))
+sign_bad [] = refl
+sign_bad (b ∷ s) = or-false (is_inadmissible (mark (bad (b ∷ s)))) ∙ mark_bad (bad (b ∷ s))
 
 -- what stands for a text and a text behind it stands for both
-sign-append : (s t : List ℕ) → sign (sign s ++ t) ≡ sign (s ++ t)
+sign_append : (s t : List ℕ) → sign (sign s ++ t) ≡ sign (s ++ t)
 unfolding sign
-sign-append [] t = refl
-sign-append (b ∷ s) t =
-    ap (λ (x : Bool). mark x ∷ []) (any_append isInadmissible (sign (b ∷ s)) t ∙ ap (λ (x : Bool). x || bad t) (sign-bad (b ∷ s)) ∙ sym (any_append isInadmissible (b ∷ s) t))
+sign_append [] t = refl
+sign_append (b ∷ s) t =
+    ap (λ (x : Bool). mark x ∷ []) (any_append is_inadmissible (sign (b ∷ s)) t ∙ ap (λ (x : Bool). x || bad t) (sign_bad (b ∷ s)) ∙ sym (any_append is_inadmissible (b ∷ s) t))
 
 -- ---- the short form
 
 -- for every width
-short-append-to : (n : ℕ) (a b : List ℕ) → shortTo n (shortTo n a ++ b) ≡ shortTo n (a ++ b)
-unfolding shortTo sign
-short-append-to zero a b = sign-append a b
-short-append-to (suc n) [] b = refl
-short-append-to (suc n) (x ∷ a) b = ap (λ (l : List ℕ). x ∷ l) (short-append-to n a b)
+short_append_to : (n : ℕ) (a b : List ℕ) → short_to n (short_to n a ++ b) ≡ short_to n (a ++ b)
+unfolding short_to sign
+short_append_to zero a b = sign_append a b
+short_append_to (suc n) [] b = refl
+short_append_to (suc n) (x ∷ a) b = ap (λ (l : List ℕ). x ∷ l) (short_append_to n a b)
 
-pub short-short : (a b : List ℕ) → short (short a ++ b) ≡ short (a ++ b)
-short-short a b = short-append-to 64 a b
+pub short_short : (a b : List ℕ) → short (short a ++ b) ≡ short (a ++ b)
+short_short a b = short_append_to 64 a b
 
-pub short-self : (n : ℕ) (a : List ℕ) → length a ≤ n → shortTo n a ≡ a
-unfolding shortTo sign
-short-self n a h = rw (take_all n a h, drop_of_length-le a h) (append-nil a)
+pub short_self : (n : ℕ) (a : List ℕ) → length a ≤ n → short_to n a ≡ a
+unfolding short_to sign
+short_self n a h = rw (take_all n a h, drop_of_length-le a h) (append-nil a)
 
-length_to : (n : ℕ) (a : List ℕ) → length (shortTo n a) ≡ min (suc n) (length a)
-unfolding shortTo sign
+length_to : (n : ℕ) (a : List ℕ) → length (short_to n a) ≡ min (suc n) (length a)
+unfolding short_to sign
 length_to zero [] = refl
 length_to zero (x ∷ a) = omega arith
 length_to (suc n) [] = omega arith
 length_to (suc n) (x ∷ a) = omega (arith, length_to n a)
 
-pub length-short : (a : List ℕ) → length (short a) ≡ min 65 (length a)
-length-short a = length_to 64 a
+pub length_short : (a : List ℕ) → length (short a) ≡ min 65 (length a)
+length_short a = length_to 64 a
 
-pub take-to : (n : ℕ) (a : List ℕ) → take n (shortTo n a) ≡ take n a
-unfolding shortTo sign
-take-to zero a = refl
-take-to (suc n) [] = refl
-take-to (suc n) (x ∷ a) = ap (λ (l : List ℕ). x ∷ l) (take-to n a)
+pub take_to : (n : ℕ) (a : List ℕ) → take n (short_to n a) ≡ take n a
+unfolding short_to sign
+take_to zero a = refl
+take_to (suc n) [] = refl
+take_to (suc n) (x ∷ a) = ap (λ (l : List ℕ). x ∷ l) (take_to n a)
 
-pub bad-to : (n : ℕ) (a : List ℕ) → any_of isInadmissible (shortTo n a) ≡ any_of isInadmissible a
-unfolding shortTo
-bad-to n a =
-    any_append isInadmissible (take n a) (sign (drop n a))
-    ∙ ap (λ (x : Bool). bad (take n a) || x) (sign-bad (drop n a))
-    ∙ sym (any_append isInadmissible (take n a) (drop n a))
+pub bad_to : (n : ℕ) (a : List ℕ) → any_of is_inadmissible (short_to n a) ≡ any_of is_inadmissible a
+unfolding short_to
+bad_to n a =
+    any_append is_inadmissible (take n a) (sign (drop n a))
+    ∙ ap (λ (x : Bool). bad (take n a) || x) (sign_bad (drop n a))
+    ∙ sym (any_append is_inadmissible (take n a) (drop n a))
     ∙ ap bad (take-append-drop n a)
 
 -- ---- CR at the end
 
-pub ends-append : (p : List ℕ) (b : ℕ) (q : List ℕ) → endsCr (p ++ (b ∷ q)) ≡ endsCr (b ∷ q)
-unfolding endsCr
-ends-append [] b q = refl
-ends-append (a ∷ []) b q = refl
-ends-append (a ∷ c ∷ p) b q = ends-append (c ∷ p) b q
+pub ends_append : (p : List ℕ) (b : ℕ) (q : List ℕ) → ends_cr (p ++ (b ∷ q)) ≡ ends_cr (b ∷ q)
+unfolding ends_cr
+ends_append [] b q = refl
+ends_append (a ∷ []) b q = refl
+ends_append (a ∷ c ∷ p) b q = ends_append (c ∷ p) b q
 
-without-cons : (b c : ℕ) (s : List ℕ) → withoutCr (b ∷ c ∷ s) ≡ b ∷ withoutCr (c ∷ s)
-unfolding endsCr
-without-cons b c s = go (endsCr (c ∷ s))
+without_cons : (b c : ℕ) (s : List ℕ) → without_cr (b ∷ c ∷ s) ≡ b ∷ without_cr (c ∷ s)
+unfolding ends_cr
+without_cons b c s = go (ends_cr (c ∷ s))
   where
     go : (t : Bool) → take (suc (suc (length s)) - cond t 1 0) (b ∷ c ∷ s) ≡ b ∷ take (suc (length s) - cond t 1 0) (c ∷ s)
     go t = let e : suc (suc (length s)) - cond t 1 0 ≡ suc (suc (length s) - cond t 1 0) = less t in ap (λ (k : ℕ). take k (b ∷ c ∷ s)) e
@@ -101,113 +101,113 @@ without-cons b c s = go (endsCr (c ∷ s))
         less true = omega arith
         less false = omega arith
 
-pub without-append : (p : List ℕ) (b : ℕ) (q : List ℕ) → withoutCr (p ++ (b ∷ q)) ≡ p ++ withoutCr (b ∷ q)
-without-append [] b q = refl
-without-append (a ∷ []) b q = without-cons a b q
-without-append (a ∷ c ∷ p) b q = without-cons a c (p ++ (b ∷ q)) ∙ ap (λ (l : List ℕ). a ∷ l) (without-append (c ∷ p) b q)
+pub without_append : (p : List ℕ) (b : ℕ) (q : List ℕ) → without_cr (p ++ (b ∷ q)) ≡ p ++ without_cr (b ∷ q)
+without_append [] b q = refl
+without_append (a ∷ []) b q = without_cons a b q
+without_append (a ∷ c ∷ p) b q = without_cons a c (p ++ (b ∷ q)) ∙ ap (λ (l : List ℕ). a ∷ l) (without_append (c ∷ p) b q)
 
 -- without a CR at its end a text stays
-pub without-same : (s : List ℕ) → endsCr s ≡ false → withoutCr s ≡ s
-without-same s e = rw e (take_all (length s - 0) s (omega arith))
+pub without_same : (s : List ℕ) → ends_cr s ≡ false → without_cr s ≡ s
+without_same s e = rw e (take_all (length s - 0) s (omega arith))
 
 -- a text is itself without that CR, and the CR
-pub cr-split : (s : List ℕ) → withoutCr s ++ crIf (endsCr s) ≡ s
-unfolding endsCr
-cr-split [] = refl
-cr-split (b ∷ []) = by-test (is_byte 0x0d b)
+pub cr_split : (s : List ℕ) → without_cr s ++ cr_if (ends_cr s) ≡ s
+unfolding ends_cr
+cr_split [] = refl
+cr_split (b ∷ []) = by_test (is_byte 0x0d b)
     (λ e. rw e (ap (λ (k : ℕ). k ∷ []) (sym (eqb-true b 0x0d e))))
     (λ e. rw e)
-cr-split (b ∷ c ∷ s) = ap (λ (l : List ℕ). l ++ crIf (endsCr (c ∷ s))) (without-cons b c s) ∙ ap (λ (l : List ℕ). b ∷ l) (cr-split (c ∷ s))
+cr_split (b ∷ c ∷ s) = ap (λ (l : List ℕ). l ++ cr_if (ends_cr (c ∷ s))) (without_cons b c s) ∙ ap (λ (l : List ℕ). b ∷ l) (cr_split (c ∷ s))
 
 -- ---- no CR LF in what is kept
 
 -- where no CR LF stands in a text, none begins in it without the CR at its end, whatever comes
-clear-seam : (b : ℕ) (t : Bool) (c : List ℕ) → is_byte 0x0d b ≡ t → Clear (take (1 - cond t 1 0) (b ∷ [])) (crIf t ++ c)
-clear-seam b true c e = tt
-clear-seam b false c e = (crlf-not b c e, tt)
+clear_seam : (b : ℕ) (t : Bool) (c : List ℕ) → is_byte 0x0d b ≡ t → Clear (take (1 - cond t 1 0) (b ∷ [])) (cr_if t ++ c)
+clear_seam b true c e = tt
+clear_seam b false c e = (crlf_not b c e, tt)
 
 -- the byte in front of such a text
-clear-on : (b c : ℕ) (s x : List ℕ) → crlf (b ∷ c ∷ s) ≡ false → crlf (b ∷ (withoutCr (c ∷ s) ++ (crIf (endsCr (c ∷ s)) ++ x))) ≡ false
-clear-on b c s x e =
-    ap (λ (l : List ℕ). crlf (b ∷ l)) (sym (append_assoc (withoutCr (c ∷ s)) (crIf (endsCr (c ∷ s))) x) ∙ ap (λ (l : List ℕ). l ++ x) (cr-split (c ∷ s)))
-    ∙ crlf-two b c (s ++ x) s
+clear_on : (b c : ℕ) (s x : List ℕ) → crlf (b ∷ c ∷ s) ≡ false → crlf (b ∷ (without_cr (c ∷ s) ++ (cr_if (ends_cr (c ∷ s)) ++ x))) ≡ false
+clear_on b c s x e =
+    ap (λ (l : List ℕ). crlf (b ∷ l)) (sym (append_assoc (without_cr (c ∷ s)) (cr_if (ends_cr (c ∷ s))) x) ∙ ap (λ (l : List ℕ). l ++ x) (cr_split (c ∷ s)))
+    ∙ crlf_two b c (s ++ x) s
     ∙ e
 
-pub clear-bare : (r x : List ℕ) → Clear r [] → Clear (withoutCr r) (crIf (endsCr r) ++ x)
-unfolding endsCr
-clear-bare [] x q = tt
-clear-bare (b ∷ []) x q = clear-seam b (is_byte 0x0d b) x refl
-clear-bare (b ∷ c ∷ s) x q =
-    rw (without-cons b c s) (clear-on b c s x (crlf-two b c s (s ++ []) ∙ q.0), clear-bare (c ∷ s) x q.1)
+pub clear_bare : (r x : List ℕ) → Clear r [] → Clear (without_cr r) (cr_if (ends_cr r) ++ x)
+unfolding ends_cr
+clear_bare [] x q = tt
+clear_bare (b ∷ []) x q = clear_seam b (is_byte 0x0d b) x refl
+clear_bare (b ∷ c ∷ s) x q =
+    rw (without_cons b c s) (clear_on b c s x (crlf_two b c s (s ++ []) ∙ q.0), clear_bare (c ∷ s) x q.1)
 
 -- nor in its short form
-mark-cr : (t : Bool) → is_byte 0x0d (mark t) ≡ false
-mark-cr true = refl
-mark-cr false = refl
+mark_cr : (t : Bool) → is_byte 0x0d (mark t) ≡ false
+mark_cr true = refl
+mark_cr false = refl
 
-mark-lf : (b : ℕ) (t : Bool) (s : List ℕ) → crlf (b ∷ mark t ∷ s) ≡ false
+mark_lf : (b : ℕ) (t : Bool) (s : List ℕ) → crlf (b ∷ mark t ∷ s) ≡ false
 unfolding crlf
-mark-lf b true s = and-false (is_byte 0x0d b)
-mark-lf b false s = and-false (is_byte 0x0d b)
+mark_lf b true s = and-false (is_byte 0x0d b)
+mark_lf b false s = and-false (is_byte 0x0d b)
 
-short_on : (n b : ℕ) (p x : List ℕ) → crlf (b ∷ (p ++ x)) ≡ false → crlf (b ∷ (shortTo n p ++ x)) ≡ false
-unfolding shortTo sign
+short_on : (n b : ℕ) (p x : List ℕ) → crlf (b ∷ (p ++ x)) ≡ false → crlf (b ∷ (short_to n p ++ x)) ≡ false
+unfolding short_to sign
 short_on zero b [] x e = e
-short_on zero b (c ∷ p) x e = mark-lf b (bad (c ∷ p)) x
+short_on zero b (c ∷ p) x e = mark_lf b (bad (c ∷ p)) x
 short_on (suc n) b [] x e = e
-short_on (suc n) b (c ∷ p) x e = crlf-two b c (shortTo n p ++ x) (p ++ x) ∙ e
+short_on (suc n) b (c ∷ p) x e = crlf_two b c (short_to n p ++ x) (p ++ x) ∙ e
 
-pub clear-short : (n : ℕ) (p x : List ℕ) → Clear p x → Clear (shortTo n p) x
-unfolding shortTo sign
-clear-short zero [] x q = tt
-clear-short zero (b ∷ p) x q = (crlf-not (mark (bad (b ∷ p))) x (mark-cr (bad (b ∷ p))), tt)
-clear-short (suc n) [] x q = tt
-clear-short (suc n) (b ∷ p) x q = (short_on n b p x q.0, clear-short n p x q.1)
+pub clear_short : (n : ℕ) (p x : List ℕ) → Clear p x → Clear (short_to n p) x
+unfolding short_to sign
+clear_short zero [] x q = tt
+clear_short zero (b ∷ p) x q = (crlf_not (mark (bad (b ∷ p))) x (mark_cr (bad (b ∷ p))), tt)
+clear_short (suc n) [] x q = tt
+clear_short (suc n) (b ∷ p) x q = (short_on n b p x q.0, clear_short n p x q.1)
 
 -- the short form of a text that ends in no CR ends in none
-ends-to : (n : ℕ) (p : List ℕ) → endsCr p ≡ false → endsCr (shortTo n p) ≡ false
-unfolding shortTo sign endsCr
-ends-to zero [] e = refl
-ends-to zero (b ∷ p) e = mark-cr (bad (b ∷ p))
-ends-to (suc n) [] e = refl
-ends-to (suc zero) (b ∷ []) e = e
-ends-to (suc (suc n)) (b ∷ []) e = e
-ends-to (suc zero) (b ∷ c ∷ p) e = mark-cr (bad (c ∷ p))
-ends-to (suc (suc n)) (b ∷ c ∷ p) e = ends-to (suc n) (c ∷ p) e
+ends_to : (n : ℕ) (p : List ℕ) → ends_cr p ≡ false → ends_cr (short_to n p) ≡ false
+unfolding short_to sign ends_cr
+ends_to zero [] e = refl
+ends_to zero (b ∷ p) e = mark_cr (bad (b ∷ p))
+ends_to (suc n) [] e = refl
+ends_to (suc zero) (b ∷ []) e = e
+ends_to (suc (suc n)) (b ∷ []) e = e
+ends_to (suc zero) (b ∷ c ∷ p) e = mark_cr (bad (c ∷ p))
+ends_to (suc (suc n)) (b ∷ c ∷ p) e = ends_to (suc n) (c ∷ p) e
 
-pub ends-short : (p : List ℕ) → endsCr p ≡ false → endsCr (short p) ≡ false
-ends-short p e = ends-to 64 p e
+pub ends_short : (p : List ℕ) → ends_cr p ≡ false → ends_cr (short p) ≡ false
+ends_short p e = ends_to 64 p e
 
 -- ---- a piece more
 
 -- behind a text that is kept without its CR, a piece b ∷ q
-pub kept_on : (p : List ℕ) (b : ℕ) (q : List ℕ) → kept (p ++ (b ∷ q)) ≡ record { text = short (p ++ withoutCr (b ∷ q)); cr = endsCr (b ∷ q) }
+pub kept_on : (p : List ℕ) (b : ℕ) (q : List ℕ) → kept (p ++ (b ∷ q)) ≡ record { text = short (p ++ without_cr (b ∷ q)); cr = ends_cr (b ∷ q) }
 unfolding kept
-kept_on p b q = λ i. record { text = short (without-append p b q i); cr = ends-append p b q i }
+kept_on p b q = λ i. record { text = short (without_append p b q i); cr = ends_append p b q i }
 
-pub kept_same : (p : List ℕ) → endsCr p ≡ false → kept p ≡ record { text = short p; cr = false }
+pub kept_same : (p : List ℕ) → ends_cr p ≡ false → kept p ≡ record { text = short p; cr = false }
 unfolding kept
-kept_same p e = λ i. record { text = short (without-same p e i); cr = e i }
+kept_same p e = λ i. record { text = short (without_same p e i); cr = e i }
 
 -- p's short form does as well
-pub kept-short : (p : List ℕ) (b : ℕ) (q : List ℕ) → kept (short p ++ (b ∷ q)) ≡ kept (p ++ (b ∷ q))
-kept-short p b q =
-    kept_on (short p) b q ∙ ap (λ (l : List ℕ). record { text = l; cr = endsCr (b ∷ q) }) (short-short p (withoutCr (b ∷ q))) ∙ sym (kept_on p b q)
+pub kept_short : (p : List ℕ) (b : ℕ) (q : List ℕ) → kept (short p ++ (b ∷ q)) ≡ kept (p ++ (b ∷ q))
+kept_short p b q =
+    kept_on (short p) b q ∙ ap (λ (l : List ℕ). record { text = l; cr = ends_cr (b ∷ q) }) (short_short p (without_cr (b ∷ q))) ∙ sym (kept_on p b q)
 
-pub kept_again : (p : List ℕ) → endsCr p ≡ false → kept (short p) ≡ kept p
+pub kept_again : (p : List ℕ) → ends_cr p ≡ false → kept (short p) ≡ kept p
 kept_again p e =
-    kept_same (short p) (ends-short p e) ∙ ap (λ (l : List ℕ). record { text = l; cr = false }) (ap short (sym (append-nil (short p))) ∙ short-short p [] ∙ ap short (append-nil p)) ∙ sym (kept_same p e)
+    kept_same (short p) (ends_short p e) ∙ ap (λ (l : List ℕ). record { text = l; cr = false }) (ap short (sym (append-nil (short p))) ∙ short_short p [] ∙ ap short (append-nil p)) ∙ sym (kept_same p e)
 
 -- ---- a rest and what comes
 
-pub rest_lines : (s c : List ℕ) → Clear s [] → lines (s ++ c) ≡ ahead (withoutCr s) (lines (crIf (endsCr s) ++ c))
+pub rest_lines : (s c : List ℕ) → Clear s [] → lines (s ++ c) ≡ ahead (without_cr s) (lines (cr_if (ends_cr s) ++ c))
 rest_lines s c q =
-    ap (λ (l : List ℕ). lines (l ++ c)) (sym (cr-split s))
-    ∙ ap lines (append_assoc (withoutCr s) (crIf (endsCr s)) c)
-    ∙ clear_lines (withoutCr s) (crIf (endsCr s) ++ c) (clear-bare s c q)
+    ap (λ (l : List ℕ). lines (l ++ c)) (sym (cr_split s))
+    ∙ ap lines (append_assoc (without_cr s) (cr_if (ends_cr s)) c)
+    ∙ clear_lines (without_cr s) (cr_if (ends_cr s) ++ c) (clear_bare s c q)
 
-pub kept-lines : (s c : List ℕ) → Clear s [] → lines (keptText (kept s) ++ c) ≡ ahead (short (withoutCr s)) (lines (crIf (endsCr s) ++ c))
+pub kept_lines : (s c : List ℕ) → Clear s [] → lines (kept_text (kept s) ++ c) ≡ ahead (short (without_cr s)) (lines (cr_if (ends_cr s) ++ c))
 unfolding kept
-kept-lines s c q =
-    ap lines (append_assoc (short (withoutCr s)) (crIf (endsCr s)) c)
-    ∙ clear_lines (short (withoutCr s)) (crIf (endsCr s) ++ c) (clear-short 64 (withoutCr s) (crIf (endsCr s) ++ c) (clear-bare s c q))
+kept_lines s c q =
+    ap lines (append_assoc (short (without_cr s)) (cr_if (ends_cr s)) c)
+    ∙ clear_lines (short (without_cr s)) (cr_if (ends_cr s) ++ c) (clear_short 64 (without_cr s) (cr_if (ends_cr s) ++ c) (clear_bare s c q))

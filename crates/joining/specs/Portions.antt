@@ -2,8 +2,8 @@
 -- of the line's first byte, its bytes, and whether CR LF ended it.
 use Rattle.std.specs.Prelude.{ℕ, ◌+◌, Bool, false, List, [], ◌∷◌, ◌++◌}
 use Rattle.lines.specs.Lines.{Line, lines, taken}
-use Rattle.joining.specs.Whole.{endedOnes, openOne}
-use Rattle.joining.specs.Short.{Kept, kept, keptText, leftOut}
+use Rattle.joining.specs.Whole.{ended_ones, open_one}
+use Rattle.joining.specs.Short.{Kept, kept, kept_text, left_out}
 
 -- where the consumer stands: the offset of the line to come, and how many bytes of that line are left out of what is kept of it. The
 -- line behind it begins so many bytes later.
@@ -35,20 +35,20 @@ module _ {L : Type 0} (told : L → ℕ → List ℕ → Bool → L) where
 
   -- a rest stays open
   abbrev pub holding : Stand L → List ℕ → Reached L
-  holding r s = record { stand = record { desk = r.desk; at = r.at; over = r.over + leftOut s }; held = kept s }
+  holding r s = record { stand = record { desk = r.desk; at = r.at; over = r.over + left_out s }; held = kept s }
 
   -- lines of which the last may be open
-  unfoldable pub goingOn : Stand L → List Line → Reached L
-  goingOn r ls = holding (run r (endedOnes ls)) (openOne ls)
+  unfoldable pub going_on : Stand L → List Line → Reached L
+  going_on r ls = holding (run r (ended_ones ls)) (open_one ls)
 
   -- a portion more: the lines that it ends are told, the rest is kept
   unfoldable pub after : Reached L → List ℕ → Reached L
-  after a c = goingOn a.stand (lines (keptText a.held ++ c))
+  after a c = going_on a.stand (lines (kept_text a.held ++ c))
 
-  unfoldable pub afterAll : Reached L → List (List ℕ) → Reached L
-  afterAll a [] = a
-  afterAll a (c ∷ cs) = afterAll (after a c) cs
+  unfoldable pub after_all : Reached L → List (List ℕ) → Reached L
+  after_all a [] = a
+  after_all a (c ∷ cs) = after_all (after a c) cs
 
   -- no more comes: what is kept is a last line
   unfoldable pub closed : Reached L → Stand L
-  closed a = run a.stand (lines (keptText a.held))
+  closed a = run a.stand (lines (kept_text a.held))

@@ -9,16 +9,16 @@
 // Promised: `whole_len` says where the whole lines end; `none`, `add` and `join` keep what the definitions say, in an array with zeros
 // behind it (specs/Held.antt), whatever the record holds that they are given; `closing` and `ended` give the text to judge. Proved
 // under `proofs/`, for any consumer that cannot tell a line from its short form: every cutting gives what the whole gives (Portions.antt:
-// `Cut-all`, `closing`), offsets too (`counts`), and `join` does with a portion what the definition says (Joins.antt: `join-ended`,
-// `join-open`). Unseen.antt: what is asked of a line gives the same answer for its short form. It stands on `text` and `lines`; on
+// `Cut-all`, `closing`), offsets too (`counts`), and `join` does with a portion what the definition says (Joins.antt: `join_ended`,
+// `join_open`). Unseen.antt: what is asked of a line gives the same answer for its short form. It stands on `text` and `lines`; on
 // `headings` and `fields` for that last law alone.
 ghost use Rattle.std.specs.Prelude.{◌≡◌, false, cond, [], ◌++◌, ◌+◌, ◌<◌, ◌≤◌, min, length, take};
 ghost use Rattle.laws.specs.Lists.{any_of};
-ghost use Rattle.text.specs.Characters.{isInadmissible};
+ghost use Rattle.text.specs.Characters.{is_inadmissible};
 ghost use Rattle.joining.specs.Whole.{whole};
-ghost use Rattle.lines.specs.Lines.{takenBy};
-ghost use Rattle.joining.specs.Short.{short, crIf, withoutCr, keptText, added};
-ghost use Rattle.joining.specs.Held.{asText, asHeld, asJoined, keptIn, endedText, join_of};
+ghost use Rattle.lines.specs.Lines.{taken_by};
+ghost use Rattle.joining.specs.Short.{short, cr_if, without_cr, kept_text, added};
+ghost use Rattle.joining.specs.Held.{as_text, as_held, as_joined, kept_in, ended_text, join_of};
 
 // A text of at most 68 bytes: the first `len`, zeros behind them.
 #[derive(Drop)]
@@ -45,7 +45,7 @@ pub struct Joined {
 
 // How many bytes the whole lines of a text take. It is looked for from the back, so that it costs the length of the rest.
 pub fn whole_len(s: &[u8]) -> usize
-    ensures { result ≡ takenBy (whole s.now) }
+    ensures { result ≡ taken_by (whole s.now) }
 {
     let mut end = s.len();
     while 1 < end {
@@ -68,7 +68,7 @@ fn least(a: usize, b: usize) -> usize
 
 // Whether a text holds an inadmissible byte.
 fn holds_bad(s: &[u8]) -> bool
-    ensures { result ≡ any_of isInadmissible s.now }
+    ensures { result ≡ any_of is_inadmissible s.now }
 {
     let mut i = 0;
     while i < s.len() {
@@ -93,7 +93,7 @@ fn sign_of(bad: bool) -> u8
 // Two texts, one behind the other.
 fn both(a: &[u8], b: &[u8]) -> Text
     requires { length a.now + length b.now ≤ 68 }
-    ensures { result ≡ asText (a.now ++ b.now) }
+    ensures { result ≡ as_text (a.now ++ b.now) }
 {
     let mut text = [0u8; 68];
     let k = text::strings::put(&mut text, 0, a);
@@ -103,7 +103,7 @@ fn both(a: &[u8], b: &[u8]) -> Text
 
 // Their short form: at most 64 bytes are copied.
 fn shortened(a: &[u8], b: &[u8]) -> Text
-    ensures { result ≡ asText (short (a.now ++ b.now)) }
+    ensures { result ≡ as_text (short (a.now ++ b.now)) }
 {
     let n = least(64, a.len());
     let m = least(64 - n, b.len());
@@ -118,7 +118,7 @@ fn shortened(a: &[u8], b: &[u8]) -> Text
 
 // The bytes up to a place, 65 at most.
 fn start_of(s: &[u8], len: usize) -> Text
-    ensures { result ≡ asText (take (min 65 len) s.now) }
+    ensures { result ≡ as_text (take (min 65 len) s.now) }
 {
     let n = least(least(65, len), s.len());
     let mut text = [0u8; 68];
@@ -128,7 +128,7 @@ fn start_of(s: &[u8], len: usize) -> Text
 
 // What is kept, with a CR behind it or not.
 fn with_cr(h: Held, cr: bool) -> Text
-    ensures { result ≡ asText ((keptIn h).text ++ crIf cr) }
+    ensures { result ≡ as_text ((kept_in h).text ++ cr_if cr) }
 {
     let from = h.text;
     let t = start_of(&from[..], h.len);
@@ -142,14 +142,14 @@ fn with_cr(h: Held, cr: bool) -> Text
 
 // What is kept, as a last line with no CR LF behind it.
 pub fn closing(h: Held) -> Text
-    ensures { result ≡ asText (keptText (keptIn h)) }
+    ensures { result ≡ as_text (kept_text (kept_in h)) }
 {
     with_cr(h, h.cr)
 }
 
 // What is kept, as a line that CR LF ends.
 pub fn ended(h: Held) -> Text
-    ensures { result ≡ asText (endedText (keptIn h)) }
+    ensures { result ≡ as_text (ended_text (kept_in h)) }
 {
     let t = closing(h);
     let mut text = t.text;
@@ -159,7 +159,7 @@ pub fn ended(h: Held) -> Text
 
 // How much of a text stands before a CR at its end.
 fn bare_len(s: &[u8]) -> usize
-    ensures { result ≡ length (withoutCr s.now) }
+    ensures { result ≡ length (without_cr s.now) }
 {
     let n = s.len();
     if n == 0 {
@@ -173,7 +173,7 @@ fn bare_len(s: &[u8]) -> usize
 
 // Nothing is kept.
 pub fn none() -> Held
-    ensures { result ≡ asHeld (record { text = []; cr = false }) }
+    ensures { result ≡ as_held (record { text = []; cr = false }) }
 {
     Held {
         text: [0u8; 68],
@@ -184,7 +184,7 @@ pub fn none() -> Held
 
 // A piece more of the same line. CR LF is not looked for: there is none in the piece, nor where it joins what is kept.
 pub fn add(h: Held, s: &[u8]) -> Held
-    ensures { result ≡ asHeld (added (keptIn h) s.now) }
+    ensures { result ≡ as_held (added (kept_in h) s.now) }
 {
     let n = s.len();
     let k = bare_len(s);
@@ -202,7 +202,7 @@ pub fn add(h: Held, s: &[u8]) -> Held
 
 // The line that is kept, up to its CR LF in the text that comes, or with all of it.
 pub fn join(h: Held, s: &[u8]) -> Joined
-    ensures { result ≡ asJoined (join_of (keptIn h) s.now) }
+    ensures { result ≡ as_joined (join_of (kept_in h) s.now) }
 {
     if h.cr & text::strings::starts(s, b"\n") {
         let t = with_cr(h, false);

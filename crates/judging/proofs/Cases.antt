@@ -19,75 +19,75 @@ use Rattle.fields.specs.Kinds.{place, named}
 use Rattle.fields.specs.Classes.{class_of}
 use Rattle.fields.specs.Codes.{code_of, claims}
 use Rattle.rules.specs.declared.FirstKc.{FirstKc}
-use Rattle.rules.specs.HeadingRules.{noKc}
+use Rattle.rules.specs.HeadingRules.{no_kc}
 use Rattle.rules.specs.FieldRules.{rule9}
 use Rattle.own_rules.specs.declared.Basis.{Basis}
 use Rattle.own_rules.specs.Model.{breaks8}
 use Rattle.judging.specs.declared.opening.Open.{Open}
-use Rattle.judging.specs.Opening.{readAs, halvesMarks, plainMarks, saidMarks, kcMarks, openOwn}
+use Rattle.judging.specs.Opening.{read_as, halves_marks, plain_marks, said_marks, kc_marks, open_own}
 
 -- ---- 6 to 9, 23 and 24 by what a field's own line says
 module _ (j : Basis) where
-  pub marks-broken : (first : Bool) (r : Read) → ◌≡◌ {A = ℕ} 64 (saidMarks j first r Broken)
-  unfolding kcMarks saidMarks
-  marks-broken true (Reads h) = refl
-  marks-broken true Unreadable = refl
-  marks-broken false (Reads h) = refl
-  marks-broken false Unreadable = refl
+  pub marks_broken : (first : Bool) (r : Read) → ◌≡◌ {A = ℕ} 64 (said_marks j first r Broken)
+  unfolding kc_marks said_marks
+  marks_broken true (Reads h) = refl
+  marks_broken true Unreadable = refl
+  marks_broken false (Reads h) = refl
+  marks_broken false Unreadable = refl
 
-  pub marks-plain : (first : Bool) (r : Read) → ◌≡◌ {A = ℕ} 0 (saidMarks j first r Plain)
-  unfolding kcMarks saidMarks
-  marks-plain true (Reads h) = refl
-  marks-plain true Unreadable = refl
-  marks-plain false (Reads h) = refl
-  marks-plain false Unreadable = refl
+  pub marks_plain : (first : Bool) (r : Read) → ◌≡◌ {A = ℕ} 0 (said_marks j first r Plain)
+  unfolding kc_marks said_marks
+  marks_plain true (Reads h) = refl
+  marks_plain true Unreadable = refl
+  marks_plain false (Reads h) = refl
+  marks_plain false Unreadable = refl
 
-  pub marks-span : (a b : ItemNo) (first : Bool) (r : Read) → ◌≡◌ {A = ℕ} 0 (saidMarks j first r (Span a b))
-  unfolding kcMarks saidMarks
-  marks-span a b true (Reads h) = refl
-  marks-span a b true Unreadable = refl
-  marks-span a b false (Reads h) = refl
-  marks-span a b false Unreadable = refl
+  pub marks_span : (a b : ItemNo) (first : Bool) (r : Read) → ◌≡◌ {A = ℕ} 0 (said_marks j first r (Span a b))
+  unfolding kc_marks said_marks
+  marks_span a b true (Reads h) = refl
+  marks_span a b true Unreadable = refl
+  marks_span a b false (Reads h) = refl
+  marks_span a b false Unreadable = refl
 
-  pub marks-stated : (n : ℕ) (a : Amount) (first : Bool) (r : Read) → ◌≡◌ {A = ℕ} 0 (saidMarks j first r (Stated n a))
-  unfolding kcMarks saidMarks
-  marks-stated n a true (Reads h) = refl
-  marks-stated n a true Unreadable = refl
-  marks-stated n a false (Reads h) = refl
-  marks-stated n a false Unreadable = refl
+  pub marks_stated : (n : ℕ) (a : Amount) (first : Bool) (r : Read) → ◌≡◌ {A = ℕ} 0 (said_marks j first r (Stated n a))
+  unfolding kc_marks said_marks
+  marks_stated n a true (Reads h) = refl
+  marks_stated n a true Unreadable = refl
+  marks_stated n a false (Reads h) = refl
+  marks_stated n a false Unreadable = refl
 
-  pub marks-party : (halves : Halves) (first : Bool) (r : Read) → halvesMarks halves ≡ saidMarks j first r (Party halves)
-  unfolding kcMarks saidMarks
-  marks-party halves true (Reads h) = omega arith
-  marks-party halves true Unreadable = omega arith
-  marks-party halves false (Reads h) = omega arith
-  marks-party halves false Unreadable = omega arith
+  pub marks_party : (halves : Halves) (first : Bool) (r : Read) → halves_marks halves ≡ said_marks j first r (Party halves)
+  unfolding kc_marks said_marks
+  marks_party halves true (Reads h) = omega arith
+  marks_party halves true Unreadable = omega arith
+  marks_party halves false (Reads h) = omega arith
+  marks_party halves false Unreadable = omega arith
 
-  pub marks-paid : (h : Heading) (a : Amount) (d : ℕ) (first reads : Bool)
-      → mark 8 ((first && reads) && breaks8 j h.kind d) + mark 9 ((first && reads) && rule9 h.kind a.0) ≡ saidMarks j first (readAs reads h) (Paid a d)
-  unfolding kcMarks saidMarks
-  marks-paid h a d true true = sym (zero-add _)
-  marks-paid h a d true false = refl
-  marks-paid h a d false true = refl
-  marks-paid h a d false false = refl
+  pub marks_paid : (h : Heading) (a : Amount) (d : ℕ) (first reads : Bool)
+      → mark 8 ((first && reads) && breaks8 j h.kind d) + mark 9 ((first && reads) && rule9 h.kind a.0) ≡ said_marks j first (read_as reads h) (Paid a d)
+  unfolding kc_marks said_marks
+  marks_paid h a d true true = sym (zero-add _)
+  marks_paid h a d true false = refl
+  marks_paid h a d false true = refl
+  marks_paid h a d false false = refl
 
 -- ---- a field that claims nothing is no KC, so 8 and 9 are not asked of it
-kc-claims : claims (code_of (named "KC")) ≡ true
+kc_claims : claims (code_of (named "KC")) ≡ true
 unfolding code_of class_of place
-kc-claims = refl
+kc_claims = refl
 
-pub not-kc : (i : ℕ) → claims (code_of i) ≡ false → eqb i (named "KC") ≡ false
-not-kc i m = go (eqb i (named "KC")) refl
+pub not_kc : (i : ℕ) → claims (code_of i) ≡ false → eqb i (named "KC") ≡ false
+not_kc i m = go (eqb i (named "KC")) refl
   where
     go : (t : Bool) → eqb i (named "KC") ≡ t → t ≡ false
-    go true e = absurd (true≢false (sym kc-claims ∙ ap (λ (j : ℕ). claims (code_of j)) (sym (eqb-true i (named "KC") e)) ∙ m))
+    go true e = absurd (true≢false (sym kc_claims ∙ ap (λ (j : ℕ). claims (code_of j)) (sym (eqb-true i (named "KC") e)) ∙ m))
     go false e = refl
 
-plain-said : (j : Basis) (kc : FirstKc) (h : Read) (i : ℕ) (said : Reading) → claims (code_of i) ≡ false → plainMarks said ≡ saidMarks j (eqb i (named "KC") && noKc kc) h said
-unfolding saidMarks kcMarks
-plain-said j kc h i said m = rw (not-kc i m) (omega arith)
+plain_said : (j : Basis) (kc : FirstKc) (h : Read) (i : ℕ) (said : Reading) → claims (code_of i) ≡ false → plain_marks said ≡ said_marks j (eqb i (named "KC") && no_kc kc) h said
+unfolding said_marks kc_marks
+plain_said j kc h i said m = rw (not_kc i m) (omega arith)
 
 -- so the field opens as any field would
-pub plain-opens : (j : Basis) (kc : FirstKc) (h : Read) (n own i : ℕ) (again : Bool) (said : Reading) {class f m : ℕ} → class ≡ code_of i → claims class ≡ false
-    → f ≡ mark 5 again → m ≡ plainMarks said → ◌≡◌ {A = Open} (record { no = n; marks = own + f + m; class = class; tail = 0 }) (openOwn j kc h n own again i said)
-plain-opens j kc h n own i again said e c p q = rw (e, p, q, plain-said j kc h i said (rw e at c))
+pub plain_opens : (j : Basis) (kc : FirstKc) (h : Read) (n own i : ℕ) (again : Bool) (said : Reading) {class f m : ℕ} → class ≡ code_of i → claims class ≡ false
+    → f ≡ mark 5 again → m ≡ plain_marks said → ◌≡◌ {A = Open} (record { no = n; marks = own + f + m; class = class; tail = 0 }) (open_own j kc h n own again i said)
+plain_opens j kc h n own i again said e c p q = rw (e, p, q, plain_said j kc h i said (rw e at c))

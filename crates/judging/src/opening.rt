@@ -3,11 +3,11 @@ ghost use Rattle.std.specs.Prelude.{◌≡◌, false, cond, not, ℕ, ◌+◌, �
 ghost use Rattle.laws.specs.Tests.{mark};
 ghost use Rattle.fields.specs.declared.classes.Class.{Class};
 ghost use Rattle.fields.specs.Classes.{class_of};
-ghost use Rattle.fields.specs.Codes.{codeBy, code_of, claims};
+ghost use Rattle.fields.specs.Codes.{code_by, code_of, claims};
 ghost use Rattle.fields.specs.Readings.{text_of, reading_of};
-ghost use Rattle.rules.specs.Said.{isUnreadable};
-ghost use Rattle.rules.specs.FieldRules.{isFailing, is_zero};
-ghost use Rattle.judging.specs.Opening.{breaksTail, brokenBy, no_open, moreOpen, lowOpen, readAs, halvesMarks, plainMarks, saidMarks, saidClosed, spanClosed, statedClosed, headingIn, noPend, pendOf, openOwn, openLoose, lowMarksAt};
+ghost use Rattle.rules.specs.Said.{is_unreadable};
+ghost use Rattle.rules.specs.FieldRules.{is_failing, is_zero};
+ghost use Rattle.judging.specs.Opening.{breaks_tail, broken_by, no_open, more_open, low_open, read_as, halves_marks, plain_marks, said_marks, said_closed, span_closed, stated_closed, heading_in, no_pend, pend_of, open_own, open_loose, low_marks_at};
 
 use blocks::marks::{
     MARK_2, MARK_3, MARK_5, MARK_6, MARK_7, MARK_8, MARK_9, MARK_23, MARK_24, flag,
@@ -48,7 +48,7 @@ pub fn none_open() -> Open
 }
 
 pub fn no_pend() -> Pend
-    ensures { result ≡ noPend }
+    ensures { result ≡ no_pend }
 {
     Pend {
         ident: 0,
@@ -58,14 +58,14 @@ pub fn no_pend() -> Pend
 
 // Whether a field of a class may not go on with so many continuations, the last of so many bytes.
 pub fn breaks_tail(class: u8, tail: u32, length: usize) -> bool
-    ensures { result ≡ breaksTail class tail length }
+    ensures { result ≡ breaks_tail class tail length }
 {
     (((class == 2) | (class == 3)) | ((class == 5) | (class == 6)))
         | ((class == 4) & ((3 < tail) | (38 < length)))
 }
 
 fn broken_by(breaks: bool, marks: u64) -> u64
-    ensures { result ≡ brokenBy breaks marks }
+    ensures { result ≡ broken_by breaks marks }
 {
     if breaks {
         marks % MARK_6 + MARK_6
@@ -77,7 +77,7 @@ fn broken_by(breaks: bool, marks: u64) -> u64
 // One continuation more: where the class does not let it, the field is broken, and 7, 23 and 24 fall away.
 fn with_more(o: Open, length: usize) -> Open
     requires { o.tail < 2 ^ 31 }
-    ensures { result ≡ moreOpen o length }
+    ensures { result ≡ more_open o length }
 {
     let tail = o.tail + 1;
     let marks = broken_by(breaks_tail(o.class, tail, length), o.marks);
@@ -92,7 +92,7 @@ fn with_more(o: Open, length: usize) -> Open
 // A continuation, or a line of no kind.
 pub fn with_low(o: Open, continues: bool, length: usize) -> Open
     requires { o.tail < 2 ^ 31 }
-    ensures { result ≡ lowOpen continues o length }
+    ensures { result ≡ low_open continues o length }
 {
     if continues & !(o.no == 0) {
         return with_more(o, length);
@@ -103,14 +103,14 @@ pub fn with_low(o: Open, continues: bool, length: usize) -> Open
 // The marks of such a line; `since` is the line of the open heading, `no` that of the open field.
 pub fn low_marks(own: u64, since: u32, no: u32, continues: bool) -> u64
     requires { own ≤ 18 }
-    ensures { result ≡ lowMarksAt own since no continues }
+    ensures { result ≡ low_marks_at own since no continues }
 {
     own + flag(((since == 0) & (no == 0)) | !continues, MARK_2) + flag(since == 0, MARK_3)
 }
 
 // 23 or 24.
 fn number_marks(n: Number) -> u64
-    ensures { (result ≡ mark 23 (isFailing n) + mark 24 (is_zero n)) × (result ≤ 2 ^ 24) }
+    ensures { (result ≡ mark 23 (is_failing n) + mark 24 (is_zero n)) × (result ≤ 2 ^ 24) }
 {
     match n {
         Number::Good => 0,
@@ -121,7 +121,7 @@ fn number_marks(n: Number) -> u64
 
 // 7, and 23 or 24.
 fn halves_marks(h: Halves) -> u64
-    ensures { (result ≡ halvesMarks h) × (result ≤ 2 ^ 25) }
+    ensures { (result ≡ halves_marks h) × (result ≤ 2 ^ 25) }
 {
     let n = h.number;
     flag(!h.prefix, MARK_7) + number_marks(n)
@@ -129,7 +129,7 @@ fn halves_marks(h: Halves) -> u64
 
 // 6 to 9, 23 and 24; 8 and 9 only where it is the item's first KC, and the heading reads.
 pub fn said_marks(basis: Basis, first: bool, reads: bool, h: Heading, said: Reading) -> u64
-    ensures { (result ≡ saidMarks basis first (readAs reads h) said) × (result ≤ 2 ^ 25) }
+    ensures { (result ≡ said_marks basis first (read_as reads h) said) × (result ≤ 2 ^ 25) }
 {
     match said {
         Reading::Broken => MARK_6,
@@ -151,7 +151,7 @@ pub fn said_marks(basis: Basis, first: bool, reads: bool, h: Heading, said: Read
 
 // What a field says that closes, by its own line: whether it fits is bit 6 of its marks.
 fn said_closed(o: Open, p: Pend) -> Reading
-    ensures { result ≡ saidClosed o p }
+    ensures { result ≡ said_closed o p }
 {
     let said = p.said;
     readings::if_fits(o.marks % MARK_7 < MARK_6, said)
@@ -159,7 +159,7 @@ fn said_closed(o: Open, p: Pend) -> Reading
 
 // The first IN, with the open field, which closes.
 pub fn span_closed(span: FirstIn, o: Open, p: Pend) -> FirstIn
-    ensures { result ≡ spanClosed span o p }
+    ensures { result ≡ span_closed span o p }
 {
     if o.class == 5 {
         return claiming::span_kept(span, claiming::span_by(said_closed(o, p)));
@@ -169,7 +169,7 @@ pub fn span_closed(span: FirstIn, o: Open, p: Pend) -> FirstIn
 
 // The first S0 to S9, with it.
 pub fn stated_closed(stated: Sums, o: Open, p: Pend) -> Sums
-    ensures { result ≡ statedClosed stated o p }
+    ensures { result ≡ stated_closed stated o p }
 {
     if o.class == 6 {
         return claiming::group_claims(stated, classes::sum_group(p.ident), said_closed(o, p));
@@ -180,7 +180,7 @@ pub fn stated_closed(stated: Sums, o: Open, p: Pend) -> Sums
 // An IN or an S0 to S9 is kept until it closes.
 pub fn keep_own(pend: Pend, class: u8, ident: usize, said: Reading) -> Pend
     requires { class ≡ code_of ident }
-    ensures { result ≡ pendOf pend ident said }
+    ensures { result ≡ pend_of pend ident said }
 {
     if 5 <= class {
         return Pend { ident, said };
@@ -203,7 +203,7 @@ pub fn field_open(
     said: Reading,
 ) -> Open
     requires { (class ≡ code_of ident) × (own ≤ 18) }
-    ensures { result ≡ cond (eqb since 0) (openLoose no own) (openOwn basis kc (readAs reads h) no own again ident said) }
+    ensures { result ≡ cond (eqb since 0) (open_loose no own) (open_own basis kc (read_as reads h) no own again ident said) }
 {
     if since == 0 {
         return Open {
@@ -224,7 +224,7 @@ pub fn field_open(
 
 // 6, 7, 23 and 24 of a field that claims nothing.
 fn plain_marks(class: u8, line: &[u8]) -> u64
-    ensures { ((k : Class) → codeBy k ≡ class → claims class ≡ false → result ≡ plainMarks (reading_of k (text_of line.now))) × (result ≤ 2 ^ 25) }
+    ensures { ((k : Class) → code_by k ≡ class → claims class ≡ false → result ≡ plain_marks (reading_of k (text_of line.now))) × (result ≤ 2 ^ 25) }
 {
     match readings::read_plain(class, line) {
         Reading::Broken => MARK_6,
@@ -240,7 +240,7 @@ fn plain_marks(class: u8, line: &[u8]) -> u64
 // it: they are inlined, and no `Reading` is made.
 pub fn plain_open(since: u32, no: u32, own: u64, again: bool, class: u8, line: &[u8]) -> Open
     requires { own ≤ 18 }
-    ensures { (j : Basis) (kc : FirstKc) (h : Read) (ident : ℕ) → class ≡ code_of ident → claims class ≡ false → result ≡ cond (eqb since 0) (openLoose no own) (openOwn j kc h no own again ident (reading_of (class_of ident) (text_of line.now))) }
+    ensures { (j : Basis) (kc : FirstKc) (h : Read) (ident : ℕ) → class ≡ code_of ident → claims class ≡ false → result ≡ cond (eqb since 0) (open_loose no own) (open_own j kc h no own again ident (reading_of (class_of ident) (text_of line.now))) }
 {
     if since == 0 {
         return Open {
@@ -260,7 +260,7 @@ pub fn plain_open(since: u32, no: u32, own: u64, again: bool, class: u8, line: &
 
 // The heading of the open item.
 pub fn read_as(reads: bool, h: Heading) -> Read
-    ensures { result ≡ readAs reads h }
+    ensures { result ≡ read_as reads h }
 {
     if reads {
         return Read::Reads(h);
@@ -269,7 +269,7 @@ pub fn read_as(reads: bool, h: Heading) -> Read
 }
 
 pub fn heading_in(read: Read, old: Heading) -> Heading
-    ensures { result ≡ headingIn read old }
+    ensures { result ≡ heading_in read old }
 {
     match read {
         Read::Reads(h) => h,
@@ -278,7 +278,7 @@ pub fn heading_in(read: Read, old: Heading) -> Heading
 }
 
 pub fn does_read(read: Read) -> bool
-    ensures { result ≡ not (isUnreadable read) }
+    ensures { result ≡ not (is_unreadable read) }
 {
     match read {
         Read::Reads(_) => true,

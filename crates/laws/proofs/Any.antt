@@ -16,16 +16,16 @@ module _ (f : ℕ → Bool) (s : List ℕ) (i : ℕ) (flag : Bool) (known : (fla
     next = rw (add-one i) (rw (drop-cons s i 0 inside) at known)
 
     -- the element passes: the flag is set
-    pub flag-set : f (get_or s i 0) ≡ true → (true || any_of f (drop (i + 1) s)) ≡ any_of f s
-    flag-set e = go flag (rw e at next)
+    pub flag_set : f (get_or s i 0) ≡ true → (true || any_of f (drop (i + 1) s)) ≡ any_of f s
+    flag_set e = go flag (rw e at next)
       where
         go : (b : Bool) → (b || true) ≡ any_of f s → true ≡ any_of f s
         go true q = q
         go false q = q
 
     -- it does not: the flag stays
-    pub flag-kept : f (get_or s i 0) ≡ false → (flag || any_of f (drop (i + 1) s)) ≡ any_of f s
-    flag-kept e = rw e at next
+    pub flag_kept : f (get_or s i 0) ≡ false → (flag || any_of f (drop (i + 1) s)) ≡ any_of f s
+    flag_kept e = rw e at next
 
   pub flag_is : length s ≤ i → flag ≡ any_of f s
   unfolding any_of

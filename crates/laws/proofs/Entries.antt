@@ -14,11 +14,11 @@ pub and_right : (a b : Bool) → T (a && b) → T b
 and_right true b t = t
 and_right false b t = absurd t
 
-abbrev pub passes-all : (ℕ → Bool) → List ℕ → Bool
-passes-all f [] = true
-passes-all f (x ∷ xs) = f x && passes-all f xs
+abbrev pub passes_all : (ℕ → Bool) → List ℕ → Bool
+passes_all f [] = true
+passes_all f (x ∷ xs) = f x && passes_all f xs
 
-pub at : (f : ℕ → Bool) (xs : List ℕ) → T (passes-all f xs) → (k : ℕ) → k < length xs → T (f (get_or xs k 0))
+pub at : (f : ℕ → Bool) (xs : List ℕ) → T (passes_all f xs) → (k : ℕ) → k < length xs → T (f (get_or xs k 0))
 at f [] t k h = absurd (not-suc-le-zero h)
-at f (x ∷ xs) t zero h = and_left (f x) (passes-all f xs) t
-at f (x ∷ xs) t (suc k) h = at f xs (and_right (f x) (passes-all f xs) t) k (le_of_suc-le-suc h)
+at f (x ∷ xs) t zero h = and_left (f x) (passes_all f xs) t
+at f (x ∷ xs) t (suc k) h = at f xs (and_right (f x) (passes_all f xs) t) k (le_of_suc-le-suc h)

@@ -7,11 +7,11 @@ use lib.ListN.{get_or}
 use Rattle.laws.specs.Tests.{every}
 
 -- one test that fails is enough, whatever the others say
-pub one-fails : (bs : List Bool) (k : ℕ) → get_or bs k true ≡ false → false ≡ every bs
-one-fails [] k e = absurd (true≢false e)
-one-fails (true ∷ bs) zero e = absurd (true≢false e)
-one-fails (true ∷ bs) (suc k) e = one-fails bs k e
-one-fails (false ∷ bs) k e = refl
+pub one_fails : (bs : List Bool) (k : ℕ) → get_or bs k true ≡ false → false ≡ every bs
+one_fails [] k e = absurd (true≢false e)
+one_fails (true ∷ bs) zero e = absurd (true≢false e)
+one_fails (true ∷ bs) (suc k) e = one_fails bs k e
+one_fails (false ∷ bs) k e = refl
 
 -- where all hold, so does the one at a place
 pub each_holds : (bs : List Bool) → every bs ≡ true → (k : ℕ) → get_or bs k true ≡ true

@@ -22,15 +22,15 @@ at f (suc n) t k h =
     (λ l. at f n (and_right (f n) (below f n) t) k l)
     (eq-or-lt_of_le (le_of_suc-le-suc h))
 
-beq-eq : (a b : Bool) → T (beq a b) → a ≡ b
-beq-eq true true t = refl
-beq-eq true false t = absurd t
-beq-eq false true t = absurd t
-beq-eq false false t = refl
+beq_eq : (a b : Bool) → T (beq a b) → a ≡ b
+beq_eq true true t = refl
+beq_eq true false t = absurd t
+beq_eq false true t = absurd t
+beq_eq false false t = refl
 
 -- two tests that agree at each number below n, by computing both
 pub agree : (f g : ℕ → Bool) (n : ℕ) → T (below (λ k. beq (f k) (g k)) n) → (k : ℕ) → k < n → f k ≡ g k
-agree f g n t k h = beq-eq (f k) (g k) (at (λ j. beq (f j) (g j)) n t k h)
+agree f g n t k h = beq_eq (f k) (g k) (at (λ j. beq (f j) (g j)) n t k h)
 
 from : (g : ℕ → Bool) (n i k : ℕ) → k < n → get_or (tabulate g i n) k false ≡ g (i + k)
 from g zero i k h = absurd (not-suc-le-zero h)

@@ -15,10 +15,10 @@ abbrev tests : ℕ → List ℕ → Bool
 tests x [] = false
 tests x (y ∷ ys) = onward (eqb x y) x ys
 
-onward-is : (b : Bool) (x : ℕ) (ys : List ℕ) → onward b x ys ≡ (b || among x ys)
-onward-is b x [] = sym (or-false b)
-onward-is b x (y ∷ ys) = onward-is (b || eqb x y) x ys ∙ or_assoc b (eqb x y) (among x ys)
+onward_is : (b : Bool) (x : ℕ) (ys : List ℕ) → onward b x ys ≡ (b || among x ys)
+onward_is b x [] = sym (or-false b)
+onward_is b x (y ∷ ys) = onward_is (b || eqb x y) x ys ∙ or_assoc b (eqb x y) (among x ys)
 
 pub one_of : (x : ℕ) (ys : List ℕ) → tests x ys ≡ among x ys
 one_of x [] = refl
-one_of x (y ∷ ys) = onward-is (eqb x y) x ys
+one_of x (y ∷ ys) = onward_is (eqb x y) x ys

@@ -23,12 +23,12 @@ pub take_rest : (n : ℕ) (s : List ℕ) → take (length s - n) (drop n s) ≡ 
 take_rest n s = rw (← length-drop n s) (take-length (drop n s))
 
 -- the first n of two lists, and the rest
-pub take-both : (n : ℕ) (s t : List ℕ) → take n (s ++ t) ≡ take n s ++ take (n - length s) t
-take-both n [] t = rw (sub-zero, take-nil)
-take-both zero (x ∷ s) t = rw zero-sub
-take-both (suc n) (x ∷ s) t = rw suc-sub-suc (ap (λ (l : List ℕ). x ∷ l) (take-both n s t))
+pub take_both : (n : ℕ) (s t : List ℕ) → take n (s ++ t) ≡ take n s ++ take (n - length s) t
+take_both n [] t = rw (sub-zero, take-nil)
+take_both zero (x ∷ s) t = rw zero-sub
+take_both (suc n) (x ∷ s) t = rw suc-sub-suc (ap (λ (l : List ℕ). x ∷ l) (take_both n s t))
 
-pub drop-both : (n : ℕ) (s t : List ℕ) → drop n (s ++ t) ≡ drop n s ++ drop (n - length s) t
-drop-both n [] t = rw (sub-zero, drop-nil)
-drop-both zero (x ∷ s) t = rw zero-sub
-drop-both (suc n) (x ∷ s) t = rw suc-sub-suc (drop-both n s t)
+pub drop_both : (n : ℕ) (s t : List ℕ) → drop n (s ++ t) ≡ drop n s ++ drop (n - length s) t
+drop_both n [] t = rw (sub-zero, drop-nil)
+drop_both zero (x ∷ s) t = rw zero-sub
+drop_both (suc n) (x ∷ s) t = rw suc-sub-suc (drop_both n s t)

@@ -13,9 +13,9 @@ unfolding put
 put_is xs at ys = refl
 
 module _ (xs : List ℕ) (at : ℕ) (ys : List ℕ) (fits : at + length ys ≤ length xs) where
-  pub length-put : length (put xs at ys) ≡ length xs
+  pub length_put : length (put xs at ys) ≡ length xs
   unfolding put
-  length-put = simp (length-append, length-take, length-drop) (omega arith)
+  length_put = simp (length-append, length-take, length-drop) (omega arith)
 
   before : length (take at xs) ≡ at
   before = length-take-le at xs (omega arith)
@@ -28,8 +28,8 @@ module _ (xs : List ℕ) (at : ℕ) (ys : List ℕ) (fits : at + length ys ≤ l
   long = simp (length-append, before)
 
   -- what stands after what was written
-  pub drop-put : drop (at + length ys) (put xs at ys) ≡ drop (at + length ys) xs
-  drop-put = rw whole (drop_at (take at xs ++ ys) (drop (at + length ys) xs) (at + length ys) long)
+  pub drop_put : drop (at + length ys) (put xs at ys) ≡ drop (at + length ys) xs
+  drop_put = rw whole (drop_at (take at xs ++ ys) (drop (at + length ys) xs) (at + length ys) long)
 
   pub take_put : take (at + length ys) (put xs at ys) ≡ take at xs ++ ys
   take_put = rw whole (take_at (take at xs ++ ys) (drop (at + length ys) xs) (at + length ys) long)
@@ -42,12 +42,12 @@ module _ (xs : List ℕ) (at : ℕ) (ys : List ℕ) (fits : at + length ys ≤ l
       split = put_is (put xs at ys) (at + length ys) zs
 
       rest : drop (at + length ys + length zs) (put xs at ys) ≡ drop (at + length ys + length zs) xs
-      rest = sym (drop-drop (length zs) (at + length ys) (put xs at ys)) ∙ ap (drop (length zs)) drop-put ∙ drop-drop (length zs) (at + length ys) xs
+      rest = sym (drop-drop (length zs) (at + length ys) (put xs at ys)) ∙ ap (drop (length zs)) drop_put ∙ drop-drop (length zs) (at + length ys) xs
 
       joined : (take at xs ++ ys) ++ (zs ++ drop (at + length ys + length zs) xs) ≡ put xs at (ys ++ zs)
       joined = sym (put_is xs at (ys ++ zs) ∙ simp (length-append, append_assoc, add_assoc))
 
 -- nothing written
-pub put-none : (xs : List ℕ) (at : ℕ) → put xs at [] ≡ xs
+pub put_none : (xs : List ℕ) (at : ℕ) → put xs at [] ≡ xs
 unfolding put
-put-none xs at = rw add-zero (take-append-drop at xs)
+put_none xs at = rw add-zero (take-append-drop at xs)

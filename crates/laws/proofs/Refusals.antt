@@ -14,8 +14,8 @@ abbrev pub numbered : List Refusal → Bool
 numbered [] = true
 numbered ((k if t) ∷ rs) = leb 1 k && numbered rs
 
-number-some : (k : ℕ) (rs : List Refusal) → T (leb 1 k && numbered rs) → k ≡ 0 → ⊥
-number-some k rs n e = let h : 1 ≤ k = leb→le 1 k (and_left (leb 1 k) (numbered rs) n) in omega (arith, e, h)
+number_some : (k : ℕ) (rs : List Refusal) → T (leb 1 k && numbered rs) → k ≡ 0 → ⊥
+number_some k rs n e = let h : 1 ≤ k = leb→le 1 k (and_left (leb 1 k) (numbered rs) n) in omega (arith, e, h)
 
 -- none of the conditions holds
 abbrev pub NoneOf : List Refusal → Type 0
@@ -23,21 +23,21 @@ NoneOf [] = Unit {0}
 NoneOf ((k if t) ∷ rs) = (t ≡ false) × NoneOf rs
 
 -- a job that answers 0 refuses by none of its numbers
-pub none-applies : (rs : List Refusal) → T (numbered rs) → first rs ≡ 0 → NoneOf rs
-none-applies [] n e = tt
-none-applies ((k if true) ∷ rs) n e = absurd (number-some k rs n e)
-none-applies ((k if false) ∷ rs) n e = (refl, none-applies rs (and_right (leb 1 k) (numbered rs) n) e)
+pub none_applies : (rs : List Refusal) → T (numbered rs) → first rs ≡ 0 → NoneOf rs
+none_applies [] n e = tt
+none_applies ((k if true) ∷ rs) n e = absurd (number_some k rs n e)
+none_applies ((k if false) ∷ rs) n e = (refl, none_applies rs (and_right (leb 1 k) (numbered rs) n) e)
 
 -- one that applies hides all that follow
-pub first-here : (rs ss : List Refusal) (k : ℕ) → first rs ≡ k → 1 ≤ k → first (rs ++ ss) ≡ k
-first-here [] ss k e h = absurd (omega (arith, e, h))
-first-here ((j if true) ∷ rs) ss k e h = e
-first-here ((j if false) ∷ rs) ss k e h = first-here rs ss k e h
+pub first_here : (rs ss : List Refusal) (k : ℕ) → first rs ≡ k → 1 ≤ k → first (rs ++ ss) ≡ k
+first_here [] ss k e h = absurd (omega (arith, e, h))
+first_here ((j if true) ∷ rs) ss k e h = e
+first_here ((j if false) ∷ rs) ss k e h = first_here rs ss k e h
 
 -- where none applies the next ones decide
 pub first_past : (rs ss : List Refusal) → T (numbered rs) → first rs ≡ 0 → first (rs ++ ss) ≡ first ss
 first_past [] ss n e = refl
-first_past ((k if true) ∷ rs) ss n e = absurd (number-some k rs n e)
+first_past ((k if true) ∷ rs) ss n e = absurd (number_some k rs n e)
 first_past ((k if false) ∷ rs) ss n e = first_past rs ss (and_right (leb 1 k) (numbered rs) n) e
 
 -- what is done where nothing refuses can be said in other words

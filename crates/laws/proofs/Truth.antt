@@ -9,13 +9,13 @@ use borrow.Author.Tests.{eqb-true, ltb-true, ltb-false, not-true}
 use Rattle.laws.specs.Tests.{every, among}
 
 -- a case on a test, with what it says
-pub by-test : {A : Type 0} (b : Bool) → (b ≡ true → A) → (b ≡ false → A) → A
-by-test true f g = f refl
-by-test false f g = g refl
+pub by_test : {A : Type 0} (b : Bool) → (b ≡ true → A) → (b ≡ false → A) → A
+by_test true f g = f refl
+by_test false f g = g refl
 
 -- .. and on the order of two numbers
-pub le-or-lt : (m n : ℕ) → (m ≤ n) ⊎ (n < m)
-le-or-lt m n = by-test (ltb n m) (λ e. inr (ltb-true n m e)) (λ e. inl (ltb-false n m e))
+pub le_or_lt : (m n : ℕ) → (m ≤ n) ⊎ (n < m)
+le_or_lt m n = by_test (ltb n m) (λ e. inr (ltb-true n m e)) (λ e. inl (ltb-false n m e))
 
 pub never_true : (b : Bool) → (b ≡ true → ⊥) → b ≡ false
 never_true false h = refl

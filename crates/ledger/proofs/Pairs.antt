@@ -9,62 +9,62 @@ use Rattle.rules.specs.Faults.{Fault, fault}
 use Rattle.ledger.specs.Marks.{key}
 use Rattle.ledger.specs.Slices.{pairs, held, opened, Ready}
 
-pairs-nil : (ls : List ℕ) → pairs ls [] ≡ []
+pairs_nil : (ls : List ℕ) → pairs ls [] ≡ []
 unfolding zip_with
-pairs-nil [] = refl
-pairs-nil (l ∷ ls) = refl
+pairs_nil [] = refl
+pairs_nil (l ∷ ls) = refl
 
-pairs-take : (n : ℕ) (ls rs : List ℕ) → pairs (take n ls) (take n rs) ≡ take n (pairs ls rs)
+pairs_take : (n : ℕ) (ls rs : List ℕ) → pairs (take n ls) (take n rs) ≡ take n (pairs ls rs)
 unfolding zip_with
-pairs-take zero ls rs = refl
-pairs-take (suc n) [] rs = refl
-pairs-take (suc n) (l ∷ ls) [] = refl
-pairs-take (suc n) (l ∷ ls) (r ∷ rs) = ap (λ (t : List Fault). fault l r ∷ t) (pairs-take n ls rs)
+pairs_take zero ls rs = refl
+pairs_take (suc n) [] rs = refl
+pairs_take (suc n) (l ∷ ls) [] = refl
+pairs_take (suc n) (l ∷ ls) (r ∷ rs) = ap (λ (t : List Fault). fault l r ∷ t) (pairs_take n ls rs)
 
-pairs-drop : (n : ℕ) (ls rs : List ℕ) → pairs (drop n ls) (drop n rs) ≡ drop n (pairs ls rs)
+pairs_drop : (n : ℕ) (ls rs : List ℕ) → pairs (drop n ls) (drop n rs) ≡ drop n (pairs ls rs)
 unfolding zip_with
-pairs-drop zero ls rs = refl
-pairs-drop (suc n) [] rs = refl
-pairs-drop (suc n) (l ∷ ls) [] = pairs-nil (drop n ls)
-pairs-drop (suc n) (l ∷ ls) (r ∷ rs) = pairs-drop n ls rs
+pairs_drop zero ls rs = refl
+pairs_drop (suc n) [] rs = refl
+pairs_drop (suc n) (l ∷ ls) [] = pairs_nil (drop n ls)
+pairs_drop (suc n) (l ∷ ls) (r ∷ rs) = pairs_drop n ls rs
 
-pairs-append : (a b c d : List ℕ) → length a ≡ length b → pairs (a ++ c) (b ++ d) ≡ pairs a b ++ pairs c d
+pairs_append : (a b c d : List ℕ) → length a ≡ length b → pairs (a ++ c) (b ++ d) ≡ pairs a b ++ pairs c d
 unfolding zip_with
-pairs-append [] [] c d h = refl
-pairs-append [] (y ∷ b) c d h = absurd (omega arith)
-pairs-append (x ∷ a) [] c d h = absurd (omega arith)
-pairs-append (x ∷ a) (y ∷ b) c d h = ap (λ (t : List Fault). fault x y ∷ t) (pairs-append a b c d (omega arith))
+pairs_append [] [] c d h = refl
+pairs_append [] (y ∷ b) c d h = absurd (omega arith)
+pairs_append (x ∷ a) [] c d h = absurd (omega arith)
+pairs_append (x ∷ a) (y ∷ b) c d h = ap (λ (t : List Fault). fault x y ∷ t) (pairs_append a b c d (omega arith))
 
-pairs-get : (ls rs : List ℕ) (i : ℕ) (d : Fault) → length ls ≡ length rs → i < length ls → get_or (pairs ls rs) i d ≡ fault (get_or ls i 0) (get_or rs i 0)
+pairs_get : (ls rs : List ℕ) (i : ℕ) (d : Fault) → length ls ≡ length rs → i < length ls → get_or (pairs ls rs) i d ≡ fault (get_or ls i 0) (get_or rs i 0)
 unfolding zip_with
-pairs-get [] rs i d h k = absurd (omega arith)
-pairs-get (x ∷ ls) [] i d h k = absurd (omega arith)
-pairs-get (x ∷ ls) (y ∷ rs) zero d h k = refl
-pairs-get (x ∷ ls) (y ∷ rs) (suc i) d h k = pairs-get ls rs i d (omega arith) (omega arith)
+pairs_get [] rs i d h k = absurd (omega arith)
+pairs_get (x ∷ ls) [] i d h k = absurd (omega arith)
+pairs_get (x ∷ ls) (y ∷ rs) zero d h k = refl
+pairs_get (x ∷ ls) (y ∷ rs) (suc i) d h k = pairs_get ls rs i d (omega arith) (omega arith)
 
 -- a place opened in both slices is one opened among the pairs
-pub pairs-opened : (p n l r : ℕ) (ls rs : List ℕ) → length ls ≡ length rs → pairs (opened p n l ls) (opened p n r rs) ≡ opened p n (fault l r) (pairs ls rs)
+pub pairs_opened : (p n l r : ℕ) (ls rs : List ℕ) → length ls ≡ length rs → pairs (opened p n l ls) (opened p n r rs) ≡ opened p n (fault l r) (pairs ls rs)
 unfolding zip_with
-pairs-opened p n l r ls rs h =
-    pairs-append (take p ls) (take p rs) (l ∷ (take (n - p) (drop p ls) ++ drop (suc n) ls)) (r ∷ (take (n - p) (drop p rs) ++ drop (suc n) rs)) (simp length-take (omega arith))
+pairs_opened p n l r ls rs h =
+    pairs_append (take p ls) (take p rs) (l ∷ (take (n - p) (drop p ls) ++ drop (suc n) ls)) (r ∷ (take (n - p) (drop p rs) ++ drop (suc n) rs)) (simp length-take (omega arith))
     ∙ ap (λ (t : List Fault). pairs (take p ls) (take p rs) ++ (fault l r ∷ t))
-    (pairs-append (take (n - p) (drop p ls)) (take (n - p) (drop p rs)) (drop (suc n) ls) (drop (suc n) rs) (simp (length-take, length-drop) (omega arith)))
-    ∙ simp (pairs-take, pairs-drop)
+    (pairs_append (take (n - p) (drop p ls)) (take (n - p) (drop p rs)) (drop (suc n) ls) (drop (suc n) rs) (simp (length-take, length-drop) (omega arith)))
+    ∙ simp (pairs_take, pairs_drop)
 
 -- as many pairs as places
-pub pairs-length : (ls rs : List ℕ) → length ls ≡ length rs → length (pairs ls rs) ≡ length ls
+pub pairs_length : (ls rs : List ℕ) → length ls ≡ length rs → length (pairs ls rs) ≡ length ls
 unfolding zip_with
-pairs-length [] rs h = refl
-pairs-length (x ∷ ls) [] h = absurd (omega arith)
-pairs-length (x ∷ ls) (y ∷ rs) h = ap suc (pairs-length ls rs (omega arith))
+pairs_length [] rs h = refl
+pairs_length (x ∷ ls) [] h = absurd (omega arith)
+pairs_length (x ∷ ls) (y ∷ rs) h = ap suc (pairs_length ls rs (omega arith))
 
 module _ (n : ℕ) (ls rs : List ℕ) (R : Ready n ls rs) where
-  pub held-length : length (held n ls rs) ≡ n
-  held-length = length-take-le n (pairs ls rs) (omega (arith, pairs-length ls rs R.same, R.room))
+  pub held_length : length (held n ls rs) ≡ n
+  held_length = length-take-le n (pairs ls rs) (omega (arith, pairs_length ls rs R.same, R.room))
 
   -- the key of a pair that is held
-  pub held-key : (q : ℕ) (d : Fault) → q < n → key (get_or (held n ls rs) q d) ≡ key (fault (get_or ls q 0) (get_or rs q 0))
-  held-key q d h = ap key (get_or-take n (pairs ls rs) q d h ∙ pairs-get ls rs q d R.same (omega (arith, R.room)))
+  pub held_key : (q : ℕ) (d : Fault) → q < n → key (get_or (held n ls rs) q d) ≡ key (fault (get_or ls q 0) (get_or rs q 0))
+  held_key q d h = ap key (get_or-take n (pairs ls rs) q d h ∙ pairs_get ls rs q d R.same (omega (arith, R.room)))
 
 -- ---- the two columns
 
@@ -76,9 +76,9 @@ lines_of (x ∷ ls) [] h = absurd (omega arith)
 lines_of (x ∷ ls) (y ∷ rs) h = ap (λ (t : List ℕ). x ∷ t) (lines_of ls rs (omega arith))
 
 -- the second
-pub rules-of : (ls rs : List ℕ) → length ls ≡ length rs → map (λ (f : Fault). f.rule) (pairs ls rs) ≡ rs
+pub rules_of : (ls rs : List ℕ) → length ls ≡ length rs → map (λ (f : Fault). f.rule) (pairs ls rs) ≡ rs
 unfolding zip_with
-rules-of [] [] h = refl
-rules-of [] (y ∷ rs) h = absurd (omega arith)
-rules-of (x ∷ ls) [] h = absurd (omega arith)
-rules-of (x ∷ ls) (y ∷ rs) h = ap (λ (t : List ℕ). y ∷ t) (rules-of ls rs (omega arith))
+rules_of [] [] h = refl
+rules_of [] (y ∷ rs) h = absurd (omega arith)
+rules_of (x ∷ ls) [] h = absurd (omega arith)
+rules_of (x ∷ ls) (y ∷ rs) h = ap (λ (t : List ℕ). y ∷ t) (rules_of ls rs (omega arith))

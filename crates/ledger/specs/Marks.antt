@@ -13,18 +13,18 @@ digit zero r rs = rs
 digit (suc b) r rs = r ∷ rs
 
 -- the rules of a set, ascending, of the d rules from r on: the lowest digit of m is r's
-unfoldable pub rulesFrom : ℕ → ℕ → ℕ → List ℕ
-rulesFrom zero r m = []
-rulesFrom (suc d) r m = digit (m % 2) r (rulesFrom d (suc r) (m / 2))
+unfoldable pub rules_from : ℕ → ℕ → ℕ → List ℕ
+rules_from zero r m = []
+rules_from (suc d) r m = digit (m % 2) r (rules_from d (suc r) (m / 2))
 
 -- the rules of a set of marks, ascending
-abbrev pub rulesOf : ℕ → List ℕ
-rulesOf m = rulesFrom 64 0 m
+abbrev pub rules_of : ℕ → List ℕ
+rules_of m = rules_from 64 0 m
 
 -- the set of the broken rules: the sum of their marks
-abbrev pub setOf : List Test → ℕ
-setOf [] = 0
-setOf (t ∷ ts) = mark t.rule t.broken + setOf ts
+abbrev pub set_of : List Test → ℕ
+set_of [] = 0
+set_of (t ∷ ts) = mark t.rule t.broken + set_of ts
 
 -- the rules ascend, from k on, and are below 64
 abbrev pub ascending : ℕ → List Test → Bool
@@ -33,17 +33,17 @@ ascending k (t ∷ ts) = leb k t.rule && (ltb t.rule 64 && ascending (suc t.rule
 
 -- the faults of one line, ascending
 abbrev pub marked : ℕ → ℕ → List Fault
-marked line marks = map (fault line) (rulesOf marks)
+marked line marks = map (fault line) (rules_of marks)
 
 -- the faults of several lines, each with its set of marks
-unfoldable pub markedOf : List Spot → List Fault
-markedOf [] = []
-markedOf (s ∷ ss) = marked s.line (setOf s.tests) ++ markedOf ss
+unfoldable pub marked_of : List Spot → List Fault
+marked_of [] = []
+marked_of (s ∷ ss) = marked s.line (set_of s.tests) ++ marked_of ss
 
 -- the sum of the sizes of their sets: a set's size is its count of ones
-abbrev pub setSizes : List Spot → ℕ
-setSizes [] = 0
-setSizes (s ∷ ss) = ones (setOf s.tests) + setSizes ss
+abbrev pub set_sizes : List Spot → ℕ
+set_sizes [] = 0
+set_sizes (s ∷ ss) = ones (set_of s.tests) + set_sizes ss
 
 -- ---- faults put in
 -- the order as one number, since rules are below 64
@@ -56,6 +56,6 @@ insert x [] = x ∷ []
 insert x (y ∷ ys) = cond (ltb (key y) (key x)) (y ∷ insert x ys) (x ∷ y ∷ ys)
 
 -- several, one after the other
-unfoldable pub insertAll : List Fault → List Fault → List Fault
-insertAll [] ys = ys
-insertAll (x ∷ xs) ys = insertAll xs (insert x ys)
+unfoldable pub insert_all : List Fault → List Fault → List Fault
+insert_all [] ys = ys
+insert_all (x ∷ xs) ys = insert_all xs (insert x ys)

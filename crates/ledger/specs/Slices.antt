@@ -4,7 +4,7 @@ use Rattle.std.specs.Prelude.{ℕ, suc, ◌+◌, ◌-◌, ◌≤◌, min, ◌≡
 use mathlib.Core.List.{List, [], ◌∷◌, ◌++◌, map, zip_with}
 use Rattle.rules.specs.Faults.{Fault, fault, written}
 use Rattle.ledger.specs.declared.Ledger.{Ledger}
-use Rattle.ledger.specs.Marks.{key, insertAll}
+use Rattle.ledger.specs.Marks.{key, insert_all}
 
 -- the pairs that the two slices hold, place by place
 abbrev pub pairs : List ℕ → List ℕ → List Fault
@@ -31,12 +31,12 @@ pub record Ready (n : ℕ) (ls rs : List ℕ) : Type 0 where
 
 -- xs were put in among the n pairs held: of all of them the first that fit are held, and the places after the last keep what they held
 pub record Put (xs : List Fault) (n : ℕ) (ls rs : List ℕ) (n' : ℕ) (ls' rs' : List ℕ) : Type 0 where
-  pub holds : held n' ls' rs' ≡ take (length ls) (insertAll xs (held n ls rs))
+  pub holds : held n' ls' rs' ≡ take (length ls) (insert_all xs (held n ls rs))
   pub count : n' ≡ min (length ls) (n + length xs)
   pub lines_after : drop n' ls' ≡ drop n' ls
-  pub rules-after : drop n' rs' ≡ drop n' rs
+  pub rules_after : drop n' rs' ≡ drop n' rs
   pub lines_long : length ls' ≡ length ls
-  pub rules-long : length rs' ≡ length rs
+  pub rules_long : length rs' ≡ length rs
   pub ready : Ready n' ls' rs'
 
 -- xs were entered, by one call or by several: a full room stops nothing of the total

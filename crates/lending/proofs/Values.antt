@@ -14,14 +14,14 @@ use Rattle.own_rules.proofs.Basis.TheLaws as TJ'
 use Rattle.account.specs.contracts.Accounted as TC
 use Rattle.account.proofs.Accounted.TheLaws as TC'
 
-abbrev pub machB : Course → Val
-machB = LL.val TB.the_type TB'.the_laws
+abbrev pub mach_b : Course → Val
+mach_b = LL.val TB.the_type TB'.the_laws
 
-abbrev pub machI : Outline → Val
-machI = LL.val TI.the_type TI'.the_laws
+abbrev pub mach_i : Outline → Val
+mach_i = LL.val TI.the_type TI'.the_laws
 
-abbrev pub machJ : Basis → Val
-machJ = LL.val TJ.the_type TJ'.the_laws
+abbrev pub mach_j : Basis → Val
+mach_j = LL.val TJ.the_type TJ'.the_laws
 
-abbrev pub machC : Accounted → Val
-machC = LL.val TC.the_type TC'.the_laws
+abbrev pub mach_c : Accounted → Val
+mach_c = LL.val TC.the_type TC'.the_laws

@@ -13,8 +13,8 @@ unfolding lines
 lines_none = refl
 
 -- at the end no line is left
-pub lines-past : (s : List ℕ) (at : ℕ) → length s ≤ at → lines (drop at s) ≡ []
-lines-past s at h = ap lines (drop_of_length-le s h) ∙ lines_none
+pub lines_past : (s : List ℕ) (at : ℕ) → length s ≤ at → lines (drop at s) ≡ []
+lines_past s at h = ap lines (drop_of_length-le s h) ∙ lines_none
 
 -- CR LF cuts
 pub lines_cut : (s : List ℕ) → crlf s ≡ true → lines s ≡ record { bytes = []; ended = true } ∷ lines (drop 2 s)
@@ -24,22 +24,22 @@ lines_cut (b ∷ []) e = cc
 lines_cut (b ∷ c ∷ s) e = rw e
 
 -- any other byte goes onto the line
-pub lines-on : (b : ℕ) (s : List ℕ) → crlf (b ∷ s) ≡ false → lines (b ∷ s) ≡ onto b (lines s)
+pub lines_on : (b : ℕ) (s : List ℕ) → crlf (b ∷ s) ≡ false → lines (b ∷ s) ≡ onto b (lines s)
 unfolding lines
-lines-on b [] e = refl
-lines-on b (c ∷ s) e = rw e
+lines_on b [] e = refl
+lines_on b (c ∷ s) e = rw e
 
-pub crlf-short : (s : List ℕ) → length s ≤ 1 → crlf s ≡ false
+pub crlf_short : (s : List ℕ) → length s ≤ 1 → crlf s ≡ false
 unfolding crlf
-crlf-short [] h = refl
-crlf-short (b ∷ []) h = refl
-crlf-short (b ∷ c ∷ s) h = absurd (omega arith)
+crlf_short [] h = refl
+crlf_short (b ∷ []) h = refl
+crlf_short (b ∷ c ∷ s) h = absurd (omega arith)
 
 -- only a CR begins a CR LF
-pub crlf-not : (b : ℕ) (s : List ℕ) → is_byte 0x0d b ≡ false → crlf (b ∷ s) ≡ false
+pub crlf_not : (b : ℕ) (s : List ℕ) → is_byte 0x0d b ≡ false → crlf (b ∷ s) ≡ false
 unfolding crlf
-crlf-not b [] e = refl
-crlf-not b (c ∷ s) e = rw e
+crlf_not b [] e = refl
+crlf_not b (c ∷ s) e = rw e
 
 -- ---- the first line
 
@@ -65,7 +65,7 @@ cut b (c ∷ s) = go (cut c s) (crlf (b ∷ c ∷ s)) refl
         record {
           first = record { bytes = b ∷ C.first.bytes; ended = C.first.ended };
           others = C.others;
-          whole = lines-on b (c ∷ s) e ∙ ap (onto b) C.whole;
+          whole = lines_on b (c ∷ s) e ∙ ap (onto b) C.whole;
           front = ap (λ (l : List ℕ). b ∷ l) C.front;
           after = ap (λ (k : ℕ). lines (drop k (b ∷ c ∷ s))) m ∙ C.after;
           some = omega arith;

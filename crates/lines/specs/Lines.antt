@@ -5,22 +5,22 @@ use Rattle.laws.specs.Lists.{any_of}
 use Rattle.laws.specs.Tests.{is_byte}
 
 -- there is a byte 1A in the file (if not: refusal 5)
-abbrev pub hasMark : List ℕ → Bool
-hasMark file = any_of (is_byte 0x1a) file
+abbrev pub has_mark : List ℕ → Bool
+has_mark file = any_of (is_byte 0x1a) file
 
 -- the bytes after the first 1A
-unfoldable pub behindMark : List ℕ → List ℕ
-behindMark [] = []
-behindMark (b ∷ s) = cond (is_byte 0x1a b) s (behindMark s)
+unfoldable pub behind_mark : List ℕ → List ℕ
+behind_mark [] = []
+behind_mark (b ∷ s) = cond (is_byte 0x1a b) s (behind_mark s)
 
 -- 'any byte after the first 1A' (refusal 9)
-abbrev pub hasLeftovers : List ℕ → Bool
-hasLeftovers file = ltb 0 (length (behindMark file))
+abbrev pub has_leftovers : List ℕ → Bool
+has_leftovers file = ltb 0 (length (behind_mark file))
 
 -- the first byte is 1A (refusal 6)
-abbrev pub startsWithMark : List ℕ → Bool
-startsWithMark [] = false
-startsWithMark (b ∷ s) = is_byte 0x1a b
+abbrev pub starts_with_mark : List ℕ → Bool
+starts_with_mark [] = false
+starts_with_mark (b ∷ s) = is_byte 0x1a b
 
 -- the bytes before the first 1A, or all where there is none
 unfoldable pub body : List ℕ → List ℕ
@@ -54,10 +54,10 @@ abbrev pub taken : Line → ℕ
 taken l = length l.bytes + cond l.ended 2 0
 
 -- how many some lines take together
-unfoldable pub takenBy : List Line → ℕ
-takenBy [] = 0
-takenBy (l ∷ ls) = taken l + takenBy ls
+unfoldable pub taken_by : List Line → ℕ
+taken_by [] = 0
+taken_by (l ∷ ls) = taken l + taken_by ls
 
 -- 'the offset of the line's first byte' (A11): what the lines above it take
 unfoldable pub offset_of : List ℕ → ℕ → ℕ
-offset_of s n = takenBy (take (n - 1) (lines s))
+offset_of s n = taken_by (take (n - 1) (lines s))

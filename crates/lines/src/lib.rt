@@ -3,7 +3,7 @@
 // file and place: they give what `lines` of specs/Lines.antt says. It stands on crates `laws`, `text` and `words`.
 ghost use Rattle.std.specs.Prelude.{◌≡◌, ◌+◌, ◌-◌, ◌<◌, length, drop};
 ghost use Rattle.lines.specs.Lines.{crlf};
-ghost use Rattle.lines.specs.Reading.{restTo, after, line_at};
+ghost use Rattle.lines.specs.Reading.{rest_to, after, line_at};
 
 use words::{controls, has_high, odds, word};
 
@@ -19,7 +19,7 @@ pub struct Found {
 
 // A rest up to a place, with no CR LF after it.
 fn rest_to(end: usize, odd: bool) -> Found
-    ensures { result ≡ restTo end odd }
+    ensures { result ≡ rest_to end odd }
 {
     Found {
         end,

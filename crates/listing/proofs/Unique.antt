@@ -11,23 +11,23 @@ use Rattle.listing.specs.declared.checking.Checked.{Checked}
 use Rattle.listing.specs.declared.checking.Checked.TheVariants.{Total, Refused}
 use Rattle.listing.specs.declared.checking.Unchecked.{Unchecked}
 use Rattle.listing.specs.declared.checking.Unchecked.TheVariants.{BadCode, BadDay, TooLong, UnequalRooms, NoMark, Leftovers, StartsWithMark}
-use Rattle.listing.specs.Checking.{uncheckedNumber, checkedNumber, checkedOr, Checks, Totals}
+use Rattle.listing.specs.Checking.{unchecked_number, checked_number, checked_or, Checks, Totals}
 
 -- a refusal by its number
-abbrev pub refusalOf : ℕ → Unchecked
-refusalOf k = cond (eqb k 1) BadCode (cond (eqb k 2) BadDay (cond (eqb k 3) TooLong (cond (eqb k 4) UnequalRooms (cond (eqb k 5) NoMark (cond (eqb k 9) Leftovers StartsWithMark)))))
+abbrev pub refusal_of : ℕ → Unchecked
+refusal_of k = cond (eqb k 1) BadCode (cond (eqb k 2) BadDay (cond (eqb k 3) TooLong (cond (eqb k 4) UnequalRooms (cond (eqb k 5) NoMark (cond (eqb k 9) Leftovers StartsWithMark)))))
 
-pub refusal-told : (u : Unchecked) → refusalOf (uncheckedNumber u) ≡ u
-refusal-told BadCode = refl
-refusal-told BadDay = refl
-refusal-told TooLong = refl
-refusal-told UnequalRooms = refl
-refusal-told NoMark = refl
-refusal-told Leftovers = refl
-refusal-told StartsWithMark = refl
+pub refusal_told : (u : Unchecked) → refusal_of (unchecked_number u) ≡ u
+refusal_told BadCode = refl
+refusal_told BadDay = refl
+refusal_told TooLong = refl
+refusal_told UnequalRooms = refl
+refusal_told NoMark = refl
+refusal_told Leftovers = refl
+refusal_told StartsWithMark = refl
 
 -- no refusal has the number 0
-pub some_number : (u : Unchecked) → 1 ≤ uncheckedNumber u
+pub some_number : (u : Unchecked) → 1 ≤ unchecked_number u
 some_number BadCode = omega arith
 some_number BadDay = omega arith
 some_number TooLong = omega arith
@@ -38,17 +38,17 @@ some_number StartsWithMark = omega arith
 
 -- an answer by its number and its total
 abbrev answer_of : ℕ → ℕ → Checked
-answer_of k t = cond (eqb k 0) (Total t) (Refused (refusalOf k))
+answer_of k t = cond (eqb k 0) (Total t) (Refused (refusal_of k))
 
-told : (r : Checked) → answer_of (checkedNumber r) (checkedOr r 0) ≡ r
+told : (r : Checked) → answer_of (checked_number r) (checked_or r 0) ≡ r
 told (Total t) = refl
 told (Refused u) =
-    ap (λ (b : Bool). cond b (Total 0) (Refused (refusalOf (uncheckedNumber u)))) (ne_eqb (uncheckedNumber u) 0 (λ e. omega (arith, e, some_number u)))
-    ∙ ap Refused (refusal-told u)
+    ap (λ (b : Bool). cond b (Total 0) (Refused (refusal_of (unchecked_number u)))) (ne_eqb (unchecked_number u) 0 (λ e. omega (arith, e, some_number u)))
+    ∙ ap Refused (refusal_told u)
 
-pub check-unique : {file : List ℕ} {terms : Terms} {ls₀ rs₀ ps₀ : List ℕ} {r r' : Checked} {ls ls' rs rs' ps ps' : List ℕ} → Checks file terms ls₀ rs₀ ps₀ r ls rs ps
+pub check_unique : {file : List ℕ} {terms : Terms} {ls₀ rs₀ ps₀ : List ℕ} {r r' : Checked} {ls ls' rs rs' ps ps' : List ℕ} → Checks file terms ls₀ rs₀ ps₀ r ls rs ps
     → Checks file terms ls₀ rs₀ ps₀ r' ls' rs' ps' → (r ≡ r') × (ls ≡ ls') × (rs ≡ rs') × (ps ≡ ps')
-check-unique {r} {r'} C D = (
+check_unique {r} {r'} C D = (
   sym (told r) ∙ (λ i. answer_of ((C.number ∙ sym D.number) i) ((C.total 0 ∙ sym (D.total 0)) i)) ∙ told r',
   C.lines ∙ sym D.lines,
   C.rules ∙ sym D.rules,
@@ -56,5 +56,5 @@ check-unique {r} {r'} C D = (
 )
 
 -- .. with no slices lent
-pub totals-unique : {file : List ℕ} {terms : Terms} {r r' : Checked} → Totals file terms r → Totals file terms r' → r ≡ r'
-totals-unique {r} {r'} C D = sym (told r) ∙ (λ i. answer_of ((C.number ∙ sym D.number) i) ((C.total 0 ∙ sym (D.total 0)) i)) ∙ told r'
+pub totals_unique : {file : List ℕ} {terms : Terms} {r r' : Checked} → Totals file terms r → Totals file terms r' → r ≡ r'
+totals_unique {r} {r'} C D = sym (told r) ∙ (λ i. answer_of ((C.number ∙ sym D.number) i) ((C.total 0 ∙ sym (D.total 0)) i)) ∙ told r'

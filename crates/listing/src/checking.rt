@@ -1,8 +1,8 @@
 // The job at the counter: a file, the submitter's code and the accounting day are checked, and the first pairs of a line and a rule
 // broken there are written into two lent slices, and the offset of the line into a third.
 ghost use Rattle.std.specs.Prelude.{◌≡◌};
-ghost use Rattle.rules.specs.Terms.{isCode, isAccountingDay, input};
-ghost use Rattle.listing.specs.Checking.{areLevel, Checks, Totals, uncheckedNumber, checkedNumber, checkedOr};
+ghost use Rattle.rules.specs.Terms.{is_code, is_accounting_day, input};
+ghost use Rattle.listing.specs.Checking.{are_level, Checks, Totals, unchecked_number, checked_number, checked_or};
 
 // Checking's own refusals, which other jobs answer too.
 #[derive(Drop)]
@@ -24,20 +24,20 @@ pub enum Checked {
 }
 
 pub fn is_code(code: u32) -> bool
-    ensures { result ≡ isCode code }
+    ensures { result ≡ is_code code }
 {
     (1 <= code) & (code <= 9999)
 }
 
 pub fn is_accounting_day(day: u32) -> bool
-    ensures { result ≡ isAccountingDay day }
+    ensures { result ≡ is_accounting_day day }
 {
     let real = days::is_real(day);
     real & ((20000101 <= day) & (day <= 20991231))
 }
 
 fn are_level(m: usize, n: usize, k: usize) -> bool
-    ensures { result ≡ areLevel m n k }
+    ensures { result ≡ are_level m n k }
 {
     (m == n) & (m == k)
 }
@@ -90,7 +90,7 @@ pub fn total(file: &[u8], code: u32, day: u32) -> Checked
 
 // Document 01's number of a refusal.
 pub fn refusal_number(u: Unchecked) -> u32
-    ensures { result ≡ uncheckedNumber u }
+    ensures { result ≡ unchecked_number u }
 {
     match u {
         Unchecked::BadCode => 1,
@@ -105,7 +105,7 @@ pub fn refusal_number(u: Unchecked) -> u32
 
 // Document 01's number of an answer, 0 for a total.
 pub fn number_of(c: Checked) -> u32
-    ensures { result ≡ checkedNumber c }
+    ensures { result ≡ checked_number c }
 {
     match c {
         Checked::Total(_) => 0,
@@ -115,7 +115,7 @@ pub fn number_of(c: Checked) -> u32
 
 // The total of an answer, and what stood there where it is a refusal.
 pub fn total_or(c: Checked, old: u64) -> u64
-    ensures { result ≡ checkedOr c old }
+    ensures { result ≡ checked_or c old }
 {
     match c {
         Checked::Total(n) => n,

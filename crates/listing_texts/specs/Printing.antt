@@ -6,28 +6,28 @@ use Rattle.text.specs.Decimals.{decimal}
 use Rattle.rules.specs.Faults.{Fault}
 
 -- checked CCCC YYYYMMDD
-unfoldable pub headerText : ℕ → ℕ → List ℕ
-headerText code day = ascii "checked " ++ digits 4 code ++ ascii " " ++ digits 8 day ++ ascii "\n"
+unfoldable pub header_text : ℕ → ℕ → List ℕ
+header_text code day = ascii "checked " ++ digits 4 code ++ ascii " " ++ digits 8 day ++ ascii "\n"
 
 -- line N rule R
-unfoldable pub rowText : Fault → List ℕ
-rowText f = ascii "line " ++ decimal f.line ++ ascii " rule " ++ decimal f.rule ++ ascii "\n"
+unfoldable pub row_text : Fault → List ℕ
+row_text f = ascii "line " ++ decimal f.line ++ ascii " rule " ++ decimal f.rule ++ ascii "\n"
 
-unfoldable pub rowTexts : List Fault → List ℕ
-rowTexts [] = []
-rowTexts (f ∷ fs) = rowText f ++ rowTexts fs
+unfoldable pub row_texts : List Fault → List ℕ
+row_texts [] = []
+row_texts (f ∷ fs) = row_text f ++ row_texts fs
 
 -- faults T
-unfoldable pub totalText : ℕ → List ℕ
-totalText total = ascii "faults " ++ decimal total ++ ascii "\n"
+unfoldable pub total_text : ℕ → List ℕ
+total_text total = ascii "faults " ++ decimal total ++ ascii "\n"
 
 -- the listing of some rows, and of a total that may be more than they are
-unfoldable pub listingText : ℕ → ℕ → List Fault → ℕ → List ℕ
-listingText code day rows total = headerText code day ++ rowTexts rows ++ totalText total
+unfoldable pub listing_text : ℕ → ℕ → List Fault → ℕ → List ℕ
+listing_text code day rows total = header_text code day ++ row_texts rows ++ total_text total
 
 -- refused K
-unfoldable pub refusedText : ℕ → List ℕ
-refusedText k = ascii "refused " ++ decimal k ++ ascii "\n"
+unfoldable pub refused_text : ℕ → List ℕ
+refused_text k = ascii "refused " ++ decimal k ++ ascii "\n"
 
 -- lent bytes begin with a text of n bytes, and keep what they held after it.
 -- `counts` follows from the rest: with it a caller's `&out[..n]` asks for no proof.

@@ -1,6 +1,6 @@
 // The job line at the start of the program's input.
 ghost use Rattle.std.specs.Prelude.{◌≡◌};
-ghost use Rattle.listing_texts.specs.Job.{jobLineOf, job_of};
+ghost use Rattle.listing_texts.specs.Job.{job_line_of, job_of};
 
 use text::forms::{has_form, part};
 
@@ -12,7 +12,7 @@ pub enum Job {
 }
 
 fn read_line(line: &[u8]) -> Job
-    ensures { result ≡ jobLineOf line.now }
+    ensures { result ≡ job_line_of line.now }
 {
     if has_form(b"0000 00000000\n", line) {
         Job::Of(part(line, 0, 4), part(line, 5, 8))

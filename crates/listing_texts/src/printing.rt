@@ -4,7 +4,7 @@ ghost use Rattle.std.specs.Prelude.{◌≡◌, ◌+◌, ◌*◌, ◌≤◌, leng
 ghost use Rattle.text.specs.Strings.{Wrote};
 ghost use Rattle.rules.specs.Faults.{fault};
 ghost use Rattle.ledger.specs.Slices.{held};
-ghost use Rattle.listing_texts.specs.Printing.{headerText, rowText, totalText, listingText, refusedText, Begins};
+ghost use Rattle.listing_texts.specs.Printing.{header_text, row_text, total_text, listing_text, refused_text, Begins};
 
 use text::decimals::put_decimal;
 use text::forms::put_digits;
@@ -12,7 +12,7 @@ use text::strings::put;
 
 fn put_header(out: &mut [u8], at: usize, code: u32, day: u32) -> usize
     requires { at + 22 ≤ length out.old }
-    ensures text { Wrote out.old at (headerText code day) out.new result }
+    ensures text { Wrote out.old at (header_text code day) out.new result }
     ensures end { result ≡ at + 22 }
 {
     let mut next = put(out, at, b"checked ");
@@ -24,7 +24,7 @@ fn put_header(out: &mut [u8], at: usize, code: u32, day: u32) -> usize
 
 fn put_row(out: &mut [u8], at: usize, line: u32, rule: u32) -> usize
     requires { at + 52 ≤ length out.old }
-    ensures text { Wrote out.old at (rowText (fault line rule)) out.new result }
+    ensures text { Wrote out.old at (row_text (fault line rule)) out.new result }
     ensures end { result ≤ at + 52 }
 {
     let mut next = put(out, at, b"line ");
@@ -36,7 +36,7 @@ fn put_row(out: &mut [u8], at: usize, line: u32, rule: u32) -> usize
 
 fn put_total(out: &mut [u8], at: usize, total: u64) -> usize
     requires { at + 28 ≤ length out.old }
-    ensures { Wrote out.old at (totalText total) out.new result }
+    ensures { Wrote out.old at (total_text total) out.new result }
 {
     let mut next = put(out, at, b"faults ");
     next = put_decimal(out, next, total);
@@ -54,7 +54,7 @@ pub fn put_listing(
     total: u64,
 ) -> usize
     requires { (n ≤ length lines.now) × (n ≤ length rules.now) × (50 + 52 * n ≤ length out.old) }
-    ensures { Begins out.old (listingText code day (held n lines.now rules.now) total) out.new result }
+    ensures { Begins out.old (listing_text code day (held n lines.now rules.now) total) out.new result }
 {
     let mut at = put_header(out, 0, code, day);
     let mut i = 0;
@@ -68,7 +68,7 @@ pub fn put_listing(
 // The line of a refusal, from the first byte on.
 pub fn put_refused(out: &mut [u8], k: u32) -> usize
     requires { 29 ≤ length out.old }
-    ensures { Begins out.old (refusedText k) out.new result }
+    ensures { Begins out.old (refused_text k) out.new result }
 {
     let mut next = put(out, 0, b"refused ");
     next = put_decimal(out, next, k as u64);

@@ -22,54 +22,54 @@ pub drop_more : (l : List ℕ) (n : ℕ) → n < length l → drop n l ≡ get_o
 drop_more l n h = rw (add-one, drop-cons l n 0)
 
 -- ---- one turn, of lists
-span-alone : {xs ys ks : List ℕ} {x y : ℕ} {xs' ys' : List ℕ} → xs ≡ x ∷ xs' → ys ≡ y ∷ ys' → ks ≡ [] → weave (paired xs ys) ks ≡ record { from = x; to = y } ∷ weave (paired xs' ys') ks
+span_alone : {xs ys ks : List ℕ} {x y : ℕ} {xs' ys' : List ℕ} → xs ≡ x ∷ xs' → ys ≡ y ∷ ys' → ks ≡ [] → weave (paired xs ys) ks ≡ record { from = x; to = y } ∷ weave (paired xs' ys') ks
 unfolding weave after
-span-alone p q r = rw (p, q, r)
+span_alone p q r = rw (p, q, r)
 
-key-alone : {xs ks : List ℕ} {k : ℕ} {ks' : List ℕ} (ys : List ℕ) → ks ≡ k ∷ ks' → xs ≡ [] → weave (paired xs ys) ks ≡ one k ∷ weave (paired xs ys) ks'
+key_alone : {xs ks : List ℕ} {k : ℕ} {ks' : List ℕ} (ys : List ℕ) → ks ≡ k ∷ ks' → xs ≡ [] → weave (paired xs ys) ks ≡ one k ∷ weave (paired xs ys) ks'
 unfolding weave after
-key-alone ys p q = rw (p, q)
+key_alone ys p q = rw (p, q)
 
-key-first : {xs ys ks : List ℕ} {x y k : ℕ} {xs' ys' ks' : List ℕ} → xs ≡ x ∷ xs' → ys ≡ y ∷ ys' → ks ≡ k ∷ ks' → k < x → weave (paired xs ys) ks ≡ one k ∷ weave (paired xs ys) ks'
+key_first : {xs ys ks : List ℕ} {x y k : ℕ} {xs' ys' ks' : List ℕ} → xs ≡ x ∷ xs' → ys ≡ y ∷ ys' → ks ≡ k ∷ ks' → k < x → weave (paired xs ys) ks ≡ one k ∷ weave (paired xs ys) ks'
 unfolding weave after
-key-first {x = x} {k = k} p q r h = rw (p, q, r, lt-ltb k x h)
+key_first {x = x} {k = k} p q r h = rw (p, q, r, lt-ltb k x h)
 
-span-first : {xs ys ks : List ℕ} {x y k : ℕ} {xs' ys' ks' : List ℕ} → xs ≡ x ∷ xs' → ys ≡ y ∷ ys' → ks ≡ k ∷ ks' → x ≤ k → weave (paired xs ys) ks ≡ record { from = x; to = y } ∷ weave (paired xs' ys') ks
+span_first : {xs ys ks : List ℕ} {x y k : ℕ} {xs' ys' ks' : List ℕ} → xs ≡ x ∷ xs' → ys ≡ y ∷ ys' → ks ≡ k ∷ ks' → x ≤ k → weave (paired xs ys) ks ≡ record { from = x; to = y } ∷ weave (paired xs' ys') ks
 unfolding weave after
-span-first {x = x} {k = k} p q r h = rw (p, q, r, le-ltb k x h)
+span_first {x = x} {k = k} p q r h = rw (p, q, r, le-ltb k x h)
 
 module _ (keys starts ends : List ℕ) (i j : ℕ) (e : length starts ≡ length ends) where
-  pub takes-span-alone : length keys ≤ i → i ≤ length keys → j < length starts → Takes keys starts ends i j (record { from = get_or starts j 0; to = get_or ends j 0; keys = i; spans = j + 1 })
-  takes-span-alone h k l = record {
-    cut = span-alone (drop_more starts j l) (drop_more ends j (omega arith)) (drop_past keys i h);
+  pub takes_span_alone : length keys ≤ i → i ≤ length keys → j < length starts → Takes keys starts ends i j (record { from = get_or starts j 0; to = get_or ends j 0; keys = i; spans = j + 1 })
+  takes_span_alone h k l = record {
+    cut = span_alone (drop_more starts j l) (drop_more ends j (omega arith)) (drop_past keys i h);
     on = omega arith;
     keys_in = k;
-    spans-in = omega arith;
+    spans_in = omega arith;
   }
 
-  pub takes-key-alone : i < length keys → length starts ≤ j → j ≤ length starts → Takes keys starts ends i j (record { from = get_or keys i 0; to = get_or keys i 0; keys = i + 1; spans = j })
-  takes-key-alone h l k = record {
-    cut = key-alone (drop j ends) (drop_more keys i h) (drop_past starts j l);
+  pub takes_key_alone : i < length keys → length starts ≤ j → j ≤ length starts → Takes keys starts ends i j (record { from = get_or keys i 0; to = get_or keys i 0; keys = i + 1; spans = j })
+  takes_key_alone h l k = record {
+    cut = key_alone (drop j ends) (drop_more keys i h) (drop_past starts j l);
     on = omega arith;
     keys_in = omega arith;
-    spans-in = k;
+    spans_in = k;
   }
 
   module _ (h : i < length keys) (l : j < length starts) where
     pub takes_key : get_or keys i 0 < get_or starts j 0 → Takes keys starts ends i j (record { from = get_or keys i 0; to = get_or keys i 0; keys = i + 1; spans = j })
     takes_key k = record {
-      cut = key-first (drop_more starts j l) (drop_more ends j (omega arith)) (drop_more keys i h) k;
+      cut = key_first (drop_more starts j l) (drop_more ends j (omega arith)) (drop_more keys i h) k;
       on = omega arith;
       keys_in = omega arith;
-      spans-in = omega arith;
+      spans_in = omega arith;
     }
 
-    pub takes-span : get_or starts j 0 ≤ get_or keys i 0 → Takes keys starts ends i j (record { from = get_or starts j 0; to = get_or ends j 0; keys = i; spans = j + 1 })
-    takes-span k = record {
-      cut = span-first (drop_more starts j l) (drop_more ends j (omega arith)) (drop_more keys i h) k;
+    pub takes_span : get_or starts j 0 ≤ get_or keys i 0 → Takes keys starts ends i j (record { from = get_or starts j 0; to = get_or ends j 0; keys = i; spans = j + 1 })
+    takes_span k = record {
+      cut = span_first (drop_more starts j l) (drop_more ends j (omega arith)) (drop_more keys i h) k;
       on = omega arith;
       keys_in = omega arith;
-      spans-in = omega arith;
+      spans_in = omega arith;
     }
 
 -- ---- what is closed so far: a span is open, and the rest of the row is left
@@ -79,20 +79,20 @@ pub record So (all left : List Span) (from to count : ℕ) (xs ys : List ℕ) : 
   pub firsts : count ≤ length xs → froms (closed 0 0 all) ≡ take count xs ++ froms (closed from to left)
   pub lasts : count ≤ length ys → tos (closed 0 0 all) ≡ take count ys ++ tos (closed from to left)
 
-pub so-start : (all : List Span) (xs ys : List ℕ) → So all all 0 0 0 xs ys
-so-start all xs ys = record { hit = refl; many = omega arith; firsts = λ h. refl; lasts = λ h. refl }
+pub so_start : (all : List Span) (xs ys : List ℕ) → So all all 0 0 0 xs ys
+so_start all xs ys = record { hit = refl; many = omega arith; firsts = λ h. refl; lasts = λ h. refl }
 
 -- a number stored behind those stored before
 pub stored : (c : ℕ) (xs : List ℕ) (v : ℕ) (rest all : List ℕ) → c < length xs → all ≡ take c xs ++ (v ∷ rest) → all ≡ take (c + 1) (set xs c v) ++ rest
 stored c xs v rest all h f = f ∙ (rw (add-one, take-suc-set xs c v h, append_assoc))
 
-stored-in : (c : ℕ) (xs : List ℕ) (v : ℕ) (rest all : List ℕ) → (c ≤ length xs → all ≡ take c xs ++ (v ∷ rest)) → c + 1 ≤ length (set xs c v) → all ≡ take (c + 1) (set xs c v) ++ rest
-stored-in c xs v rest all f h = stored c xs v rest all (omega (arith, length-set xs c v)) (f (omega (arith, length-set xs c v)))
+stored_in : (c : ℕ) (xs : List ℕ) (v : ℕ) (rest all : List ℕ) → (c ≤ length xs → all ≡ take c xs ++ (v ∷ rest)) → c + 1 ≤ length (set xs c v) → all ≡ take (c + 1) (set xs c v) ++ rest
+stored_in c xs v rest all f h = stored c xs v rest all (omega (arith, length-set xs c v)) (f (omega (arith, length-set xs c v)))
 
 module _ {all l : List Span} {s : Span} {f t c : ℕ} {xs ys : List ℕ} (W : So all (s ∷ l) f t c xs ys) where
-  pub so-hit : s.from ≤ t → hits 0 all ≡ true
+  pub so_hit : s.from ≤ t → hits 0 all ≡ true
   unfolding hits
-  so-hit h = W.hit ∙ (rw (le-leb s.from t h))
+  so_hit h = W.hit ∙ (rw (le-leb s.from t h))
 
   no : t < s.from → hits 0 all ≡ hits s.to l
   unfolding hits
@@ -106,8 +106,8 @@ module _ {all l : List Span} {s : Span} {f t c : ℕ} {xs ys : List ℕ} (W : So
   unfolding closed
   clear e = rw (ne_eqb (t + 1) s.from e)
 
-  pub so-touch : t < s.from → s.from - 1 ≤ t → So all l f s.to c xs ys
-  so-touch h k =
+  pub so_touch : t < s.from → s.from - 1 ≤ t → So all l f s.to c xs ys
+  so_touch h k =
       let e = touching (omega arith) in
       record {
         hit = no h;
@@ -116,58 +116,58 @@ module _ {all l : List Span} {s : Span} {f t c : ℕ} {xs ys : List ℕ} (W : So
         lasts = λ q. W.lasts q ∙ ap (λ (x : List Span). take c ys ++ tos x) e;
       }
 
-  pub so-gap : t < s.from - 1 → So all l s.from s.to (c + 1) (set xs c f) (set ys c t)
-  so-gap h =
+  pub so_gap : t < s.from - 1 → So all l s.from s.to (c + 1) (set xs c f) (set ys c t)
+  so_gap h =
       let e = clear (λ q. omega arith) in
       record {
         hit = no (omega arith);
         many = W.many ∙ (rw e (omega arith));
-        firsts = stored-in c xs f (froms (closed s.from s.to l)) (froms (closed 0 0 all)) (λ q. W.firsts q ∙ ap (λ (x : List Span). take c xs ++ froms x) e);
-        lasts = stored-in c ys t (tos (closed s.from s.to l)) (tos (closed 0 0 all)) (λ q. W.lasts q ∙ ap (λ (x : List Span). take c ys ++ tos x) e);
+        firsts = stored_in c xs f (froms (closed s.from s.to l)) (froms (closed 0 0 all)) (λ q. W.firsts q ∙ ap (λ (x : List Span). take c xs ++ froms x) e);
+        lasts = stored_in c ys t (tos (closed s.from s.to l)) (tos (closed 0 0 all)) (λ q. W.lasts q ∙ ap (λ (x : List Span). take c ys ++ tos x) e);
       }
 
 module _ {all : List Span} {f t c : ℕ} {xs ys : List ℕ} (W : So all [] f t c xs ys) where
-  pub end-hit : hits 0 all ≡ false
+  pub end_hit : hits 0 all ≡ false
   unfolding hits
-  end-hit = W.hit
+  end_hit = W.hit
 
-  pub end-many : c + 1 ≡ length (closed 0 0 all)
+  pub end_many : c + 1 ≡ length (closed 0 0 all)
   unfolding closed
-  end-many = sym W.many
+  end_many = sym W.many
 
-  pub end-firsts : c + 1 ≤ length (set xs c f) → take (c + 1) (set xs c f) ≡ froms (closed 0 0 all)
+  pub end_firsts : c + 1 ≤ length (set xs c f) → take (c + 1) (set xs c f) ≡ froms (closed 0 0 all)
   unfolding closed
-  end-firsts h = sym (append-nil (take (c + 1) (set xs c f))) ∙ sym (stored-in c xs f [] (froms (closed 0 0 all)) W.firsts h)
+  end_firsts h = sym (append-nil (take (c + 1) (set xs c f))) ∙ sym (stored_in c xs f [] (froms (closed 0 0 all)) W.firsts h)
 
-  pub end-lasts : c + 1 ≤ length (set ys c t) → take (c + 1) (set ys c t) ≡ tos (closed 0 0 all)
+  pub end_lasts : c + 1 ≤ length (set ys c t) → take (c + 1) (set ys c t) ≡ tos (closed 0 0 all)
   unfolding closed
-  end-lasts h = sym (append-nil (take (c + 1) (set ys c t))) ∙ sym (stored-in c ys t [] (tos (closed 0 0 all)) W.lasts h)
+  end_lasts h = sym (append-nil (take (c + 1) (set ys c t))) ∙ sym (stored_in c ys t [] (tos (closed 0 0 all)) W.lasts h)
 
 -- ---- the loop, by how far it has come in both rows
 pub record Going (keys starts ends : List ℕ) (from to count i j left : ℕ) (xs ys : List ℕ) : Type 0 where
   pub so : So (row_of keys starts ends) (weave (paired (drop j starts) (drop j ends)) (drop i keys)) from to count xs ys
   pub keys_in : i ≤ length keys
-  pub spans-in : j ≤ length starts
+  pub spans_in : j ≤ length starts
   pub rest : left + (i + j) ≡ length keys + length starts
   pub few : count ≤ i + j
 
 module _ {keys starts ends : List ℕ} where
   pub going_start : (xs ys : List ℕ) → Going keys starts ends 0 0 0 0 0 (length keys + length starts) xs ys
-  going_start xs ys = record { so = so-start (row_of keys starts ends) xs ys; keys_in = omega arith; spans-in = omega arith; rest = omega arith; few = omega arith }
+  going_start xs ys = record { so = so_start (row_of keys starts ends) xs ys; keys_in = omega arith; spans_in = omega arith; rest = omega arith; few = omega arith }
 
   module _ {from to count i j left : ℕ} {xs ys : List ℕ} (G : Going keys starts ends from to count i j left xs ys) {t : Turn} (T : Takes keys starts ends i j t) where
     at : So (row_of keys starts ends) (record { from = t.from; to = t.to } ∷ weave (paired (drop t.spans starts) (drop t.spans ends)) (drop t.keys keys)) from to count xs ys
     at = subst (λ (l : List Span). So (row_of keys starts ends) l from to count xs ys) T.cut G.so
 
-    pub going-hit : t.from ≤ to → hits 0 (row_of keys starts ends) ≡ true
-    going-hit h = so-hit at h
+    pub going_hit : t.from ≤ to → hits 0 (row_of keys starts ends) ≡ true
+    going_hit h = so_hit at h
 
-    pub going-touch : 0 < left → to < t.from → t.from - 1 ≤ to → Going keys starts ends from t.to count t.keys t.spans (left - 1) xs ys
-    going-touch z h k = record { so = so-touch at h k; keys_in = T.keys_in; spans-in = T.spans-in; rest = omega (arith, T.on, G.rest); few = omega (arith, T.on, G.few) }
+    pub going_touch : 0 < left → to < t.from → t.from - 1 ≤ to → Going keys starts ends from t.to count t.keys t.spans (left - 1) xs ys
+    going_touch z h k = record { so = so_touch at h k; keys_in = T.keys_in; spans_in = T.spans_in; rest = omega (arith, T.on, G.rest); few = omega (arith, T.on, G.few) }
 
-    pub going-gap : 0 < left → to < t.from - 1 → {xs' ys' : List ℕ} → xs' ≡ set xs count from → ys' ≡ set ys count to
+    pub going_gap : 0 < left → to < t.from - 1 → {xs' ys' : List ℕ} → xs' ≡ set xs count from → ys' ≡ set ys count to
         → Going keys starts ends t.from t.to (count + 1) t.keys t.spans (left - 1) xs' ys'
-    going-gap z h p q = record { so = rw (p, q) (so-gap at h); keys_in = T.keys_in; spans-in = T.spans-in; rest = omega (arith, T.on, G.rest); few = omega (arith, T.on, G.few) }
+    going_gap z h p q = record { so = rw (p, q) (so_gap at h); keys_in = T.keys_in; spans_in = T.spans_in; rest = omega (arith, T.on, G.rest); few = omega (arith, T.on, G.few) }
 
   pub going_end : {from to count i j left : ℕ} {xs ys : List ℕ} → Going keys starts ends from to count i j left xs ys → left ≤ 0 → {xs' ys' : List ℕ} → xs' ≡ set xs count from → ys' ≡ set ys count to
       → Merges keys starts ends (record { clash = false; count = count + 1 }) xs' ys'
@@ -175,13 +175,13 @@ module _ {keys starts ends : List ℕ} where
   going_end {from} {to} {count} {i} {j} {left} {xs} {ys} G z p q =
       let W : So (row_of keys starts ends) [] from to count xs ys =
       subst (λ (l : List Span). So (row_of keys starts ends) l from to count xs ys) over G.so in
-      rw (p, q) (record { clash = sym (end-hit W); count = λ e. end-many W; firsts = λ e h. end-firsts W h; lasts = λ e h. end-lasts W h })
+      rw (p, q) (record { clash = sym (end_hit W); count = λ e. end_many W; firsts = λ e h. end_firsts W h; lasts = λ e h. end_lasts W h })
     where
       over : weave (paired (drop j starts) (drop j ends)) (drop i keys) ≡ []
-      over = rw (drop_past starts j (omega (arith, z, G.rest, G.keys_in)), drop_past keys i (omega (arith, z, G.rest, G.spans-in)))
+      over = rw (drop_past starts j (omega (arith, z, G.rest, G.keys_in)), drop_past keys i (omega (arith, z, G.rest, G.spans_in)))
 
-pub hit-merges : {keys starts ends xs ys : List ℕ} → hits 0 (row_of keys starts ends) ≡ true → Merges keys starts ends (record { clash = true; count = 0 }) xs ys
-hit-merges e = record { clash = sym e; count = λ q. impossible q; firsts = λ q h. impossible q; lasts = λ q h. impossible q }
+pub hit_merges : {keys starts ends xs ys : List ℕ} → hits 0 (row_of keys starts ends) ≡ true → Merges keys starts ends (record { clash = true; count = 0 }) xs ys
+hit_merges e = record { clash = sym e; count = λ q. impossible q; firsts = λ q h. impossible q; lasts = λ q h. impossible q }
   where
     impossible : {A : Type 0} → true ≡ false → A
     impossible q = let z : ◌≡◌ {A = ℕ} 0 1 = cc in absurd (omega arith)

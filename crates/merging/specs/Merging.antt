@@ -44,7 +44,7 @@ pub record Takes (keys starts ends : List ℕ) (i j : ℕ) (t : Turn) : Type 0 w
       ≡ record { from = t.from; to = t.to } ∷ weave (paired (drop t.spans starts) (drop t.spans ends)) (drop t.keys keys)
   pub on : t.keys + t.spans ≡ i + j + 1
   pub keys_in : t.keys ≤ length keys
-  pub spans-in : t.spans ≤ length starts
+  pub spans_in : t.spans ≤ length starts
 
 abbrev pub row_of : List ℕ → List ℕ → List ℕ → List Span
 row_of keys starts ends = weave (paired starts ends) keys

@@ -9,24 +9,24 @@ use native.Mathlib.Omega.{arith}
 use lib.ListN.{length, drop, get_or}
 use lib.Seq.{drop-cons}
 use borrow.Author.Tests.{le-leb, lt-leb}
-use Rattle.text.specs.Digits.{isDigit, valueAfter}
+use Rattle.text.specs.Digits.{is_digit, value_after}
 use Rattle.text.proofs.Reading.{grows, small}
 use Rattle.number_reader.specs.declared.Run.{Run}
 use Rattle.figures.specs.Layouts.{run}
-use Rattle.number_reader.specs.Numbers.{digitsFrom, number_at}
-use Rattle.figures.proofs.Runs.{run_past, run-other}
+use Rattle.number_reader.specs.Numbers.{digits_from, number_at}
+use Rattle.figures.proofs.Runs.{run_past, run_other}
 
-pub same-run : {a b c d : ℕ} → a ≡ b → c ≡ d → ◌≡◌ {A = Run} (record { value = a; end = c }) (record { value = b; end = d })
-same-run p q = rw (p, q)
+pub same_run : {a b c d : ℕ} → a ≡ b → c ≡ d → ◌≡◌ {A = Run} (record { value = a; end = c }) (record { value = b; end = d })
+same_run p q = rw (p, q)
 
 -- digits that are at their end
-pub stopped : (v i : ℕ) (s : List ℕ) (k : ℕ) → run isDigit k s ≡ 0 → digitsFrom k v i s ≡ record { value = v; end = i }
-unfolding valueAfter
-stopped v i s k e = rw e (same-run refl (omega arith))
+pub stopped : (v i : ℕ) (s : List ℕ) (k : ℕ) → run is_digit k s ≡ 0 → digits_from k v i s ≡ record { value = v; end = i }
+unfolding value_after
+stopped v i s k e = rw e (same_run refl (omega arith))
 
-module _ (t : List ℕ) (r : Run) (v i k : ℕ) (known : r ≡ digitsFrom k v i (drop i t)) where
-  pub at-end : length t ≤ i → record { value = v; end = i } ≡ r
-  at-end h = sym (known ∙ stopped v i (drop i t) k (run_past isDigit k t i h))
+module _ (t : List ℕ) (r : Run) (v i k : ℕ) (known : r ≡ digits_from k v i (drop i t)) where
+  pub at_end : length t ≤ i → record { value = v; end = i } ≡ r
+  at_end h = sym (known ∙ stopped v i (drop i t) k (run_past is_digit k t i h))
 
   pub at_most : k ≡ 0 → record { value = v; end = i } ≡ r
   unfolding run
@@ -34,25 +34,25 @@ module _ (t : List ℕ) (r : Run) (v i k : ℕ) (known : r ≡ digitsFrom k v i 
 
   module _ (h : i < length t) where
     pub low : get_or t i 0 < 48 → record { value = v; end = i } ≡ r
-    low a = sym (known ∙ stopped v i (drop i t) k (run-other isDigit k t i h (simp (lt-leb 48 (get_or t i 0) a))))
+    low a = sym (known ∙ stopped v i (drop i t) k (run_other is_digit k t i h (simp (lt-leb 48 (get_or t i 0) a))))
 
     pub high : 57 < get_or t i 0 → record { value = v; end = i } ≡ r
-    high a = sym (known ∙ stopped v i (drop i t) k (run-other isDigit k t i h (simp (le-leb 48 (get_or t i 0) (omega arith), lt-leb (get_or t i 0) 57 a))))
+    high a = sym (known ∙ stopped v i (drop i t) k (run_other is_digit k t i h (simp (le-leb 48 (get_or t i 0) (omega arith), lt-leb (get_or t i 0) 57 a))))
 
-digit-first : (b : ℕ) (s : List ℕ) (k v i : ℕ) → isDigit b ≡ true → digitsFrom (suc k) v i (b ∷ s) ≡ digitsFrom k (v * 10 + (b - 48)) (i + 1) s
-unfolding run valueAfter
-digit-first b s k v i e = rw e (same-run refl (omega arith))
+digit_first : (b : ℕ) (s : List ℕ) (k v i : ℕ) → is_digit b ≡ true → digits_from (suc k) v i (b ∷ s) ≡ digits_from k (v * 10 + (b - 48)) (i + 1) s
+unfolding run value_after
+digit_first b s k v i e = rw e (same_run refl (omega arith))
 
-pub more : (t : List ℕ) (r : Run) (v i k : ℕ) → r ≡ digitsFrom k v i (drop i t) → i < length t → (k ≡ 0 → ⊥) → 48 ≤ get_or t i 0 → get_or t i 0 ≤ 57
-    → r ≡ digitsFrom (k - 1) (v * 10 + (get_or t i 0 - 48)) (i + 1) (drop (i + 1) t)
+pub more : (t : List ℕ) (r : Run) (v i k : ℕ) → r ≡ digits_from k v i (drop i t) → i < length t → (k ≡ 0 → ⊥) → 48 ≤ get_or t i 0 → get_or t i 0 ≤ 57
+    → r ≡ digits_from (k - 1) (v * 10 + (get_or t i 0 - 48)) (i + 1) (drop (i + 1) t)
 more t r v i zero known h n a b = absurd (n refl)
 more t r v i (suc k) known h n a b =
     let e : suc k - 1 ≡ k = omega arith in
-    known ∙ rw (add-one i, drop-cons t i 0, e) (rw (← add-one i) (digit-first (get_or t i 0) (drop (i + 1) t) k v i (simp (le-leb 48 (get_or t i 0) a, le-leb (get_or t i 0) 57 b))))
+    known ∙ rw (add-one i, drop-cons t i 0, e) (rw (← add-one i) (digit_first (get_or t i 0) (drop (i + 1) t) k v i (simp (le-leb 48 (get_or t i 0) a, le-leb (get_or t i 0) 57 b))))
 
 -- what holds at the loop's head
 pub record Going (t : List ℕ) (at most v i left : ℕ) : Type 0 where
-  pub same : number_at most t at ≡ digitsFrom left v i (drop i t)
+  pub same : number_at most t at ≡ digits_from left v i (drop i t)
   pub past : at ≤ i
   pub inside : i ≤ length t
   pub fewer : left ≤ most

@@ -2,7 +2,7 @@
 // says; of two numbers that are an account's halves, what `figures` says of those (proofs/Halved.antt). Stands on the rows of parts of
 // `figures` and on the digits of `text`.
 ghost use Rattle.std.specs.Prelude.{◌≡◌, ◌≤◌, ◌<◌, ◌^◌, length};
-ghost use Rattle.number_reader.specs.Numbers.{number_at, twoOf};
+ghost use Rattle.number_reader.specs.Numbers.{number_at, two_of};
 
 use figures::parts::wide;
 
@@ -54,7 +54,7 @@ pub fn number_at(t: &[u8], at: usize, most: usize) -> Run
 // Two numbers with a space between at a text's start, of so many digits at least and at most.
 pub fn read_two(t: &[u8], lo1: usize, hi1: usize, lo2: usize, hi2: usize) -> Two
     requires { (hi1 ≤ 19) × (hi2 ≤ 19) }
-    ensures { result ≡ twoOf lo1 hi1 lo2 hi2 t.now }
+    ensures { result ≡ two_of lo1 hi1 lo2 hi2 t.now }
 {
     let a = number_at(t, 0, hi1);
     let mid = a.end;

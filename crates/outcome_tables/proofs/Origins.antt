@@ -11,8 +11,8 @@ use lib.Dec.{T, eqb, leb}
 use borrow.Author.Tests.{eqb-true, leb-true, ne_eqb}
 use Rattle.laws.proofs.Entries.{and_left, and_right}
 use Rattle.laws.proofs.Truth.{both_left, both_right}
-use Rattle.headings.specs.ItemTypes.{isPriority}
-use Rattle.outcome_tables.specs.Outcomes.{TypeRow, row, table, entries, outgoing, inClass, returned}
+use Rattle.headings.specs.ItemTypes.{is_priority}
+use Rattle.outcome_tables.specs.Outcomes.{TypeRow, row, table, entries, outgoing, in_class, returned}
 use Rattle.outcome_tables.proofs.Seven.{seven}
 
 -- the column in which a type stands, 0 for none
@@ -21,13 +21,13 @@ column e o [] = 0
 column e o (x ∷ xs) = cond (eqb x e) o (column e (suc o) xs)
 
 -- the first column in which it stands in some row
-abbrev outcomeOf : List TypeRow → ℕ → ℕ
-outcomeOf [] e = 0
-outcomeOf (row k es ∷ rs) e = cond (eqb (column e 1 es) 0) (outcomeOf rs e) (column e 1 es)
+abbrev outcome_of : List TypeRow → ℕ → ℕ
+outcome_of [] e = 0
+outcome_of (row k es ∷ rs) e = cond (eqb (column e 1 es) 0) (outcome_of rs e) (column e 1 es)
 
 -- the class of output numbers of an input type
 abbrev pub class : ℕ → ℕ
-class k = cond (eqb k 44) 3 (cond (isPriority k) 2 1)
+class k = cond (eqb k 44) 3 (cond (is_priority k) 2 1)
 
 -- the first row of a class in which it stands
 abbrev type_of : List TypeRow → ℕ → ℕ → ℕ
@@ -36,7 +36,7 @@ type_of (row k es ∷ rs) c e = cond (eqb (class k) c && not (eqb (column e 1 es
 
 abbrev traced : ℕ → ℕ → List ℕ → Bool
 traced o k es =
-    eqb (get_or es (o - 1) 0) 0 || (eqb (outcomeOf table (get_or es (o - 1) 0)) o
+    eqb (get_or es (o - 1) 0) 0 || (eqb (outcome_of table (get_or es (o - 1) 0)) o
     && (eqb (type_of table (class k) (get_or es (o - 1) 0)) k
     || (eqb k 21 && (eqb (type_of table (class k) (get_or es (o - 1) 0)) 01 && returned (get_or es (o - 1) 0)))))
 
@@ -63,16 +63,16 @@ read false true false true true false t z = absurd t
 read false true false true true true t z = (refl, inr (refl, refl, refl))
 
 module _ (k o : ℕ) (l : 1 ≤ o) (h : o ≤ 7) (some : outgoing k o ≡ 0 → ⊥) where
-  pub traces : (outcomeOf table (outgoing k o) ≡ o)
+  pub traces : (outcome_of table (outgoing k o) ≡ o)
       × ((type_of table (class k) (outgoing k o) ≡ k) ⊎ ((k ≡ 21) × (type_of table (class k) (outgoing k o) ≡ 01) × (returned (outgoing k o) ≡ true)))
-  unfolding outgoing isPriority
+  unfolding outgoing is_priority
   traces = go (read _ _ _ _ _ _ (at (traced o) table (seven (λ o. T (each (traced o) table)) tt tt tt tt tt tt tt o l h) k (seven (λ o. T (traced o k [])) tt tt tt tt tt tt tt o l h)) (ne_eqb _ 0 some))
     where
       e : ℕ
       e = get_or (entries table k) (o - 1) 0
 
-      go : (eqb (outcomeOf table e) o ≡ true) × ((eqb (type_of table (class k) e) k ≡ true) ⊎ ((eqb k 21 ≡ true) × (eqb (type_of table (class k) e) 01 ≡ true) × (returned e ≡ true)))
-          → (outcomeOf table e ≡ o) × ((type_of table (class k) e ≡ k) ⊎ ((k ≡ 21) × (type_of table (class k) e ≡ 01) × (returned e ≡ true)))
+      go : (eqb (outcome_of table e) o ≡ true) × ((eqb (type_of table (class k) e) k ≡ true) ⊎ ((eqb k 21 ≡ true) × (eqb (type_of table (class k) e) 01 ≡ true) × (returned e ≡ true)))
+          → (outcome_of table e ≡ o) × ((type_of table (class k) e ≡ k) ⊎ ((k ≡ 21) × (type_of table (class k) e ≡ 01) × (returned e ≡ true)))
       go (a, inl b) = (eqb-true _ _ a, inl (eqb-true _ _ b))
       go (a, inr b) = (eqb-true _ _ a, inr (eqb-true _ _ b.0, eqb-true _ _ b.1, b.2))
 
@@ -96,17 +96,17 @@ module _ (n l₁ g₁ l₂ g₂ l₃ g₃ : ℕ) where
   apart false false false false a b u v w = refl
 
 -- an output number is in one class only
-pub one_class : (k j n : ℕ) → inClass k n ≡ true → inClass j n ≡ true → class k ≡ class j
-unfolding inClass
-one_class k j n a b = apart n _ _ _ _ _ _ (eqb k 44) (isPriority k) (eqb j 44) (isPriority j) a b (omega arith) (omega arith) (omega arith)
+pub one_class : (k j n : ℕ) → in_class k n ≡ true → in_class j n ≡ true → class k ≡ class j
+unfolding in_class
+one_class k j n a b = apart n _ _ _ _ _ _ (eqb k 44) (is_priority k) (eqb j 44) (is_priority j) a b (omega arith) (omega arith) (omega arith)
 
 -- two cells with one outgoing type and one class: one outcome, and one input type but for 01 and 21 returned as 61 or 71
 module _ (k o j p : ℕ) (l : 1 ≤ o) (h : o ≤ 7) (m : 1 ≤ p) (g : p ≤ 7) (some : outgoing k o ≡ 0 → ⊥) (same : outgoing k o ≡ outgoing j p) (of : class k ≡ class j) where
-  pub one-origin : (o ≡ p) × ((k ≡ j) ⊎ (returned (outgoing k o) ≡ true) × (((k ≡ 01) × (j ≡ 21)) ⊎ ((k ≡ 21) × (j ≡ 01))))
-  one-origin =
+  pub one_origin : (o ≡ p) × ((k ≡ j) ⊎ (returned (outgoing k o) ≡ true) × (((k ≡ 01) × (j ≡ 21)) ⊎ ((k ≡ 21) × (j ≡ 01))))
+  one_origin =
       let a = traces k o l h some in
       let b = traces j p m g (λ z. some (same ∙ z)) in
-      (sym a.0 ∙ (λ i. outcomeOf table (same i)) ∙ b.0, go a.1 b.1)
+      (sym a.0 ∙ (λ i. outcome_of table (same i)) ∙ b.0, go a.1 b.1)
     where
       t : ℕ
       t = type_of table (class k) (outgoing k o)

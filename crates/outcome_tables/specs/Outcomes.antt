@@ -3,7 +3,7 @@
 use Rattle.std.specs.Prelude.{ℕ, ◌+◌, ◌-◌, ◌*◌, ◌/◌, ◌%◌, Bool, cond, ◌&&◌, List, [], ◌∷◌, get_or, leb, eqb}
 use Rattle.laws.specs.Tests.{among}
 use Rattle.headings.specs.declared.Code.{Code}
-use Rattle.headings.specs.ItemTypes.{isPriority}
+use Rattle.headings.specs.ItemTypes.{is_priority}
 use Rattle.outcome_tables.specs.declared.Codes.{Codes}
 
 -- a row: the input type, and the outgoing types for outcomes 1 to 7; 00 where document 01 has a dash. 96, 97 and 98 have no row:
@@ -44,23 +44,23 @@ packed v (e ∷ es) = packed (v * 256 + (e / 10 * 16 + e % 10)) es
 abbrev pub three : Code → Code → Code → Codes
 three first second third = record { first = first; second = second; third = third }
 
-abbrev pub noCode : Code
-noCode = record { 0 = 0 }
+abbrev pub no_code : Code
+no_code = record { 0 = 0 }
 
 -- 'from bilateral A B 0: outcome 1 keeps them, 6 and 7 give A A B'; for 2 to 5 the table has no entry, and nothing is asked
-abbrev pub bilateralCodes : Code → Code → List Codes
-bilateralCodes a b =
-    three a b noCode ∷
-    three a b noCode ∷
-    three a b noCode ∷
-    three a b noCode ∷
-    three a b noCode ∷
+abbrev pub bilateral_codes : Code → Code → List Codes
+bilateral_codes a b =
+    three a b no_code ∷
+    three a b no_code ∷
+    three a b no_code ∷
+    three a b no_code ∷
+    three a b no_code ∷
     three a a b ∷
     three a a b ∷ []
 
 -- 'From T A B: 3, 4 keep; 1, 2 give T B A; 5, 6, 7 give A T B'
-abbrev pub trilateralCodes : Code → Code → Code → List Codes
-trilateralCodes t a b =
+abbrev pub trilateral_codes : Code → Code → Code → List Codes
+trilateral_codes t a b =
     three t b a ∷
     three t b a ∷
     three t a b ∷
@@ -72,16 +72,16 @@ trilateralCodes t a b =
 -- the three codes for an outcome from 1 to 7, from those of a trilateral or a bilateral heading
 unfoldable pub codes : Bool → ℕ → Code → Code → Code → Codes
 codes trilateral outcome x y z =
-    get_or (cond trilateral (trilateralCodes x y z) (bilateralCodes x y)) (outcome - 1) (three noCode noCode noCode)
+    get_or (cond trilateral (trilateral_codes x y z) (bilateral_codes x y)) (outcome - 1) (three no_code no_code no_code)
 
 abbrev within : ℕ → ℕ → ℕ → Bool
 within least greatest n = leb least n && leb n greatest
 
 -- 'Output number classes, by input type: non-priority 1–5,000,000, priority except 44 5,000,001–9,000,000, 44 9,000,001–9,999,999'
-unfoldable pub inClass : ℕ → ℕ → Bool
-inClass kind n =
+unfoldable pub in_class : ℕ → ℕ → Bool
+in_class kind n =
     cond (eqb kind 44) (within 9000001 9999999 n)
-    (cond (isPriority kind) (within 5000001 9000000 n) (within 1 5000000 n))
+    (cond (is_priority kind) (within 5000001 9000000 n) (within 1 5000000 n))
 
 -- 'both were returned as 61 or both as 71'
 abbrev pub returned : ℕ → Bool

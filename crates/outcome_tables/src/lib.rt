@@ -2,7 +2,7 @@
 // of an output number. Promised: what specs/Outcomes.antt has for each, and that type and class tell the input type and the outcome but for
 // an 01 and a 21 returned (proofs/Origins.antt). Stands on the types of `headings`, and on `laws`.
 ghost use Rattle.std.specs.Prelude.{◌≡◌, ◌≤◌};
-ghost use Rattle.outcome_tables.specs.Outcomes.{table, entries, packed, outgoing, three, codes, inClass};
+ghost use Rattle.outcome_tables.specs.Outcomes.{table, entries, packed, outgoing, three, codes, in_class};
 
 use headings::item_types::is_priority;
 use headings::{Code, ItemNo};
@@ -78,7 +78,7 @@ pub fn arranged(trilateral: bool, outcome: u32, x: Code, y: Code, z: Code) -> Co
 
 // Whether an output number is in the class of an input type.
 pub fn in_class(kind: u32, number: ItemNo) -> bool
-    ensures { result ≡ inClass kind number.0 }
+    ensures { result ≡ in_class kind number.0 }
 {
     let n = number.0;
     if kind == 44 {

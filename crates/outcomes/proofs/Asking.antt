@@ -9,36 +9,36 @@ use Rattle.laws.specs.Refusals.{first}
 use Rattle.headings.specs.declared.ItemNo.{ItemNo}
 use Rattle.headings.specs.declared.Read.{Read}
 use Rattle.headings.specs.declared.Read.TheVariants.{Reads, Unreadable}
-use Rattle.headings.specs.Reading.{headingOf}
+use Rattle.headings.specs.Reading.{heading_of}
 use Rattle.outcomes.specs.declared.Told.{Told}
 use Rattle.outcomes.specs.declared.Derived.{Derived}
 use Rattle.turning.specs.Turning.{turned}
-use Rattle.outcomes.specs.Deriving.{numbered, tellRefusals, Tells, deriveRefusals, Derives}
+use Rattle.outcomes.specs.Deriving.{numbered, tell_refusals, Tells, derive_refusals, Derives}
 use Rattle.outcomes.specs.Asking.{Foretold, Together}
 use Rattle.outcomes.proofs.Granted.{granted}
 use Rattle.turning.proofs.Steps.{some}
 use Rattle.outcomes.proofs.Joined.{joins}
 use Rattle.outcomes.proofs.Telling.{goes}
-use Rattle.outcomes.proofs.Sound.{derived-reads}
-use Rattle.outcomes.proofs.Unique.{tell-unique}
+use Rattle.outcomes.proofs.Sound.{derived_reads}
+use Rattle.outcomes.proofs.Unique.{tell_unique}
 
 module _ (s : List ℕ) (o p : ℕ) (n : ItemNo) (t₀ : List ℕ) (r : Told) (d : Derived) (t : List ℕ) (T : Tells s o p r) (D : Derives s o p n t₀ d t) where
-  foretold : first (deriveRefusals s o p n (length t₀)) ≡ 0 → Foretold r t
-  unfolding deriveRefusals tellRefusals
-  foretold z = go (headingOf s) refl
+  foretold : first (derive_refusals s o p n (length t₀)) ≡ 0 → Foretold r t
+  unfolding derive_refusals tell_refusals
+  foretold z = go (heading_of s) refl
     where
-      go : (x : Read) → headingOf s ≡ x → Foretold r t
+      go : (x : Read) → heading_of s ≡ x → Foretold r t
       go Unreadable e = absurd (let f : 11 ≡ 0 = rw e at z in omega (arith, f))
       go (Reads h) e =
           let g = granted s o p n (length t₀) h e z in
           record {
             heading = numbered (turned h o) n;
-            reads = ap (λ (x : List ℕ). headingOf (take 54 x)) D.target ∙ derived-reads s o p n t₀ h e z;
-            told = tell-unique T (goes s o p h e (turned h o) (some h o p g.open-to g.outcome g.standing g.entry) refl);
+            reads = ap (λ (x : List ℕ). heading_of (take 54 x)) D.target ∙ derived_reads s o p n t₀ h e z;
+            told = tell_unique T (goes s o p h e (turned h o) (some h o p g.open_to g.outcome g.standing g.entry) refl);
           }
 
-  pub tell-derive : Together s n t₀ r d t
-  tell-derive = record {
+  pub tell_derive : Together s n t₀ r d t
+  tell_derive = record {
     refusal = rw T.number (D.number ∙ joins s o p n (length t₀));
     heading = λ z. foretold (sym D.number ∙ z);
   }

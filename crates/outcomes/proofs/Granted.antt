@@ -11,31 +11,31 @@ use Rattle.laws.proofs.Truth.{and_parts}
 use Rattle.headings.specs.declared.ItemNo.{ItemNo}
 use Rattle.headings.specs.declared.Heading.{Heading}
 use Rattle.headings.specs.declared.Read.TheVariants.{Reads}
-use Rattle.headings.specs.Reading.{headingOf}
-use Rattle.outcome_tables.specs.Outcomes.{inClass}
-use Rattle.turning.specs.Turning.{barredTo, isOutcome, isStanding, isMissing}
-use Rattle.outcomes.specs.Deriving.{tellRefusals, numberRefusals, deriveRefusals}
+use Rattle.headings.specs.Reading.{heading_of}
+use Rattle.outcome_tables.specs.Outcomes.{in_class}
+use Rattle.turning.specs.Turning.{barred_to, is_outcome, is_standing, is_missing}
+use Rattle.outcomes.specs.Deriving.{tell_refusals, number_refusals, derive_refusals}
 
 pub record Granted (h : Heading) (o p : ℕ) (n : ItemNo) : Type 0 where
-  pub open-to : barredTo p h ≡ false
-  pub outcome : isOutcome o ≡ true
-  pub standing : isStanding p ≡ true
-  pub entry : isMissing p h.kind o ≡ false
-  pub in-class : inClass h.kind n.0 ≡ true
+  pub open_to : barred_to p h ≡ false
+  pub outcome : is_outcome o ≡ true
+  pub standing : is_standing p ≡ true
+  pub entry : is_missing p h.kind o ≡ false
+  pub in_class_lem : in_class h.kind n.0 ≡ true
 
-none-holds : (a b c d e : Bool) → first ((12 if a) ∷ (13 if b) ∷ (14 if c) ∷ (15 if d) ∷ (16 if e) ∷ []) ≡ 0
+none_holds : (a b c d e : Bool) → first ((12 if a) ∷ (13 if b) ∷ (14 if c) ∷ (15 if d) ∷ (16 if e) ∷ []) ≡ 0
     → (a ≡ false) × (b ≡ false) × (c ≡ false) × (d ≡ false)
-none-holds true b c d e z = absurd (omega arith)
-none-holds false true c d e z = absurd (omega arith)
-none-holds false false true d e z = absurd (omega arith)
-none-holds false false false true e z = absurd (omega arith)
-none-holds false false false false true z = absurd (omega arith)
-none-holds false false false false false z = (refl, refl, refl, refl)
+none_holds true b c d e z = absurd (omega arith)
+none_holds false true c d e z = absurd (omega arith)
+none_holds false false true d e z = absurd (omega arith)
+none_holds false false false true e z = absurd (omega arith)
+none_holds false false false false true z = absurd (omega arith)
+none_holds false false false false false z = (refl, refl, refl, refl)
 
-pub granted : (s : List ℕ) (o p : ℕ) (n : ItemNo) (room : ℕ) (h : Heading) → headingOf s ≡ Reads h → first (deriveRefusals s o p n room) ≡ 0
+pub granted : (s : List ℕ) (o p : ℕ) (n : ItemNo) (room : ℕ) (h : Heading) → heading_of s ≡ Reads h → first (derive_refusals s o p n room) ≡ 0
     → Granted h o p n
-unfolding tellRefusals numberRefusals deriveRefusals
+unfolding tell_refusals number_refusals derive_refusals
 granted s o p n room h r z =
-    let a = none-holds (barredTo p h) (not (isOutcome o && isStanding p)) (isMissing p h.kind o) (not (inClass h.kind n.0)) (ltb room 54) (rw r at z) in
-    let b = and_parts (isOutcome o) (isStanding p) (not-false _ a.1) in
-    record { open-to = a.0; outcome = b.0; standing = b.1; entry = a.2; in-class = not-false _ a.3 }
+    let a = none_holds (barred_to p h) (not (is_outcome o && is_standing p)) (is_missing p h.kind o) (not (in_class h.kind n.0)) (ltb room 54) (rw r at z) in
+    let b = and_parts (is_outcome o) (is_standing p) (not-false _ a.1) in
+    record { open_to = a.0; outcome = b.0; standing = b.1; entry = a.2; in_class_lem = not-false _ a.3 }

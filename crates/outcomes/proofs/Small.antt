@@ -7,9 +7,9 @@ use lib.ListN.{get_or}
 use lib.Dec.{ltb}
 use borrow.Author.Tests.{lt-ltb, ltb-true}
 use Rattle.laws.proofs.Every.{each_holds}
-use Rattle.text.specs.Forms.{numbersFit}
+use Rattle.text.specs.Forms.{numbers_fit}
 use Rattle.headings.specs.declared.Heading.{Heading}
-use Rattle.heading_writer.specs.Writing.{fitsHeading}
+use Rattle.heading_writer.specs.Writing.{fits_heading}
 
 pub record Small (h : Heading) : Type 0 where
   pub kind : h.kind < 100
@@ -25,11 +25,11 @@ tests h =
     ltb h.kind 100 ∷ ltb h.day 100000000 ∷ ltb h.first.0 10000000 ∷ ltb h.number.0 10000000 ∷ ltb h.second.0 10000000
     ∷ ltb h.output.0 10000000 ∷ ltb h.third.0 10000000 ∷ []
 
-holds : (h : Heading) → fitsHeading h ≡ true → (k : ℕ) → get_or (tests h) k true ≡ true
-unfolding fitsHeading numbersFit
+holds : (h : Heading) → fits_heading h ≡ true → (k : ℕ) → get_or (tests h) k true ≡ true
+unfolding fits_heading numbers_fit
 holds h e k = each_holds (tests h) e k
 
-pub small : (h : Heading) → fitsHeading h ≡ true → Small h
+pub small : (h : Heading) → fits_heading h ≡ true → Small h
 small h e = record {
   kind = ltb-true h.kind 100 (holds h e 0);
   day = ltb-true h.day 100000000 (holds h e 1);
@@ -40,7 +40,7 @@ small h e = record {
   third = ltb-true h.third.0 10000000 (holds h e 6);
 }
 
-pub fits-small : (h : Heading) → Small h → fitsHeading h ≡ true
-unfolding fitsHeading numbersFit
-fits-small h w =
+pub fits_small : (h : Heading) → Small h → fits_heading h ≡ true
+unfolding fits_heading numbers_fit
+fits_small h w =
     rw (lt-ltb h.kind 100 w.kind, lt-ltb h.day 100000000 w.day, lt-ltb h.first.0 10000000 w.first, lt-ltb h.number.0 10000000 w.number, lt-ltb h.second.0 10000000 w.second, lt-ltb h.output.0 10000000 w.output, lt-ltb h.third.0 10000000 w.third)

@@ -10,42 +10,42 @@ use Rattle.outcomes.specs.declared.Told.{Told}
 use Rattle.outcomes.specs.declared.Told.TheVariants as telling
 use Rattle.outcomes.specs.declared.Derived.{Derived}
 use Rattle.outcomes.specs.declared.Derived.TheVariants as derived
-use Rattle.outcomes.specs.Deriving.{toldNumber, toldKind, toldRecipient, Tells, derivedNumber, Derives}
+use Rattle.outcomes.specs.Deriving.{told_number, told_kind, told_recipient, Tells, derived_number, Derives}
 
 abbrev code_of : ℕ → Code
 code_of n = record { 0 = n }
 
 -- an answer by its number, its type and its code
-abbrev toldBy : ℕ → ℕ → ℕ → Told
-toldBy k kind code =
+abbrev told_by : ℕ → ℕ → ℕ → Told
+told_by k kind code =
     get_or (telling.Goes kind (code_of code) ∷ telling.NoHeading ∷ telling.NotInput ∷ telling.NoOutcome ∷ telling.NoEntry ∷ []) (k - 10) telling.NoHeading
 
-told_back : (r : Told) → toldBy (toldNumber r) (toldKind r 0) (toldRecipient r 0) ≡ r
+told_back : (r : Told) → told_by (told_number r) (told_kind r 0) (told_recipient r 0) ≡ r
 told_back (telling.Goes kind code) = refl
 told_back telling.NoHeading = refl
 told_back telling.NotInput = refl
 told_back telling.NoOutcome = refl
 told_back telling.NoEntry = refl
 
-pub tell-unique : {s : List ℕ} {o p : ℕ} {r r' : Told} → Tells s o p r → Tells s o p r' → r ≡ r'
-tell-unique {r} {r'} C D =
+pub tell_unique : {s : List ℕ} {o p : ℕ} {r r' : Told} → Tells s o p r → Tells s o p r' → r ≡ r'
+tell_unique {r} {r'} C D =
     sym (told_back r)
-    ∙ (λ i. toldBy ((C.number ∙ sym D.number) i) ((C.kind 0 ∙ sym (D.kind 0)) i) ((C.code 0 ∙ sym (D.code 0)) i))
+    ∙ (λ i. told_by ((C.number ∙ sym D.number) i) ((C.kind 0 ∙ sym (D.kind 0)) i) ((C.code 0 ∙ sym (D.code 0)) i))
     ∙ told_back r'
 
-abbrev derivedBy : ℕ → Derived
-derivedBy k =
+abbrev derived_by : ℕ → Derived
+derived_by k =
     get_or (derived.Done ∷ derived.NoHeading ∷ derived.NotInput ∷ derived.NoOutcome ∷ derived.NoEntry ∷ derived.NotInClass ∷ derived.TooShort ∷ []) (k - 10) derived.Done
 
-derived-back : (d : Derived) → d ≡ derivedBy (derivedNumber d)
-derived-back derived.Done = refl
-derived-back derived.NoHeading = refl
-derived-back derived.NotInput = refl
-derived-back derived.NoOutcome = refl
-derived-back derived.NoEntry = refl
-derived-back derived.NotInClass = refl
-derived-back derived.TooShort = refl
+derived_back : (d : Derived) → d ≡ derived_by (derived_number d)
+derived_back derived.Done = refl
+derived_back derived.NoHeading = refl
+derived_back derived.NotInput = refl
+derived_back derived.NoOutcome = refl
+derived_back derived.NoEntry = refl
+derived_back derived.NotInClass = refl
+derived_back derived.TooShort = refl
 
-pub derive-unique : {s : List ℕ} {o p : ℕ} {n : ItemNo} {t₀ : List ℕ} {d d' : Derived} {t t' : List ℕ} → Derives s o p n t₀ d t → Derives s o p n t₀ d' t'
+pub derive_unique : {s : List ℕ} {o p : ℕ} {n : ItemNo} {t₀ : List ℕ} {d d' : Derived} {t t' : List ℕ} → Derives s o p n t₀ d t → Derives s o p n t₀ d' t'
     → (d ≡ d') × (t ≡ t')
-derive-unique {d} {d'} C D = (same derivedNumber derivedBy derived-back d d' (C.number ∙ sym D.number), C.target ∙ sym D.target)
+derive_unique {d} {d'} C D = (same derived_number derived_by derived_back d d' (C.number ∙ sym D.number), C.target ∙ sym D.target)

@@ -4,20 +4,20 @@ use Rattle.laws.specs.Refusals.{first}
 use Rattle.headings.specs.declared.ItemNo.{ItemNo}
 use Rattle.headings.specs.declared.Heading.{Heading}
 use Rattle.headings.specs.declared.Read.TheVariants.{Reads}
-use Rattle.headings.specs.Reading.{headingOf}
+use Rattle.headings.specs.Reading.{heading_of}
 use Rattle.outcomes.specs.declared.Told.{Told}
 use Rattle.outcomes.specs.declared.Told.TheVariants.{Goes}
 use Rattle.outcomes.specs.declared.Derived.{Derived}
-use Rattle.outcomes.specs.Deriving.{toldNumber, numberRefusals, derivedNumber}
+use Rattle.outcomes.specs.Deriving.{told_number, number_refusals, derived_number}
 
 -- the heading in a target's first 54 bytes has the type and the recipient that were told
 pub record Foretold (r : Told) (t : List ℕ) : Type 0 where
   pub heading : Heading
-  pub reads : headingOf (take 54 t) ≡ Reads heading
+  pub reads : heading_of (take 54 t) ≡ Reads heading
   pub told : r ≡ Goes heading.kind heading.second
 
 -- r is told of a heading text s; then d is derived of it with the number n, and the target t₀ becomes t. What telling refuses deriving
 -- refuses with the same number; what it tells of deriving refuses by the number and the target alone, or writes
 pub record Together (s : List ℕ) (n : ItemNo) (t₀ : List ℕ) (r : Told) (d : Derived) (t : List ℕ) : Type 0 where
-  pub refusal : derivedNumber d ≡ cond (eqb (toldNumber r) 0) (first (numberRefusals s n (length t₀))) (toldNumber r)
-  pub heading : derivedNumber d ≡ 0 → Foretold r t
+  pub refusal : derived_number d ≡ cond (eqb (told_number r) 0) (first (number_refusals s n (length t₀))) (told_number r)
+  pub heading : derived_number d ≡ 0 → Foretold r t

@@ -6,7 +6,7 @@
 // and writing of `headings`, on the layouts of `text`, and on `laws`.
 ghost use Rattle.std.specs.Prelude.{◌≡◌, length};
 ghost use Rattle.laws.specs.Refusals.{first};
-ghost use Rattle.outcomes.specs.Deriving.{numbered, issueRefusals, issuedTarget, toldNumber, toldKind, toldRecipient, Tells, derivedNumber, Derives};
+ghost use Rattle.outcomes.specs.Deriving.{numbered, issue_refusals, issued_target, told_number, told_kind, told_recipient, Tells, derived_number, Derives};
 
 use heading_writer::put_heading;
 use headings::reading::read;
@@ -56,8 +56,8 @@ fn numbered(h: Heading, n: ItemNo) -> Heading
 
 // The second step: the output number, by the class of the input type, and the 54 bytes.
 pub fn issue(kind: u32, g: Heading, number: ItemNo, target: &mut [u8]) -> Derived
-    ensures answer { derivedNumber result ≡ first (issueRefusals kind number (length target.old)) }
-    ensures after { target.new ≡ issuedTarget kind g number target.old }
+    ensures answer { derived_number result ≡ first (issue_refusals kind number (length target.old)) }
+    ensures after { target.new ≡ issued_target kind g number target.old }
 {
     if !in_class(kind, number) {
         return Derived::NotInClass;
@@ -111,7 +111,7 @@ pub fn derive(
 
 // Document 01's number of an answer of telling, 0 where nothing is refused.
 pub fn told_number(t: Told) -> u32
-    ensures { result ≡ toldNumber t }
+    ensures { result ≡ told_number t }
 {
     match t {
         Told::Goes(_, _) => 0,
@@ -124,7 +124,7 @@ pub fn told_number(t: Told) -> u32
 
 // The outgoing type that was told, and what stood there where it is a refusal.
 pub fn told_kind(t: Told, old: u32) -> u32
-    ensures { result ≡ toldKind t old }
+    ensures { result ≡ told_kind t old }
 {
     match t {
         Told::Goes(kind, _) => kind,
@@ -137,7 +137,7 @@ pub fn told_kind(t: Told, old: u32) -> u32
 
 // The recipient's code that was told, and what stood there where it is a refusal.
 pub fn told_recipient(t: Told, old: u32) -> u32
-    ensures { result ≡ toldRecipient t old }
+    ensures { result ≡ told_recipient t old }
 {
     match t {
         Told::Goes(_, code) => code.0,
@@ -150,7 +150,7 @@ pub fn told_recipient(t: Told, old: u32) -> u32
 
 // Document 01's number of an answer of deriving, 0 where nothing is refused.
 pub fn number_of(d: Derived) -> u32
-    ensures { result ≡ derivedNumber d }
+    ensures { result ≡ derived_number d }
 {
     match d {
         Derived::Done => 0,

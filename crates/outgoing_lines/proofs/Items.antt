@@ -5,11 +5,11 @@ use mathlib.Core.List.{List, [], ◌∷◌}
 use Prim.Native.Nat.{ℕ, suc}
 use Rattle.rules.specs.Rows.{Sorted, heading, field, low}
 use Rattle.rules.specs.Tree.{tree}
-use Rattle.outgoing_lines.specs.Outgoing.{Orders, underived, anyUnderived, itemsUnderived}
+use Rattle.outgoing_lines.specs.Outgoing.{Orders, underived, any_underived, items_underived}
 
-pub any-items : (q : Orders) (k : ℕ) (xs : List Sorted) → anyUnderived q k xs ≡ itemsUnderived q k (tree xs).items
-unfolding anyUnderived itemsUnderived
-any-items q k [] = refl
-any-items q k (heading h ∷ xs) = ap (λ (t : Bool). underived q k h.bytes || t) (any-items q (suc k) xs)
-any-items q k (field x ∷ xs) = any-items q k xs
-any-items q k (low l ∷ xs) = any-items q k xs
+pub any_items : (q : Orders) (k : ℕ) (xs : List Sorted) → any_underived q k xs ≡ items_underived q k (tree xs).items
+unfolding any_underived items_underived
+any_items q k [] = refl
+any_items q k (heading h ∷ xs) = ap (λ (t : Bool). underived q k h.bytes || t) (any_items q (suc k) xs)
+any_items q k (field x ∷ xs) = any_items q k xs
+any_items q k (low l ∷ xs) = any_items q k xs

@@ -3,11 +3,11 @@ use Rattle.std.specs.Prelude.{ℕ, suc, ◌+◌, Bool, false, cond, not, ◌||�
 use Rattle.laws.specs.Ascii.{ascii}
 use Rattle.laws.specs.Refusals.{first}
 use Rattle.headings.specs.declared.ItemNo.{ItemNo}
-use Rattle.headings.specs.Reading.{headingOf}
-use Rattle.outcomes.specs.Deriving.{deriveRefusals, outgoingText}
+use Rattle.headings.specs.Reading.{heading_of}
+use Rattle.outcomes.specs.Deriving.{derive_refusals, outgoing_text}
 use Rattle.fields.specs.Kinds.{named}
 use Rattle.lines.specs.Lines.{lines}
-use Rattle.lines.specs.Texts.{rowsText}
+use Rattle.lines.specs.Texts.{rows_text}
 use Rattle.rules.specs.Rows.{FieldRow, Sorted, heading, field, low, rows_from}
 use Rattle.rules.specs.Tree.{Item}
 
@@ -18,64 +18,64 @@ pub record Orders : Type 0 where
   pub start : ℕ
 
 -- 'An outcome 8, here only .. derives as 6 does'
-abbrev pub asDerived : ℕ → ℕ
-asDerived o = cond (eqb o 8) 6 o
+abbrev pub as_derived : ℕ → ℕ
+as_derived o = cond (eqb o 8) 6 o
 
 -- 'the caller's own EC bytes or the caller's replacement bytes, as the outcome says': its own are what stands on its EC line behind the colon
-abbrev pub ecBytes : List ℕ → List ℕ → ℕ → List ℕ
-ecBytes own replacement o = cond (eqb o 8) replacement (drop 3 own)
+abbrev pub ec_bytes : List ℕ → List ℕ → ℕ → List ℕ
+ec_bytes own replacement o = cond (eqb o 8) replacement (drop 3 own)
 
 -- the EC line with them
-abbrev pub ecText : List ℕ → List ℕ → ℕ → List ℕ
-ecText own replacement o = ascii "EC:" ++ ecBytes own replacement o
+abbrev pub ec_text : List ℕ → List ℕ → ℕ → List ℕ
+ec_text own replacement o = ascii "EC:" ++ ec_bytes own replacement o
 
 -- 'ten nines'
 abbrev pub nines : List ℕ
 nines = ascii "9999999999"
 
 -- a field of an item with outcome o: 'an EC line's number becomes ten nines'
-unfoldable pub fieldAfter : ℕ → FieldRow → List ℕ
-fieldAfter o x =
-    cond (eqb x.ident (named "EC")) (ecText x.row.bytes nines o) x.row.bytes
+unfoldable pub field_after : ℕ → FieldRow → List ℕ
+field_after o x =
+    cond (eqb x.ident (named "EC")) (ec_text x.row.bytes nines o) x.row.bytes
 
 module _ (q : Orders) where
   -- of the item that k others stand above: its outcome, its sender's standing, its number ('Output numbers run unbroken from a given start')
-  abbrev pub outcomeAt : ℕ → ℕ
-  outcomeAt k = get_or q.outcomes k 0
+  abbrev pub outcome_at : ℕ → ℕ
+  outcome_at k = get_or q.outcomes k 0
 
-  abbrev pub standingAt : ℕ → ℕ
-  standingAt k = get_or q.standings k 0
+  abbrev pub standing_at : ℕ → ℕ
+  standing_at k = get_or q.standings k 0
 
   abbrev pub number_at : ℕ → ItemNo
   number_at k = record { 0 = q.start + k }
 
   -- 'an item is refused by deriving': from its heading's text
   unfoldable pub underived : ℕ → List ℕ → Bool
-  underived k text = not (eqb (first (deriveRefusals text (asDerived (outcomeAt k)) (standingAt k) (number_at k) 54)) 0)
+  underived k text = not (eqb (first (derive_refusals text (as_derived (outcome_at k)) (standing_at k) (number_at k) 54)) 0)
 
   -- its heading, derived
-  unfoldable pub headingAfter : ℕ → List ℕ → List ℕ
-  headingAfter k text = outgoingText (headingOf text) (asDerived (outcomeAt k)) (number_at k)
+  unfoldable pub heading_after : ℕ → List ℕ → List ℕ
+  heading_after k text = outgoing_text (heading_of text) (as_derived (outcome_at k)) (number_at k)
 
   -- the lines that go out for some lines: k headings stand above them, and o is the outcome of the item that they begin in
-  unfoldable pub textsFrom : ℕ → ℕ → List Sorted → List (List ℕ)
-  textsFrom k o [] = []
-  textsFrom k o (heading h ∷ xs) = headingAfter k h.bytes ∷ textsFrom (suc k) (outcomeAt k) xs
-  textsFrom k o (field x ∷ xs) = fieldAfter o x ∷ textsFrom k o xs
-  textsFrom k o (low l ∷ xs) = l.row.bytes ∷ textsFrom k o xs
+  unfoldable pub texts_from : ℕ → ℕ → List Sorted → List (List ℕ)
+  texts_from k o [] = []
+  texts_from k o (heading h ∷ xs) = heading_after k h.bytes ∷ texts_from (suc k) (outcome_at k) xs
+  texts_from k o (field x ∷ xs) = field_after o x ∷ texts_from k o xs
+  texts_from k o (low l ∷ xs) = l.row.bytes ∷ texts_from k o xs
 
   -- some heading among them is refused by deriving
-  unfoldable pub anyUnderived : ℕ → List Sorted → Bool
-  anyUnderived k [] = false
-  anyUnderived k (heading h ∷ xs) = underived k h.bytes || anyUnderived (suc k) xs
-  anyUnderived k (field x ∷ xs) = anyUnderived k xs
-  anyUnderived k (low l ∷ xs) = anyUnderived k xs
+  unfoldable pub any_underived : ℕ → List Sorted → Bool
+  any_underived k [] = false
+  any_underived k (heading h ∷ xs) = underived k h.bytes || any_underived (suc k) xs
+  any_underived k (field x ∷ xs) = any_underived k xs
+  any_underived k (low l ∷ xs) = any_underived k xs
 
   -- the same asked of items, the first of which has k others above it
-  unfoldable pub itemsUnderived : ℕ → List Item → Bool
-  itemsUnderived k [] = false
-  itemsUnderived k (i ∷ is) = underived k i.head.owner.bytes || itemsUnderived (suc k) is
+  unfoldable pub items_underived : ℕ → List Item → Bool
+  items_underived k [] = false
+  items_underived k (i ∷ is) = underived k i.head.owner.bytes || items_underived (suc k) is
 
   -- the lines that go out for a slice, each with its CR LF
-  abbrev pub itemsText : List ℕ → List ℕ
-  itemsText s = rowsText (textsFrom 0 0 (rows_from 1 (lines s)))
+  abbrev pub items_text : List ℕ → List ℕ
+  items_text s = rows_text (texts_from 0 0 (rows_from 1 (lines s)))

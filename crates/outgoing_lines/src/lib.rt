@@ -8,8 +8,8 @@ ghost use Rattle.std.specs.Prelude.{◌≡◌, false, List, ◌++◌, ℕ, ◌+�
 ghost use Rattle.lines.specs.Lines.{lines};
 ghost use Rattle.text.specs.Strings.{Wrote};
 ghost use Rattle.rules.specs.Rows.{rows_from};
-ghost use Rattle.outgoing_lines.specs.Outgoing.{Orders, asDerived, ecBytes, ecText, underived, anyUnderived, headingAfter, itemsText};
-ghost use Rattle.outgoing_lines.specs.Going.{outcomeIn, ending, countIn, fieldText, lineAfter, lineUnderived};
+ghost use Rattle.outgoing_lines.specs.Outgoing.{Orders, as_derived, ec_bytes, ec_text, underived, any_underived, heading_after, items_text};
+ghost use Rattle.outgoing_lines.specs.Going.{outcome_in, ending, count_in, field_text, line_after, line_underived};
 
 use fields::kinds;
 use fields::kinds::Kind;
@@ -28,7 +28,7 @@ pub fn at_or_zero(xs: &[u32], k: usize) -> u32
 
 // The caller's own EC bytes, what stands on an EC line behind its colon, or the caller's replacement bytes.
 pub fn ec_bytes<'a>(own: &'a [u8], replacement: &'a [u8], outcome: u32) -> &'a [u8]
-    ensures { result.now ≡ ecBytes own.now replacement.now outcome }
+    ensures { result.now ≡ ec_bytes own.now replacement.now outcome }
 {
     if outcome == 8 {
         return replacement;
@@ -42,7 +42,7 @@ pub fn ec_bytes<'a>(own: &'a [u8], replacement: &'a [u8], outcome: u32) -> &'a [
 
 // An 8 derives as 6 does.
 pub fn as_derived(o: u32) -> u32
-    ensures { result ≡ asDerived o }
+    ensures { result ≡ as_derived o }
 {
     if o == 8 {
         return 6;
@@ -52,7 +52,7 @@ pub fn as_derived(o: u32) -> u32
 
 // The outcome of the item that a line of a kind stands in: k headings stand above it, and o was the outcome up to here.
 fn outcome_in(kind: Kind, outcomes: &[u32], k: usize, o: u32) -> u32
-    ensures { result ≡ outcomeIn kind outcomes.now k o }
+    ensures { result ≡ outcome_in kind outcomes.now k o }
 {
     match kind {
         Kind::Heading => at_or_zero(outcomes, k),
@@ -65,7 +65,7 @@ fn outcome_in(kind: Kind, outcomes: &[u32], k: usize, o: u32) -> u32
 // How many headings stand up to a line of a kind, k of them above it.
 fn count_in(kind: Kind, k: usize) -> usize
     requires { k < 18446744073709551615 }
-    ensures { result ≡ countIn kind k }
+    ensures { result ≡ count_in kind k }
 {
     match kind {
         Kind::Heading => k + 1,
@@ -88,7 +88,7 @@ fn grown(size: u64, n: u64) -> u64
 
 // How many bytes the line that goes out for a heading's text takes, with its CR LF.
 fn heading_size(line: &[u8]) -> u64
-    ensures { (q : Orders) (k : ℕ) → min 4000000001 (length (headingAfter q k line.now ++ ending)) ≡ result }
+    ensures { (q : Orders) (k : ℕ) → min 4000000001 (length (heading_after q k line.now ++ ending)) ≡ result }
 {
     match headings::reading::read(line) {
         Read::Reads(h) => 56,
@@ -98,13 +98,13 @@ fn heading_size(line: &[u8]) -> u64
 
 // How many that of an EC line takes.
 fn ec_size<'a>(line: &'a [u8], replacement: &'a [u8], outcome: u32) -> u64
-    ensures { min 4000000001 (length (ecText line.now replacement.now outcome ++ ending)) ≡ result }
+    ensures { min 4000000001 (length (ec_text line.now replacement.now outcome ++ ending)) ≡ result }
 {
     grown(5, ec_bytes(line, replacement, outcome).len() as u64)
 }
 
 fn field_size(line: &[u8], ident: usize, outcome: u32) -> u64
-    ensures { min 4000000001 (length (fieldText outcome ident line.now ++ ending)) ≡ result }
+    ensures { min 4000000001 (length (field_text outcome ident line.now ++ ending)) ≡ result }
 {
     if ident == 516 {
         return ec_size(line, b"9999999999", outcome);
@@ -114,7 +114,7 @@ fn field_size(line: &[u8], ident: usize, outcome: u32) -> u64
 
 // How many that of a line of a kind takes, in an item with an outcome.
 fn line_size(kind: Kind, line: &[u8], outcome: u32) -> u64
-    ensures { (q : Orders) (k : ℕ) → min 4000000001 (length (lineAfter q kind k outcome line.now ++ ending)) ≡ result }
+    ensures { (q : Orders) (k : ℕ) → min 4000000001 (length (line_after q kind k outcome line.now ++ ending)) ≡ result }
 {
     match kind {
         Kind::Heading => heading_size(line),
@@ -126,7 +126,7 @@ fn line_size(kind: Kind, line: &[u8], outcome: u32) -> u64
 
 // How many bytes the lines take that go out for a slice, up to a byte over the limit.
 pub fn size_of(s: &[u8], outcomes: &[u32]) -> u64
-    ensures { (standings : List ℕ) (start : ℕ) → min 4000000001 (length (itemsText (record { outcomes = outcomes.entry.now; standings = standings; start = start }) s.now)) ≡ result }
+    ensures { (standings : List ℕ) (start : ℕ) → min 4000000001 (length (items_text (record { outcomes = outcomes.entry.now; standings = standings; start = start }) s.now)) ≡ result }
 {
     let mut size: u64 = 0;
     let mut k = 0;
@@ -160,16 +160,16 @@ fn put_ec<'a>(
     replacement: &'a [u8],
     outcome: u32,
 ) -> usize
-    requires { at + length (ecText line.now replacement.now outcome ++ ending) ≤ length out.old }
-    ensures { Wrote out.old at (ecText line.now replacement.now outcome ++ ending) out.new result }
+    requires { at + length (ec_text line.now replacement.now outcome ++ ending) ≤ length out.old }
+    ensures { Wrote out.old at (ec_text line.now replacement.now outcome ++ ending) out.new result }
 {
     let next = put(out, at, b"EC:");
     put_plain(out, next, ec_bytes(line, replacement, outcome))
 }
 
 fn put_field(out: &mut [u8], at: usize, line: &[u8], ident: usize, outcome: u32) -> usize
-    requires { at + length (fieldText outcome ident line.now ++ ending) ≤ length out.old }
-    ensures { Wrote out.old at (fieldText outcome ident line.now ++ ending) out.new result }
+    requires { at + length (field_text outcome ident line.now ++ ending) ≤ length out.old }
+    ensures { Wrote out.old at (field_text outcome ident line.now ++ ending) out.new result }
 {
     if ident == 516 {
         return put_ec(out, at, line, b"9999999999", outcome);
@@ -188,8 +188,8 @@ fn put_derived(
     k: usize,
 ) -> usize
     requires line_value { underived (record { outcomes = outcomes.now; standings = standings.now; start = start }) k line.now ≡ false }
-    requires ending_in_bounds { at + length (headingAfter (record { outcomes = outcomes.now; standings = standings.now; start = start }) k line.now ++ ending) ≤ length out.old }
-    ensures { Wrote out.old at (headingAfter (record { outcomes = outcomes.entry.now; standings = standings.now; start = start }) k line.now ++ ending) out.new result }
+    requires ending_in_bounds { at + length (heading_after (record { outcomes = outcomes.now; standings = standings.now; start = start }) k line.now ++ ending) ≤ length out.old }
+    ensures { Wrote out.old at (heading_after (record { outcomes = outcomes.entry.now; standings = standings.now; start = start }) k line.now ++ ending) out.new result }
 {
     let outcome = as_derived(at_or_zero(outcomes, k));
     let standing = at_or_zero(standings, k);
@@ -210,9 +210,9 @@ fn put_line(
     k: usize,
     outcome: u32,
 ) -> usize
-    requires line_value { lineUnderived (record { outcomes = outcomes.now; standings = standings.now; start = start }) kind k line.now ≡ false }
-    requires ending_in_bounds { at + length (lineAfter (record { outcomes = outcomes.now; standings = standings.now; start = start }) kind k outcome line.now ++ ending) ≤ length out.old }
-    ensures { Wrote out.old at (lineAfter (record { outcomes = outcomes.entry.now; standings = standings.now; start = start }) kind k outcome line.now ++ ending) out.new result }
+    requires line_value { line_underived (record { outcomes = outcomes.now; standings = standings.now; start = start }) kind k line.now ≡ false }
+    requires ending_in_bounds { at + length (line_after (record { outcomes = outcomes.now; standings = standings.now; start = start }) kind k outcome line.now ++ ending) ≤ length out.old }
+    ensures { Wrote out.old at (line_after (record { outcomes = outcomes.entry.now; standings = standings.now; start = start }) kind k outcome line.now ++ ending) out.new result }
 {
     match kind {
         Kind::Heading => put_derived(out, at, line, outcomes, standings, start, k),
@@ -224,9 +224,9 @@ fn put_line(
 
 // Writes the lines that go out for a slice from the start of the target on, and answers how many bytes they take.
 pub fn put_lines(out: &mut [u8], s: &[u8], outcomes: &[u32], standings: &[u32], start: u32) -> usize
-    requires s_value { anyUnderived (record { outcomes = outcomes.now; standings = standings.now; start = start }) 0 (rows_from 1 (lines s.now)) ≡ false }
-    requires s_in_bounds { length (itemsText (record { outcomes = outcomes.now; standings = standings.now; start = start }) s.now) ≤ length out.old }
-    ensures { Wrote out.old 0 (itemsText (record { outcomes = outcomes.entry.now; standings = standings.now; start = start }) s.now) out.new result }
+    requires s_value { any_underived (record { outcomes = outcomes.now; standings = standings.now; start = start }) 0 (rows_from 1 (lines s.now)) ≡ false }
+    requires s_in_bounds { length (items_text (record { outcomes = outcomes.now; standings = standings.now; start = start }) s.now) ≤ length out.old }
+    ensures { Wrote out.old 0 (items_text (record { outcomes = outcomes.entry.now; standings = standings.now; start = start }) s.now) out.new result }
 {
     let mut next = 0;
     let mut k = 0;

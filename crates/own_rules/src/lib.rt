@@ -4,11 +4,11 @@
 // Stands on `days`, on the types and rules of `headings`, on `rules`, and on the marks of `blocks`.
 ghost use Rattle.std.specs.Prelude.{◌≡◌, ◌-◌, ◌<◌, ◌^◌};
 ghost use Rattle.laws.specs.Tests.{among};
-ghost use Rattle.days.specs.Days.{dayOf};
+ghost use Rattle.days.specs.Days.{day_of};
 ghost use Rattle.rules.specs.Terms.{input};
-ghost use Rattle.rules.specs.FieldRules.{untilToday, untilThirty, rule9};
-ghost use Rattle.rules.specs.HeadingRules.{noKc};
-ghost use Rattle.own_rules.specs.Model.{basisOf, breaks8, breaks11, breaks12, breaks15, ownMarks};
+ghost use Rattle.rules.specs.FieldRules.{until_today, until_thirty, rule9};
+ghost use Rattle.rules.specs.HeadingRules.{no_kc};
+ghost use Rattle.own_rules.specs.Model.{basis_of, breaks8, breaks11, breaks12, breaks15, own_marks};
 
 use blocks::marks::{MARK_10, MARK_11, MARK_12, MARK_13, MARK_14, MARK_15, flag};
 use days::{day_number, day_of, is_real};
@@ -30,7 +30,7 @@ pub struct Basis {
 
 // The last real day that is eleven days before a number, or more.
 fn eleven_less(number: u32) -> u32
-    ensures { result ≡ dayOf (number - 11) }
+    ensures { result ≡ day_of (number - 11) }
 {
     if number < 11 {
         return 0;
@@ -40,7 +40,7 @@ fn eleven_less(number: u32) -> u32
 
 // The limits are reckoned once a file.
 pub fn basis_of(code: Code, day: u32) -> Basis
-    ensures { result ≡ basisOf (input code.0 day) }
+    ensures { result ≡ basis_of (input code.0 day) }
 {
     let number = day_number(day);
     let last = day_of(number);
@@ -55,7 +55,7 @@ pub fn basis_of(code: Code, day: u32) -> Basis
 }
 
 fn until_today(kind: u32) -> bool
-    ensures { result ≡ among kind untilToday }
+    ensures { result ≡ among kind until_today }
 {
     (kind == 1)
         | (kind == 11)
@@ -69,7 +69,7 @@ fn until_today(kind: u32) -> bool
 }
 
 fn until_thirty(kind: u32) -> bool
-    ensures { result ≡ among kind untilThirty }
+    ensures { result ≡ among kind until_thirty }
 {
     (kind == 32) | (kind == 33)
 }
@@ -110,7 +110,7 @@ fn breaks_twelve(basis: Basis, first: Code) -> bool
 }
 
 pub fn has_no_kc(kc: FirstKc) -> bool
-    ensures { result ≡ noKc kc }
+    ensures { result ≡ no_kc kc }
 {
     match kc {
         FirstKc::NoKc => true,
@@ -128,7 +128,7 @@ pub fn breaks_fifteen(kind: u32, kc: FirstKc) -> bool
 
 // The marks of rules 10 to 15.
 pub fn own_marks(basis: Basis, h: Heading, kc: FirstKc) -> u64
-    ensures { (result ≡ ownMarks basis h kc) × (result < 2 ^ 16) }
+    ensures { (result ≡ own_marks basis h kc) × (result < 2 ^ 16) }
 {
     flag(breaks_ten(h), MARK_10)
         + flag(breaks_eleven(basis, h.day), MARK_11)

@@ -14,7 +14,7 @@ use borrow.Author.Tests.{eq-eqb, ne_eqb, eqb-true, eqb-false, le-leb, lt-leb, le
 use Rattle.laws.specs.Tests.{among}
 use Rattle.laws.proofs.Truth.{both_left}
 use Rattle.fields.specs.Kinds.{place}
-use Rattle.participants.specs.Participants.{isFit, allCodes, distinct, isList}
+use Rattle.participants.specs.Participants.{is_fit, all_codes, distinct, is_list}
 use Rattle.participants.specs.Firsts.{Firsts}
 
 place_same : (x y : ℕ) (ys : List ℕ) → y ≡ x → place x (y ∷ ys) ≡ 0
@@ -33,8 +33,8 @@ pub record Seeking (codes : List ℕ) (code i : ℕ) : Type 0 where
   pub to : i ≤ length codes
   pub is : i + place code (drop i codes) ≡ place code codes
 
-pub seek-start : (codes : List ℕ) (code : ℕ) → Seeking codes code 0
-seek-start codes code = record { to = omega arith; is = omega arith }
+pub seek_start : (codes : List ℕ) (code : ℕ) → Seeking codes code 0
+seek_start codes code = record { to = omega arith; is = omega arith }
 
 module _ {codes : List ℕ} {code i : ℕ} (S : Seeking codes code i) where
   pub seek_hit : i < length codes → get_or codes i 0 ≡ code → i ≡ place code codes
@@ -42,28 +42,28 @@ module _ {codes : List ℕ} {code i : ℕ} (S : Seeking codes code i) where
       let h = ap (place code) (drop-cons codes i 0 l) ∙ place_same code (get_or codes i 0) (drop (suc i) codes) e in
       omega (arith, S.is, h)
 
-  pub seek-more : i < length codes → (get_or codes i 0 ≡ code → ⊥) → Seeking codes code (i + 1)
-  seek-more l n =
+  pub seek_more : i < length codes → (get_or codes i 0 ≡ code → ⊥) → Seeking codes code (i + 1)
+  seek_more l n =
       let h = ap (place code) (drop-cons codes i 0 l) ∙ place_other code (get_or codes i 0) (drop (suc i) codes) n in
       record { to = omega arith; is = rw add-one (omega (arith, S.is, h)) }
 
-  pub seek-end : length codes ≤ i → i ≡ place code codes
-  seek-end l =
+  pub seek_end : length codes ≤ i → i ≡ place code codes
+  seek_end l =
       let h = ap (place code) (drop_of_length-le codes l) ∙ place_none code in
       omega (arith, S.is, h)
 
 -- ---- the place at one look
 -- where a code stands, and at no place before, is its place
-first-is : (x : ℕ) (ys : List ℕ) (i : ℕ) → i < length ys → get_or ys i 0 ≡ x → ((j : ℕ) → j < length ys → get_or ys j 0 ≡ x → i ≤ j) → i ≡ place x ys
-first-is x [] i l e h = absurd (omega (arith, l))
-first-is x (y ∷ ys) zero l e h = sym (place_same x y ys e)
-first-is x (y ∷ ys) (suc i) l e h =
-    ap suc (first-is x ys i (omega (arith, l)) e (λ j k q. omega (arith, h (suc j) (omega (arith, k)) q)))
+first_is : (x : ℕ) (ys : List ℕ) (i : ℕ) → i < length ys → get_or ys i 0 ≡ x → ((j : ℕ) → j < length ys → get_or ys j 0 ≡ x → i ≤ j) → i ≡ place x ys
+first_is x [] i l e h = absurd (omega (arith, l))
+first_is x (y ∷ ys) zero l e h = sym (place_same x y ys e)
+first_is x (y ∷ ys) (suc i) l e h =
+    ap suc (first_is x ys i (omega (arith, l)) e (λ j k q. omega (arith, h (suc j) (omega (arith, k)) q)))
     ∙ sym (place_other x y ys (λ q. omega (arith, h 0 (omega arith) q)))
 
 pub look_hit : {codes firsts : List ℕ} {code i : ℕ} → Firsts codes firsts → i ≡ get_or firsts (code % 1024) 0 → i < length codes → get_or codes i 0 ≡ code → i ≡ place code codes
 look_hit {codes} {firsts} {code} {i} F e l h =
-    first-is code codes i l h (λ j k q. omega (arith, e, subst (λ (x : ℕ). get_or firsts (x % 1024) 0 ≤ j) q (F.first j k)))
+    first_is code codes i l h (λ j k q. omega (arith, e, subst (λ (x : ℕ). get_or firsts (x % 1024) 0 ≤ j) q (F.first j k)))
 
 -- the table, by what it says of the places from i on
 pub record Filling (codes firsts : List ℕ) (i : ℕ) : Type 0 where
@@ -104,53 +104,53 @@ fill_end F h = record { first = λ j l. F.first j (omega (arith, h)) l }
 pub record Fitting (codes : List ℕ) (i : ℕ) : Type 0 where
   pub to : i ≤ length codes
   pub few : length codes ≤ 64
-  pub is : (allCodes codes && distinct codes) ≡ (allCodes (drop i codes) && distinct (drop i codes))
+  pub is : (all_codes codes && distinct codes) ≡ (all_codes (drop i codes) && distinct (drop i codes))
 
-pub fit-start : (codes : List ℕ) → length codes ≤ 64 → Fitting codes 0
-fit-start codes h = record { to = omega arith; few = h; is = refl }
+pub fit_start : (codes : List ℕ) → length codes ≤ 64 → Fitting codes 0
+fit_start codes h = record { to = omega arith; few = h; is = refl }
 
 regroup : (a b c d : Bool) → ((a && b) && (c && d)) ≡ ((a && c) && (b && d))
 regroup a b c d = simp and_assoc (rw (← and_assoc b c, and_comm b c, and_assoc c b))
 
 module _ {codes : List ℕ} {i : ℕ} (F : Fitting codes i) (l : i < length codes) where
-  cut : (allCodes codes && distinct codes) ≡ (isFit (get_or codes i 0) (drop (suc i) codes) && (allCodes (drop (suc i) codes) && distinct (drop (suc i) codes)))
+  cut : (all_codes codes && distinct codes) ≡ (is_fit (get_or codes i 0) (drop (suc i) codes) && (all_codes (drop (suc i) codes) && distinct (drop (suc i) codes)))
   cut =
-      F.is ∙ ap (λ (cs : List ℕ). allCodes cs && distinct cs) (drop-cons codes i 0 l)
-      ∙ regroup (leb 1 (get_or codes i 0) && leb (get_or codes i 0) 9999) (allCodes (drop (suc i) codes)) (not (among (get_or codes i 0) (drop (suc i) codes))) (distinct (drop (suc i) codes))
+      F.is ∙ ap (λ (cs : List ℕ). all_codes cs && distinct cs) (drop-cons codes i 0 l)
+      ∙ regroup (leb 1 (get_or codes i 0) && leb (get_or codes i 0) 9999) (all_codes (drop (suc i) codes)) (not (among (get_or codes i 0) (drop (suc i) codes))) (distinct (drop (suc i) codes))
 
   -- the part of the slice that the code looks at
-  rest : isFit (get_or codes i 0) (take (length codes - (i + 1)) (drop (i + 1) codes)) ≡ isFit (get_or codes i 0) (drop (suc i) codes)
+  rest : is_fit (get_or codes i 0) (take (length codes - (i + 1)) (drop (i + 1) codes)) ≡ is_fit (get_or codes i 0) (drop (suc i) codes)
   rest =
-      ap (isFit (get_or codes i 0))
+      ap (is_fit (get_or codes i 0))
       (take_all (length codes - (i + 1)) (drop (i + 1) codes) (omega (arith, length-drop (i + 1) codes)) ∙ ap (λ (n : ℕ). drop n codes) (add-one i))
 
-  pub fit-more : not (isFit (get_or codes i 0) (take (length codes - (i + 1)) (drop (i + 1) codes))) ≡ false → Fitting codes (i + 1)
-  fit-more e = record {
+  pub fit_more : not (is_fit (get_or codes i 0) (take (length codes - (i + 1)) (drop (i + 1) codes))) ≡ false → Fitting codes (i + 1)
+  fit_more e = record {
     to = omega arith;
     few = F.few;
-    is = cut ∙ go (isFit (get_or codes i 0) (drop (suc i) codes)) (ap not (sym rest) ∙ e) ∙ sym (ap (λ (n : ℕ). allCodes (drop n codes) && distinct (drop n codes)) (add-one i));
+    is = cut ∙ go (is_fit (get_or codes i 0) (drop (suc i) codes)) (ap not (sym rest) ∙ e) ∙ sym (ap (λ (n : ℕ). all_codes (drop n codes) && distinct (drop n codes)) (add-one i));
   }
     where
-      go : (t : Bool) → not t ≡ false → (t && (allCodes (drop (suc i) codes) && distinct (drop (suc i) codes))) ≡ (allCodes (drop (suc i) codes) && distinct (drop (suc i) codes))
+      go : (t : Bool) → not t ≡ false → (t && (all_codes (drop (suc i) codes) && distinct (drop (suc i) codes))) ≡ (all_codes (drop (suc i) codes) && distinct (drop (suc i) codes))
       go true q = refl
       go false q = absurd (true≢false q)
 
-  pub fit-not : not (isFit (get_or codes i 0) (take (length codes - (i + 1)) (drop (i + 1) codes))) ≡ true → false ≡ isList codes
-  unfolding isList
-  fit-not e = rw (le-leb (length codes) 64 F.few) (sym (cut ∙ go (isFit (get_or codes i 0) (drop (suc i) codes)) (ap not (sym rest) ∙ e)))
+  pub fit_not : not (is_fit (get_or codes i 0) (take (length codes - (i + 1)) (drop (i + 1) codes))) ≡ true → false ≡ is_list codes
+  unfolding is_list
+  fit_not e = rw (le-leb (length codes) 64 F.few) (sym (cut ∙ go (is_fit (get_or codes i 0) (drop (suc i) codes)) (ap not (sym rest) ∙ e)))
     where
-      go : (t : Bool) → not t ≡ true → (t && (allCodes (drop (suc i) codes) && distinct (drop (suc i) codes))) ≡ false
+      go : (t : Bool) → not t ≡ true → (t && (all_codes (drop (suc i) codes) && distinct (drop (suc i) codes))) ≡ false
       go false q = refl
       go true q = absurd (false≢true q)
 
-pub fit-end : {codes : List ℕ} {i : ℕ} → Fitting codes i → length codes ≤ i → true ≡ isList codes
-unfolding isList
-fit-end {codes} {i} F l = rw (le-leb (length codes) 64 F.few) (sym (F.is ∙ ap (λ (cs : List ℕ). allCodes cs && distinct cs) (drop_of_length-le codes l)))
+pub fit_end : {codes : List ℕ} {i : ℕ} → Fitting codes i → length codes ≤ i → true ≡ is_list codes
+unfolding is_list
+fit_end {codes} {i} F l = rw (le-leb (length codes) 64 F.few) (sym (F.is ∙ ap (λ (cs : List ℕ). all_codes cs && distinct cs) (drop_of_length-le codes l)))
 
-pub too_many : (codes : List ℕ) → 64 < length codes → false ≡ isList codes
-unfolding isList
+pub too_many : (codes : List ℕ) → 64 < length codes → false ≡ is_list codes
+unfolding is_list
 too_many codes h = rw (lt-leb (length codes) 64 h)
 
-pub list-few : (codes : List ℕ) → isList codes ≡ true → length codes ≤ 64
-unfolding isList
-list-few codes e = leb-true (length codes) 64 (both_left (leb (length codes) 64) (allCodes codes && distinct codes) e)
+pub list_few : (codes : List ℕ) → is_list codes ≡ true → length codes ≤ 64
+unfolding is_list
+list_few codes e = leb-true (length codes) 64 (both_left (leb (length codes) 64) (all_codes codes && distinct codes) e)

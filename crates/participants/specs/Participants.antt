@@ -3,17 +3,17 @@ use Rattle.std.specs.Prelude.{ℕ, Bool, true, not, ◌&&◌, List, [], ◌∷�
 use Rattle.laws.specs.Tests.{among}
 
 -- a code that can stand before others in a list
-abbrev pub isFit : ℕ → List ℕ → Bool
-isFit c cs = (leb 1 c && leb c 9999) && not (among c cs)
+abbrev pub is_fit : ℕ → List ℕ → Bool
+is_fit c cs = (leb 1 c && leb c 9999) && not (among c cs)
 
-abbrev pub allCodes : List ℕ → Bool
-allCodes [] = true
-allCodes (c ∷ cs) = (leb 1 c && leb c 9999) && allCodes cs
+abbrev pub all_codes : List ℕ → Bool
+all_codes [] = true
+all_codes (c ∷ cs) = (leb 1 c && leb c 9999) && all_codes cs
 
 abbrev pub distinct : List ℕ → Bool
 distinct [] = true
 distinct (c ∷ cs) = not (among c cs) && distinct cs
 
 -- not '19: the list is over 64, repeats a code or has one outside 1 to 9999'
-unfoldable pub isList : List ℕ → Bool
-isList codes = leb (length codes) 64 && (allCodes codes && distinct codes)
+unfoldable pub is_list : List ℕ → Bool
+is_list codes = leb (length codes) 64 && (all_codes codes && distinct codes)

@@ -2,7 +2,7 @@
 // front or by a table made once, for every list. Stands on `fields` for places in a list, and on `laws`.
 ghost use Rattle.std.specs.Prelude.{◌≡◌, ◌≤◌, length};
 ghost use Rattle.fields.specs.Kinds.{place};
-ghost use Rattle.participants.specs.Participants.{isList, isFit};
+ghost use Rattle.participants.specs.Participants.{is_list, is_fit};
 ghost use Rattle.participants.specs.Firsts.{Firsts};
 
 // The place of a code in the list, and the list's length where it does not stand there.
@@ -56,7 +56,7 @@ pub fn place_by(codes: &[u32], firsts: &[u8; 1024], code: u32) -> usize
 
 // A code that can stand before others in a list.
 fn is_fit(code: u32, rest: &[u32]) -> bool
-    ensures { result ≡ isFit code rest.now }
+    ensures { result ≡ is_fit code rest.now }
 {
     let found = place_of(rest, code) < rest.len();
     ((1 <= code) & (code <= 9999)) & !found
@@ -64,7 +64,7 @@ fn is_fit(code: u32, rest: &[u32]) -> bool
 
 // Not over 64 codes, each from 1 to 9999, none twice.
 pub fn is_list(codes: &[u32]) -> bool
-    ensures { result ≡ isList codes.now }
+    ensures { result ≡ is_list codes.now }
 {
     if 64 < codes.len() {
         return false;

@@ -1,14 +1,14 @@
 // One forward pass over the lines of a body: no line is looked at again, and none ahead. A field is judged at its own line and entered
 // when the next heading or field comes, a heading when the next heading comes, and the first heading of a block when the block ends or the file does.
 // Promised by `enter_faults`, for every body of at most 10,000,000 bytes and three lent slices of equal length: the slices and the
-// total are those of `faultsIn` of `rules`, beside each fault the offset of its line. It is `start`, one `feed` of the whole body and
+// total are those of `faults_in` of `rules`, beside each fault the offset of its line. It is `start`, one `feed` of the whole body and
 // `finish`; fed one text after the other the pass goes on where it stood, and what it holds means the same (specs/Standing.antt).
 // It judges no rule: lines and fields are judged by `judging`, items by `closing`, and entered as they close by `shutting`. The list stands in `ledger`,
 // the cut in `lines`, the table of characters in `text`.
 ghost use Rattle.std.specs.Prelude.{◌≡◌, ◌+◌, ◌≤◌, length};
 ghost use Rattle.lines.specs.Lines.{offset_of};
 ghost use Rattle.rules.specs.Terms.{input};
-ghost use Rattle.rules.specs.Faults.{faultsIn};
+ghost use Rattle.rules.specs.Faults.{faults_in};
 ghost use Rattle.ledger.specs.Slices.{Listed};
 ghost use Rattle.pass.specs.Standing.{fresh, Bounded, Fed, Finished};
 
@@ -293,7 +293,7 @@ pub fn enter_faults(
     requires s_len_bound { length s.now ≤ 10000000 }
     requires lines_len { length lines.old ≡ length rules.old }
     requires lines_len_2 { length lines.old ≡ length offsets.old }
-    ensures { Listed (offset_of s.now) (faultsIn (input code day) s.now) lines.old rules.old offsets.old result lines.new rules.new offsets.new }
+    ensures { Listed (offset_of s.now) (faults_in (input code day) s.now) lines.old rules.old offsets.old result lines.new rules.new offsets.new }
 {
     let basis = own_rules::basis_of(Code(code), day);
     let mut stood = unseen();

@@ -1,6 +1,6 @@
 // Whether a state is one that can go on: any numbers may come from a caller, and what counts with them must not pass its bounds.
 ghost use Rattle.std.specs.Prelude.{◌≡◌, ◌+◌, ◌≤◌, leb};
-ghost use Rattle.portions.specs.Usable.{isSound, isOpen, boundedBy};
+ghost use Rattle.portions.specs.Usable.{is_sound, is_open, bounded_by};
 
 use crate::Portions;
 use going::Going;
@@ -8,7 +8,7 @@ use handing::ready;
 
 // What the pass counts with, after lines of `at` bytes.
 fn is_bounded(at: u32, n: u32, total: u64, marks: u64, tail: u32, top: u64) -> bool
-    ensures { result ≡ boundedBy at n total marks tail top }
+    ensures { result ≡ bounded_by at n total marks tail top }
 {
     let few = (tail <= n) & (top <= 18);
     (n <= at) & ((total <= 256 * (n as u64)) & ((marks < 2199023255552) & few))
@@ -23,7 +23,7 @@ fn has_come(at: u32, len: usize, came: u32) -> bool
 }
 
 fn is_sound(g: Going, lines: &[u32], rules: &[u32], offsets: &[u32]) -> bool
-    ensures { result ≡ isSound g lines.now rules.now offsets.now }
+    ensures { result ≡ is_sound g lines.now rules.now offsets.now }
 {
     let p = g.pass;
     let held = g.held;
@@ -36,7 +36,7 @@ fn is_sound(g: Going, lines: &[u32], rules: &[u32], offsets: &[u32]) -> bool
 
 // Open, and sound.
 pub fn is_open(p: Portions, lines: &[u32], rules: &[u32], offsets: &[u32]) -> bool
-    ensures { result ≡ isOpen p lines.now rules.now offsets.now }
+    ensures { result ≡ is_open p lines.now rules.now offsets.now }
 {
     let going = p.going;
     let sound = is_sound(going, lines, rules, offsets);

@@ -2,7 +2,7 @@
 -- which changes nothing'
 use Rattle.std.specs.Prelude.{ℕ, ◌≡◌, Bool, false, cond, List, ◌++◌}
 use Rattle.portions.specs.declared.Portions.{Portions}
-use Rattle.portions.specs.Usable.{isOpen}
+use Rattle.portions.specs.Usable.{is_open}
 use Rattle.portions.specs.States.{Holds}
 use Rattle.portions_adding.specs.declared.Added.{Added}
 
@@ -15,10 +15,10 @@ abbrev pub GoesOn : List ℕ → Portions → List ℕ → List ℕ → List ℕ
 GoesOn s p ls rs ps stood q ls' rs' ps' stood' =
     (code day : ℕ) (file : List ℕ) → Holds code day file p ls rs ps stood → Holds code day (file ++ s) q ls' rs' ps' stood'
 
-abbrev pub addingNumber : Bool → ℕ
-addingNumber taken = cond taken 0 18
+abbrev pub adding_number : Bool → ℕ
+adding_number taken = cond taken 0 18
 
 pub record Adds (s : List ℕ) (p : Portions) (ls rs ps stood : List ℕ) (r : Added) (ls' rs' ps' stood' : List ℕ) : Type 0 where
-  pub taken : r.taken ≡ isOpen p ls rs ps
-  pub kept : isOpen p ls rs ps ≡ false → (r.state ≡ p) × (ls' ≡ ls) × (rs' ≡ rs) × (ps' ≡ ps) × (stood' ≡ stood)
+  pub taken : r.taken ≡ is_open p ls rs ps
+  pub kept : is_open p ls rs ps ≡ false → (r.state ≡ p) × (ls' ≡ ls) × (rs' ≡ rs) × (ps' ≡ ps) × (stood' ≡ stood)
   pub goes_on : GoesOn s p ls rs ps stood r.state ls' rs' ps' stood'

@@ -1,8 +1,8 @@
 // A portion of a file comes. `add` is an open job: it takes all bytes and every state, and refuses one that is not open with 18, which then
 // stays as it is. Promised: what specs/Adding.antt says. Stands on `portions` for the state, and on `going` for the body in pieces.
 ghost use Rattle.std.specs.Prelude.{◌≡◌, true, false, ◌+◌, ◌≤◌, length};
-ghost use Rattle.portions.specs.Usable.{isOpen};
-ghost use Rattle.portions_adding.specs.Adding.{Adds, GoesOn, counting, addingNumber};
+ghost use Rattle.portions.specs.Usable.{is_open};
+ghost use Rattle.portions_adding.specs.Adding.{Adds, GoesOn, counting, adding_number};
 
 use headings::Code;
 use portions::{Portions, usable};
@@ -39,7 +39,7 @@ fn read_on(
     offsets: &mut [u32],
     stood: &mut [u32; 1296],
 ) -> Portions
-    requires offsets_value { isOpen p lines.old rules.old offsets.old ≡ true }
+    requires offsets_value { is_open p lines.old rules.old offsets.old ≡ true }
     requires seen_value { p.seen ≡ false }
     requires bytes_value { (bytes ≡ p.bytes + length s.now) × (bytes ≤ 10000000) }
     ensures { GoesOn s.now p lines.old rules.old offsets.old stood.old result lines.new rules.new offsets.new stood.new }
@@ -67,7 +67,7 @@ fn take_in(
     offsets: &mut [u32],
     stood: &mut [u32; 1296],
 ) -> Portions
-    requires { isOpen p lines.old rules.old offsets.old ≡ true }
+    requires { is_open p lines.old rules.old offsets.old ≡ true }
     ensures { GoesOn s.now p lines.old rules.old offsets.old stood.old result lines.new rules.new offsets.new stood.new }
 {
     let room = 10000001 - p.bytes as usize;
@@ -103,7 +103,7 @@ pub fn add(
 
 // The number of an answer, 0 where the portion was taken.
 pub fn number_of(taken: bool) -> u32
-    ensures { result ≡ addingNumber taken }
+    ensures { result ≡ adding_number taken }
 {
     if taken { 0 } else { 18 }
 }

@@ -11,77 +11,77 @@ use Rattle.laws.specs.Refusals.{◌if◌, first}
 use Rattle.rules.specs.Terms.{input}
 use Rattle.rules.specs.Faults.{faults}
 use Rattle.joining.specs.Portions.{concat}
-use Rattle.listing.specs.Checking.{checkRefusals, checkedNumber, checkedOr, Checks}
+use Rattle.listing.specs.Checking.{check_refusals, checked_number, checked_or, Checks}
 use Rattle.portions.specs.declared.Portions.{Portions}
 use Rattle.portions_opening.specs.declared.Opened.{Opened}
 use Rattle.portions_adding.specs.declared.Added.{Added}
 use Rattle.answering.specs.declared.Closing.{Closing}
 use Rattle.answering.specs.declared.Closing.TheVariants.{Done, Late}
 use Rattle.answering.specs.declared.Closed.{Closed}
-use Rattle.portions.specs.Usable.{isOpen}
+use Rattle.portions.specs.Usable.{is_open}
 use Rattle.portions.specs.States.{Rooms, Holds}
-use Rattle.portions_opening.specs.Opening.{openRefusals, openingNumber, Opens}
-use Rattle.portions_adding.specs.Adding.{addingNumber, Adds}
-use Rattle.answering.specs.Closing.{fileRefusals, closeRefusals, closingNumber, closingOr, checkedIn, Closes}
-use Rattle.portions.proofs.Bounds.{shut-shut}
+use Rattle.portions_opening.specs.Opening.{open_refusals, opening_number, Opens}
+use Rattle.portions_adding.specs.Adding.{adding_number, Adds}
+use Rattle.answering.specs.Closing.{file_refusals, close_refusals, closing_number, closing_or, checked_in, Closes}
+use Rattle.portions.proofs.Bounds.{shut_shut}
 use Rattle.going.proofs.Pieces.{Thens, held_all}
 use Rattle.stored.specs.Stored.{Puts}
-use Rattle.stored.proofs.Back.{state-shut}
+use Rattle.stored.proofs.Back.{state_shut}
 use Rattle.checking_face.specs.Face.{CheckedAt}
-use Rattle.portions_face.specs.Arriving.{Numbers, state_of, Lent, isOpenAt, HoldsAt, PortionsOpenedAt, PortionAddedAt, closedOf, PortionsClosedAt}
+use Rattle.portions_face.specs.Arriving.{Numbers, state_of, Lent, is_open_at, HoldsAt, PortionsOpenedAt, PortionAddedAt, closed_of, PortionsClosedAt}
 use Rattle.results.proofs.Stored.{stored}
 
 -- numbers that were kept
 abbrev pub Same : Numbers → Numbers → Type 0
 Same y x = (y.wide ≡ x.wide) × (y.length ≡ x.length) × (y.narrow ≡ x.narrow) × (y.frame ≡ x.frame) × (y.small ≡ x.small) × (y.text ≡ x.text)
 
-same-is : (x y : Numbers) → Same y x → y ≡ x
-same-is x y (a, b, c, d, e, f) = λ i. record { wide = a i; length = b i; narrow = c i; frame = d i; small = e i; text = f i }
+same_is : (x y : Numbers) → Same y x → y ≡ x
+same_is x y (a, b, c, d, e, f) = λ i. record { wide = a i; length = b i; narrow = c i; frame = d i; small = e i; text = f i }
 
 abbrev pub PutIn : Bool → Portions → Numbers → Numbers → Type 0
 PutIn done p x y = Puts done p x.wide x.length x.narrow x.frame x.small x.text y.wide y.length y.narrow y.frame y.small y.text
 
 -- ---- opening
 
-pub opened-at : {code day : ℕ} (x y : Numbers) {stood stood' : List ℕ} {o : Opened} {r : ℕ} → Opens code day stood o stood' → r ≡ openingNumber o.answer → PutIn (eqb r 0) o.state x y
+pub opened_at : {code day : ℕ} (x y : Numbers) {stood stood' : List ℕ} {o : Opened} {r : ℕ} → Opens code day stood o stood' → r ≡ opening_number o.answer → PutIn (eqb r 0) o.state x y
     → PortionsOpenedAt code day x stood r y stood'
-opened-at {code} {day} x y {stood} {stood'} {o} {r} O e P =
-    let n : r ≡ first (openRefusals code day) = e ∙ O.number in
+opened_at {code} {day} x y {stood} {stood'} {o} {r} O e P =
+    let n : r ≡ first (open_refusals code day) = e ∙ O.number in
     record {
       number = n;
       kept = λ f.
           let z : eqb r 0 ≡ false = ne_eqb r 0 f in
-          (same-is x y (P.kept z), O.stood-after ∙ rw (sym n, z));
+          (same_is x y (P.kept z), O.stood_after ∙ rw (sym n, z));
       holds = λ z ls rs ps rooms.
           subst (λ (p : Portions). Holds code day [] p ls rs ps stood') (sym (P.put (eq-eqb r 0 z))) (O.holds (sym n ∙ z) ls rs ps rooms);
     }
 
 -- ---- a portion
 
-pub added-at : {s : List ℕ} (a b : Lent) {r : Added} {k : ℕ} {q : Portions} → q ≡ state_of a.numbers → Adds s q a.lines a.rules a.offsets a.stood r b.lines b.rules b.offsets b.stood
-    → PutIn r.taken r.state a.numbers b.numbers → k ≡ addingNumber r.taken → PortionAddedAt s a k b
-added-at {s} a b {r} {k} {q} is Q P e =
+pub added_at : {s : List ℕ} (a b : Lent) {r : Added} {k : ℕ} {q : Portions} → q ≡ state_of a.numbers → Adds s q a.lines a.rules a.offsets a.stood r b.lines b.rules b.offsets b.stood
+    → PutIn r.taken r.state a.numbers b.numbers → k ≡ adding_number r.taken → PortionAddedAt s a k b
+added_at {s} a b {r} {k} {q} is Q P e =
     let A : Adds s (state_of a.numbers) a.lines a.rules a.offsets a.stood r b.lines b.rules b.offsets b.stood =
     subst (λ (p : Portions). Adds s p a.lines a.rules a.offsets a.stood r b.lines b.rules b.offsets b.stood) is Q in
     record {
-      number = e ∙ ap addingNumber A.taken;
+      number = e ∙ ap adding_number A.taken;
       kept = λ f. go A r.taken refl f;
       goes_on = λ code day file H.
           subst (λ (p : Portions). Holds code day (file ++ s) p b.lines b.rules b.offsets b.stood) (sym (P.put (A.taken ∙ H.usable))) (A.goes_on code day file H);
     }
   where
     go : Adds s (state_of a.numbers) a.lines a.rules a.offsets a.stood r b.lines b.rules b.offsets b.stood → (t : Bool) → r.taken ≡ t → (k ≡ 0 → ⊥) → b ≡ a
-    go A true q f = absurd (f (e ∙ ap addingNumber q))
+    go A true q f = absurd (f (e ∙ ap adding_number q))
     go A false q f =
         let K = A.kept (sym A.taken ∙ q) in
-        let N : b.numbers ≡ a.numbers = same-is a.numbers b.numbers (P.kept q) in
+        let N : b.numbers ≡ a.numbers = same_is a.numbers b.numbers (P.kept q) in
         λ i. record { numbers = N i; lines = K.1 i; rules = K.2 i; offsets = K.3 i; stood = K.4 i }
 
 -- ---- closing
 
 -- none of the file's own numbers is 18
-own-number : (p : Portions) → eqb (first (fileRefusals p)) 18 ≡ false
-own-number p = go (ltb 10000000 p.bytes) (not p.seen) (ltb (p.going.came + 1) p.bytes) (eqb p.going.came 0)
+own_number : (p : Portions) → eqb (first (file_refusals p)) 18 ≡ false
+own_number p = go (ltb 10000000 p.bytes) (not p.seen) (ltb (p.going.came + 1) p.bytes) (eqb p.going.came 0)
   where
     go : (a b c d : Bool) → eqb (first ((3 if a) ∷ (5 if b) ∷ (9 if c) ∷ (6 if d) ∷ [])) 18 ≡ false
     go true b c d = refl
@@ -91,45 +91,45 @@ own-number p = go (ltb 10000000 p.bytes) (not p.seen) (ltb (p.going.came + 1) p.
     go false false false false = refl
 
 -- an open state is answered as checking answers
-answered : (p : Portions) (ls rs ps : List ℕ) → isOpen p ls rs ps ≡ true → (q : Closing) → closingNumber q ≡ first (closeRefusals p ls rs ps)
-    → (closingNumber q ≡ checkedNumber (checkedIn q)) × ((old : ℕ) → closingOr q old ≡ checkedOr (checkedIn q) old)
+answered : (p : Portions) (ls rs ps : List ℕ) → is_open p ls rs ps ≡ true → (q : Closing) → closing_number q ≡ first (close_refusals p ls rs ps)
+    → (closing_number q ≡ checked_number (checked_in q)) × ((old : ℕ) → closing_or q old ≡ checked_or (checked_in q) old)
 answered p ls rs ps o (Done c) e = (refl, λ _. refl)
 answered p ls rs ps o Late e =
-    let n : 18 ≡ first (fileRefusals p) = e ∙ rw o in
-    absurd (true≢false (ap (λ (k : ℕ). eqb k 18) n ∙ own-number p))
+    let n : 18 ≡ first (file_refusals p) = e ∙ rw o in
+    absurd (true≢false (ap (λ (k : ℕ). eqb k 18) n ∙ own_number p))
 
 -- other numbers in the frame
 abbrev pub framed : Numbers → List ℕ → Numbers
 framed x f = record { wide = x.wide; length = x.length; narrow = x.narrow; frame = f; small = x.small; text = x.text }
 
-closed-frame : (a : Lent) {k : ℕ} {f : List ℕ} → k ≡ first (closeRefusals (state_of a.numbers) a.lines a.rules a.offsets) → f ≡ cond (not (eqb k 18)) (set a.numbers.frame 0 0) a.numbers.frame
-    → (o : Bool) → isOpenAt a ≡ o → framed a.numbers f ≡ cond o (closedOf a.numbers) a.numbers
-closed-frame a {k} number v true o =
-    let w : k ≡ first (fileRefusals (state_of a.numbers)) = number ∙ rw o in
-    let n : eqb k 18 ≡ false = ap (λ (j : ℕ). eqb j 18) w ∙ own-number (state_of a.numbers) in
+closed_frame : (a : Lent) {k : ℕ} {f : List ℕ} → k ≡ first (close_refusals (state_of a.numbers) a.lines a.rules a.offsets) → f ≡ cond (not (eqb k 18)) (set a.numbers.frame 0 0) a.numbers.frame
+    → (o : Bool) → is_open_at a ≡ o → framed a.numbers f ≡ cond o (closed_of a.numbers) a.numbers
+closed_frame a {k} number v true o =
+    let w : k ≡ first (file_refusals (state_of a.numbers)) = number ∙ rw o in
+    let n : eqb k 18 ≡ false = ap (λ (j : ℕ). eqb j 18) w ∙ own_number (state_of a.numbers) in
     ap (framed a.numbers) (v ∙ rw n)
-closed-frame a {k} number v false o =
+closed_frame a {k} number v false o =
     let w : k ≡ 18 = number ∙ rw o in
     let n : eqb k 18 ≡ true = eq-eqb k 18 w in
     ap (framed a.numbers) (v ∙ rw n)
 
 pub closed_at : (a : Lent) (before : ℕ) {os₀ qs₀ ts₀ os qs ts : List ℕ} {c : Closed} {k sum after : ℕ} {ls' rs' ps' stood' f : List ℕ} {q : Portions} → q ≡ state_of a.numbers
-    → Closes q a.lines a.rules a.offsets a.stood os₀ qs₀ ts₀ c ls' rs' ps' stood' os qs ts → k ≡ closingNumber c.answer → sum ≡ closingOr c.answer 0 → after ≡ cond (eqb k 0) sum before
+    → Closes q a.lines a.rules a.offsets a.stood os₀ qs₀ ts₀ c ls' rs' ps' stood' os qs ts → k ≡ closing_number c.answer → sum ≡ closing_or c.answer 0 → after ≡ cond (eqb k 0) sum before
     → f ≡ cond (not (eqb k 18)) (set a.numbers.frame 0 0) a.numbers.frame
     → PortionsClosedAt a os₀ qs₀ ts₀ before k (record { numbers = framed a.numbers f; lines = ls'; rules = rs'; offsets = ps'; stood = stood' }) os qs ts after
 closed_at a before {os₀} {qs₀} {ts₀} {os} {qs} {ts} {c} {k} {sum} {after} {ls'} {rs'} {ps'} {stood'} {f} {q} is D e t u v =
     let p : Portions = state_of a.numbers in
     let C : Closes p a.lines a.rules a.offsets a.stood os₀ qs₀ ts₀ c ls' rs' ps' stood' os qs ts =
     subst (λ (x : Portions). Closes x a.lines a.rules a.offsets a.stood os₀ qs₀ ts₀ c ls' rs' ps' stood' os qs ts) is D in
-    let number : k ≡ first (closeRefusals p a.lines a.rules a.offsets) = e ∙ C.number in
+    let number : k ≡ first (close_refusals p a.lines a.rules a.offsets) = e ∙ C.number in
     record {
       number = number;
-      numbers = closed-frame a number v (isOpenAt a) refl;
+      numbers = closed_frame a number v (is_open_at a) refl;
       kept = λ g. let K = C.kept (λ z. g (number ∙ z)) in (K.0, K.1, K.2, K.3, K.4, K.5, K.6, u ∙ rw (ne_eqb k 0 g));
       checks = λ code day file H rooms.
-          let K : Checks file (input code day) os₀ qs₀ ts₀ (checkedIn c.answer) os qs ts = C.checks code day file H rooms in
+          let K : Checks file (input code day) os₀ qs₀ ts₀ (checked_in c.answer) os qs ts = C.checks code day file H rooms in
           let A = answered p a.lines a.rules a.offsets H.usable c.answer C.number in
-          let n : k ≡ first (checkRefusals file (input code day) (length os₀) (length qs₀) (length ts₀)) = e ∙ A.0 ∙ K.number in
+          let n : k ≡ first (check_refusals file (input code day) (length os₀) (length qs₀) (length ts₀)) = e ∙ A.0 ∙ K.number in
           record {
             number = n;
             total = u ∙ stored (λ (x : ℕ). x) (length (faults (input code day) file)) 0 before n (t ∙ A.1 0 ∙ K.total 0);
@@ -148,16 +148,16 @@ pub record Then (s : List ℕ) (a b : Lent) : Type 0 where
 
 -- 'For each cutting of a file, after the closing call its pairs, total or refusal equal those of checking the whole with room for 256'
 -- (A5): opened, any portions added, closed
-pub cut-anyhow : {code day : ℕ} {x : Numbers} {stood : List ℕ} {ss : List (List ℕ)} {k : ℕ} {a b c : Lent} {os₀ qs₀ ts₀ os qs ts : List ℕ} {before after : ℕ}
+pub cut_anyhow : {code day : ℕ} {x : Numbers} {stood : List ℕ} {ss : List (List ℕ)} {k : ℕ} {a b c : Lent} {os₀ qs₀ ts₀ os qs ts : List ℕ} {before after : ℕ}
     → PortionsOpenedAt code day x stood 0 a.numbers a.stood → Rooms a.lines a.rules a.offsets → Thens Then ss a b → PortionsClosedAt b os₀ qs₀ ts₀ before k c os qs ts after → Rooms os₀ qs₀ ts₀
     → CheckedAt (concat ss) code day os₀ qs₀ ts₀ before k os qs ts after
-cut-anyhow {code} {day} {ss = ss} {a = a} O rooms T C outs = C.checks code day (concat ss) (held_all (HoldsAt code day) (λ s a b T file H. T.adds.goes_on code day file H) T [] (O.holds refl a.lines a.rules a.offsets rooms)) outs
+cut_anyhow {code} {day} {ss = ss} {a = a} O rooms T C outs = C.checks code day (concat ss) (held_all (HoldsAt code day) (λ s a b T file H. T.adds.goes_on code day file H) T [] (O.holds refl a.lines a.rules a.offsets rooms)) outs
 
 -- '18, a portion or a second closing call after closing, which changes nothing': closed it is not open, whatever stands in its lists
-pub closed-stays : {a b : Lent} {os₀ qs₀ ts₀ os qs ts : List ℕ} {before k after : ℕ} → PortionsClosedAt a os₀ qs₀ ts₀ before k b os qs ts after → isOpenAt a ≡ true
-    → (ls rs ps : List ℕ) → isOpen (state_of b.numbers) ls rs ps ≡ false
-closed-stays {a} {b} C o ls rs ps =
+pub closed_stays : {a b : Lent} {os₀ qs₀ ts₀ os qs ts : List ℕ} {before k after : ℕ} → PortionsClosedAt a os₀ qs₀ ts₀ before k b os qs ts after → is_open_at a ≡ true
+    → (ls rs ps : List ℕ) → is_open (state_of b.numbers) ls rs ps ≡ false
+closed_stays {a} {b} C o ls rs ps =
     let x : Numbers = a.numbers in
-    ap (λ (y : Numbers). isOpen (state_of y) ls rs ps) (C.numbers ∙ rw o)
-    ∙ ap (λ (q : Portions). isOpen q ls rs ps) (state-shut x.wide x.length x.narrow x.frame x.small x.text)
-    ∙ shut-shut (state_of x) ls rs ps
+    ap (λ (y : Numbers). is_open (state_of y) ls rs ps) (C.numbers ∙ rw o)
+    ∙ ap (λ (q : Portions). is_open q ls rs ps) (state_shut x.wide x.length x.narrow x.frame x.small x.text)
+    ∙ shut_shut (state_of x) ls rs ps

@@ -1,5 +1,5 @@
 // The C face of a file that comes in portions: its state is numbers in the caller's arrays. Promised: 0, or the number of the refusal by
-// document 01 or 02; however a file is cut, closing leaves what checking the whole leaves with room for 256 (`cut-anyhow`,
+// document 01 or 02; however a file is cut, closing leaves what checking the whole leaves with room for 256 (`cut_anyhow`,
 // proofs/Arrived.antt). Stands on `portions` and `answering` for the jobs, on `stored` for the state, on `results` for a total behind a
 // pointer, and on `checking_face` for what checking leaves.
 ghost use Rattle.portions_face.specs.Arriving.{PortionsOpenedAt, PortionAddedAt, PortionsClosedAt};

@@ -1,7 +1,7 @@
 -- Opening a file that arrives slowly (document 02, A5): what it answers, and the state that it leaves. 'Refusals: 1 and 2 at opening'
 use Rattle.std.specs.Prelude.{ℕ, ◌≡◌, Bool, false, cond, not, List, [], ◌∷◌, eqb, replicate}
 use Rattle.laws.specs.Refusals.{Refusal, ◌if◌, first}
-use Rattle.rules.specs.Terms.{isCode, isAccountingDay}
+use Rattle.rules.specs.Terms.{is_code, is_accounting_day}
 use Rattle.going.specs.Reached.{Begun}
 use Rattle.portions.specs.declared.Portions.{Portions}
 use Rattle.portions.specs.States.{Rooms, Holds}
@@ -9,13 +9,13 @@ use Rattle.portions_opening.specs.declared.Opening.{Opening}
 use Rattle.portions_opening.specs.declared.Opening.TheVariants.{Open, BadCode as WrongCode, BadDay as WrongDay}
 use Rattle.portions_opening.specs.declared.Opened.{Opened}
 
-abbrev pub openRefusals : ℕ → ℕ → List Refusal
-openRefusals code day = (1 if not (isCode code)) ∷ (2 if not (isAccountingDay day)) ∷ []
+abbrev pub open_refusals : ℕ → ℕ → List Refusal
+open_refusals code day = (1 if not (is_code code)) ∷ (2 if not (is_accounting_day day)) ∷ []
 
-abbrev pub openingNumber : Opening → ℕ
-openingNumber Open = 0
-openingNumber WrongCode = 1
-openingNumber WrongDay = 2
+abbrev pub opening_number : Opening → ℕ
+opening_number Open = 0
+opening_number WrongCode = 1
+opening_number WrongDay = 2
 
 -- nothing has come
 pub record BegunAs (code day : ℕ) (o : Bool) (p : Portions) : Type 0 where
@@ -27,6 +27,6 @@ pub record BegunAs (code day : ℕ) (o : Bool) (p : Portions) : Type 0 where
 
 -- the answer; where nothing is refused, a state that holds the empty file, in any three arrays of 256
 pub record Opens (code day : ℕ) (stood : List ℕ) (r : Opened) (stood' : List ℕ) : Type 0 where
-  pub number : openingNumber r.answer ≡ first (openRefusals code day)
-  pub stood-after : stood' ≡ cond (eqb (first (openRefusals code day)) 0) (replicate 1296 0) stood
-  pub holds : first (openRefusals code day) ≡ 0 → (ls rs ps : List ℕ) → Rooms ls rs ps → Holds code day [] r.state ls rs ps stood'
+  pub number : opening_number r.answer ≡ first (open_refusals code day)
+  pub stood_after : stood' ≡ cond (eqb (first (open_refusals code day)) 0) (replicate 1296 0) stood
+  pub holds : first (open_refusals code day) ≡ 0 → (ls rs ps : List ℕ) → Rooms ls rs ps → Holds code day [] r.state ls rs ps stood'

@@ -2,7 +2,7 @@
 // with 1 or 2. Promised: what specs/Opening.antt says. Stands on `portions` for the state, on `going` for its beginning, and on `listing`
 // for the terms.
 ghost use Rattle.std.specs.Prelude.{◌≡◌};
-ghost use Rattle.portions_opening.specs.Opening.{Opens, openingNumber, BegunAs};
+ghost use Rattle.portions_opening.specs.Opening.{Opens, opening_number, BegunAs};
 
 use listing::checking;
 use portions::Portions;
@@ -61,7 +61,7 @@ pub fn open(code: u32, day: u32, stood: &mut [u32; 1296]) -> Opened
 
 // The number of an answer, 0 for an open state.
 pub fn number_of(r: Opening) -> u32
-    ensures { result ≡ openingNumber r }
+    ensures { result ≡ opening_number r }
 {
     match r {
         Opening::Open => 0,

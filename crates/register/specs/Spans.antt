@@ -7,22 +7,22 @@ pub record Span : Type 0 where
   pub from : ℕ
   pub to : ℕ
 
-abbrev pub dayKey : ℕ → ℕ → ℕ
-dayKey day number = day * 10000000 + number
+abbrev pub day_key : ℕ → ℕ → ℕ
+day_key day number = day * 10000000 + number
 
-abbrev pub useKey : Use → ℕ
-useKey u = dayKey u.day u.number
+abbrev pub use_key : Use → ℕ
+use_key u = day_key u.day u.number
 
 abbrev pub span_of : Range → Span
-span_of r = record { from = dayKey r.day r.first; to = dayKey r.day r.last }
+span_of r = record { from = day_key r.day r.first; to = day_key r.day r.last }
 
-abbrev pub spansOf : List Range → List Span
-spansOf [] = []
-spansOf (r ∷ rs) = span_of r ∷ spansOf rs
+abbrev pub spans_of : List Range → List Span
+spans_of [] = []
+spans_of (r ∷ rs) = span_of r ∷ spans_of rs
 
-abbrev pub useKeys : List Use → List ℕ
-useKeys [] = []
-useKeys (u ∷ us) = useKey u ∷ useKeys us
+abbrev pub use_keys : List Use → List ℕ
+use_keys [] = []
+use_keys (u ∷ us) = use_key u ∷ use_keys us
 
 -- numbers 1 to 9,999,999, and ranges of them with the first not over the last
 abbrev pub Fit : Use → Type 0
@@ -52,20 +52,20 @@ Least n [] = Unit {0}
 Least n (k ∷ ks) = (n ≤ k) × Least n ks
 
 -- one number more
-abbrev pub joinSpan : ℕ → ℕ → List Span → List Span
-joinSpan a b [] = record { from = a; to = b } ∷ []
-joinSpan a b (q ∷ qs) = cond (eqb (b + 1) q.from) (record { from = a; to = q.to } ∷ qs) (record { from = a; to = b } ∷ q ∷ qs)
+abbrev pub join_span : ℕ → ℕ → List Span → List Span
+join_span a b [] = record { from = a; to = b } ∷ []
+join_span a b (q ∷ qs) = cond (eqb (b + 1) q.from) (record { from = a; to = q.to } ∷ qs) (record { from = a; to = b } ∷ q ∷ qs)
 
-abbrev pub addSpan : ℕ → List Span → List Span
-addSpan k [] = record { from = k; to = k } ∷ []
-addSpan k (s ∷ ss) =
-    cond (ltb k s.from) (joinSpan k k (s ∷ ss))
-    (cond (eqb (s.to + 1) k) (joinSpan s.from k ss)
-    (cond (leb k s.to) (s ∷ ss) (s ∷ addSpan k ss)))
+abbrev pub add_span : ℕ → List Span → List Span
+add_span k [] = record { from = k; to = k } ∷ []
+add_span k (s ∷ ss) =
+    cond (ltb k s.from) (join_span k k (s ∷ ss))
+    (cond (eqb (s.to + 1) k) (join_span s.from k ss)
+    (cond (leb k s.to) (s ∷ ss) (s ∷ add_span k ss)))
 
-abbrev pub addKeys : List ℕ → List Span → List Span
-addKeys [] ss = ss
-addKeys (k ∷ ks) ss = addKeys ks (addSpan k ss)
+abbrev pub add_keys : List ℕ → List Span → List Span
+add_keys [] ss = ss
+add_keys (k ∷ ks) ss = add_keys ks (add_span k ss)
 
 -- the first and the last keys of spans
 abbrev pub froms : List Span → List ℕ
@@ -80,7 +80,7 @@ tos (s ∷ ss) = s.to ∷ tos ss
 abbrev pub range_of : ℕ → ℕ → Range
 range_of a b = record { day = a / 10000000; first = a % 10000000; last = b % 10000000 }
 
-abbrev pub rangesOf : List ℕ → List ℕ → List Range
-rangesOf [] ls = []
-rangesOf (a ∷ ks) [] = []
-rangesOf (a ∷ ks) (b ∷ ls) = range_of a b ∷ rangesOf ks ls
+abbrev pub ranges_of : List ℕ → List ℕ → List Range
+ranges_of [] ls = []
+ranges_of (a ∷ ks) [] = []
+ranges_of (a ∷ ks) (b ∷ ls) = range_of a b ∷ ranges_of ks ls

@@ -2,7 +2,7 @@
 // for numbers as bytes, on `days`, and on the fixed strings of `text`.
 ghost use Rattle.std.specs.Prelude.{◌≡◌, ◌&&◌, ◌||◌, ◌+◌, ◌*◌, ◌≤◌, length, drop, eqb, ltb};
 ghost use Rattle.days.specs.Days.{later as laterBy};
-ghost use Rattle.register.specs.Register.{most_of, isVersion, hasLayout, rangeStands, allStand, inOrder, rangesIn, latestWith, is_register};
+ghost use Rattle.register.specs.Register.{most_of, is_version, has_layout, range_stands, all_stand, in_order, ranges_in, latest_with, is_register};
 
 use days::{day_number, is_real};
 use register::bytes;
@@ -22,13 +22,13 @@ fn most_of(version: u32) -> u32
 }
 
 fn is_version(version: u32) -> bool
-    ensures { result ≡ isVersion version }
+    ensures { result ≡ is_version version }
 {
     (version == 1) | (version == 2)
 }
 
 fn has_layout(s: &[u8]) -> bool
-    ensures { result ≡ hasLayout s.now }
+    ensures { result ≡ has_layout s.now }
 {
     if s.len() < 13 {
         return false;
@@ -50,7 +50,7 @@ pub fn later(day: u32, than: u32, days: u32) -> bool
 }
 
 fn range_stands(latest: u32, day: u32, first: u32, last: u32) -> bool
-    ensures { result ≡ rangeStands latest (record { day = day; first = first; last = last }) }
+    ensures { result ≡ range_stands latest (record { day = day; first = first; last = last }) }
 {
     is_real(day)
         & (!later(day, latest, 0)
@@ -67,7 +67,7 @@ fn is_apart(day: u32, last: u32, then: u32, first: u32) -> bool
 // The n ranges of a register: each stands, and each is apart from the one before it.
 fn ranges_stand(s: &[u8], latest: u32, n: usize) -> bool
     requires { 13 + 12 * n ≤ length s.now }
-    ensures { result ≡ (allStand latest (rangesIn n (drop 13 s.now)) && inOrder (rangesIn n (drop 13 s.now))) }
+    ensures { result ≡ (all_stand latest (ranges_in n (drop 13 s.now)) && in_order (ranges_in n (drop 13 s.now))) }
 {
     let mut day: u32 = 0;
     let mut last: u32 = 0;
@@ -90,7 +90,7 @@ fn ranges_stand(s: &[u8], latest: u32, n: usize) -> bool
 
 // 'a new register has latest day 0 and no ranges'
 fn latest_stands(latest: u32, n: usize) -> bool
-    ensures { result ≡ latestWith latest n }
+    ensures { result ≡ latest_with latest n }
 {
     is_real(latest) | ((latest == 0) & (n == 0))
 }

@@ -3,7 +3,7 @@ ghost use Rattle.std.specs.Prelude.{◌≡◌, ◌≤◌, min, length};
 ghost use Rattle.ledger.specs.Slices.{held};
 ghost use Rattle.listing_texts.specs.declared.job.Job.TheVariants.{Of};
 ghost use Rattle.listing_texts.specs.Printing.{Begins};
-ghost use Rattle.report.specs.Program.{answerText, fileText, list_of};
+ghost use Rattle.report.specs.Program.{answer_text, file_text, list_of};
 
 use listing::checking::{check, number_of, total_or};
 use listing_texts::job::{Job, read_job};
@@ -27,7 +27,7 @@ pub fn put_answer(
     total: u64,
 ) -> usize
     requires { 13362 ≤ length out.old }
-    ensures { Begins out.old (answerText refusal code day (held (min 256 total) lines.now rules.now) total) out.new result }
+    ensures { Begins out.old (answer_text refusal code day (held (min 256 total) lines.now rules.now) total) out.new result }
 {
     if refusal != 0 {
         return put_refused(out, refusal);
@@ -39,7 +39,7 @@ pub fn put_answer(
 // Checks the file of a job, with room for 256 pairs. The listing has no offsets: document 01 fixes its lines.
 fn list_file(file: &[u8], code: u32, day: u32, out: &mut [u8]) -> usize
     requires { 13362 ≤ length out.old }
-    ensures { Begins out.old (fileText (Of code day) file.now) out.new result }
+    ensures { Begins out.old (file_text (Of code day) file.now) out.new result }
 {
     let mut lines: [u32; 256] = [0; 256];
     let mut rules: [u32; 256] = [0; 256];

@@ -15,10 +15,10 @@ use Rattle.headings.specs.declared.Read.TheVariants.{Reads, Unreadable}
 use Rattle.rules.specs.Terms.{Terms}
 use Rattle.rules.specs.Rows.{Row, FieldRow, LowRow}
 use Rattle.rules.specs.Tree.{Owned, Item, File}
-use Rattle.rules.specs.Said.{head_of, isUnreadable, digest}
+use Rattle.rules.specs.Said.{head_of, is_unreadable, digest}
 use Rattle.rules.specs.Tests.{Test, ◌if◌, Spot}
 use Rattle.rules.specs.LineRules.{Place, nowhere, inside, rule1, rule4}
-use Rattle.rules.specs.Spots.{lowTests, fieldTests, looseTests, ownTests, blockTests, rule16At, headTests, lowSpot, lows, place_in, fieldSpot, fields, inner, items, spots}
+use Rattle.rules.specs.Spots.{low_tests, field_tests, loose_tests, own_tests, block_tests, rule16_at, head_tests, low_spot, lows, place_in, field_spot, fields, inner, items, spots}
 use Rattle.rules.proofs.Rising.{Rising}
 
 -- ---- tests that ascend
@@ -28,8 +28,8 @@ ascending k [] = true
 ascending k (t ∷ ts) = leb k t.rule && (ltb t.rule 64 && ascending (suc t.rule) ts)
 
 -- the first of ascending tests, and the others
-pub first-from : (k : ℕ) (t : Test) (ts : List Test) → T (ascending k (t ∷ ts)) → (k ≤ t.rule) × (t.rule < 64) × T (ascending (suc t.rule) ts)
-first-from k t ts a =
+pub first_from : (k : ℕ) (t : Test) (ts : List Test) → T (ascending k (t ∷ ts)) → (k ≤ t.rule) × (t.rule < 64) × T (ascending (suc t.rule) ts)
+first_from k t ts a =
     let u : T (ltb t.rule 64 && ascending (suc t.rule) ts) = and_right (leb k t.rule) (ltb t.rule 64 && ascending (suc t.rule) ts) a in (
       leb-true k t.rule (holds (leb k t.rule) (and_left (leb k t.rule) (ltb t.rule 64 && ascending (suc t.rule) ts) a)),
       ltb-true t.rule 64 (holds (ltb t.rule 64) (and_left (ltb t.rule 64) (ascending (suc t.rule) ts) u)),
@@ -41,9 +41,9 @@ first-from k t ts a =
     holds false x = absurd x
 
 -- the rules of ascending tests rise
-pub tests-rise : (k : ℕ) (ts : List Test) → T (ascending k ts) → Rising k (map (λ (t : Test). t.rule) ts)
-tests-rise k [] a = tt
-tests-rise k (t ∷ ts) a = let f = first-from k t ts a in (f.0, tests-rise (suc t.rule) ts f.2)
+pub tests_rise : (k : ℕ) (ts : List Test) → T (ascending k ts) → Rising k (map (λ (t : Test). t.rule) ts)
+tests_rise k [] a = tt
+tests_rise k (t ∷ ts) a = let f = first_from k t ts a in (f.0, tests_rise (suc t.rule) ts f.2)
 
 -- ---- spots whose tests ascend
 -- the tests of each line ascend
@@ -51,13 +51,13 @@ abbrev pub Orderly : List Spot → Type 0
 Orderly [] = Unit {0}
 Orderly (s ∷ ss) = T (ascending 0 s.tests) × Orderly ss
 
-pub orderly-append : (xs ys : List Spot) → Orderly xs → Orderly ys → Orderly (xs ++ ys)
-orderly-append [] ys O Q = Q
-orderly-append (x ∷ xs) ys O Q = (O.0, orderly-append xs ys O.1 Q)
+pub orderly_append : (xs ys : List Spot) → Orderly xs → Orderly ys → Orderly (xs ++ ys)
+orderly_append [] ys O Q = Q
+orderly_append (x ∷ xs) ys O Q = (O.0, orderly_append xs ys O.1 Q)
 
-pub orderly-at : (ss : List Spot) (s : Spot) → Orderly ss → Memᴰ s ss → T (ascending 0 s.tests)
-orderly-at [] s O m = absurd (Memᴰ.not-nil m)
-orderly-at (d ∷ ss) s O m = go (orderly-at ss s O.1) (Memᴰ.cases_cons m)
+pub orderly_at : (ss : List Spot) (s : Spot) → Orderly ss → Memᴰ s ss → T (ascending 0 s.tests)
+orderly_at [] s O m = absurd (Memᴰ.not-nil m)
+orderly_at (d ∷ ss) s O m = go (orderly_at ss s O.1) (Memᴰ.cases_cons m)
   where
     go : (Memᴰ s ss → T (ascending 0 s.tests)) → (s ≡ d) ⊎ Memᴰ s ss → T (ascending 0 s.tests)
     go ih (inl e) = subst (λ (x : Spot). T (ascending 0 x.tests)) (sym e) O.0
@@ -65,39 +65,39 @@ orderly-at (d ∷ ss) s O m = go (orderly-at ss s O.1) (Memᴰ.cases_cons m)
 
 -- ---- the tests of each line of a file
 module _ (terms : Terms) where
-  head-ascends : (above : List Item) (i : Item) (below : List Item) → T (ascending 0 (headTests terms above i below))
-  unfolding headTests ownTests blockTests
-  head-ascends above i below = go (head_of i.head)
+  head_ascends : (above : List Item) (i : Item) (below : List Item) → T (ascending 0 (head_tests terms above i below))
+  unfolding head_tests own_tests block_tests
+  head_ascends above i below = go (head_of i.head)
     where
       go : (hd : Read)
-          → T (ascending 0 ((1 if rule1 i.head.owner) ∷ (4 if rule4 i.head.owner) ∷ (6 if isUnreadable (head_of i.head))
-          ∷ (ownTests terms (digest i) hd ++ ((16 if rule16At above i below) ∷ blockTests (map digest above) (digest i) hd))))
+          → T (ascending 0 ((1 if rule1 i.head.owner) ∷ (4 if rule4 i.head.owner) ∷ (6 if is_unreadable (head_of i.head))
+          ∷ (own_tests terms (digest i) hd ++ ((16 if rule16_at above i below) ∷ block_tests (map digest above) (digest i) hd))))
       go (Reads h) = tt
       go Unreadable = tt
 
-  lows-orderly : (p : Place) (ls : List LowRow) → Orderly (lows p ls)
-  unfolding lowSpot lowTests
-  lows-orderly p [] = tt
-  lows-orderly p (l ∷ ls) = (tt, lows-orderly p ls)
+  lows_orderly : (p : Place) (ls : List LowRow) → Orderly (lows p ls)
+  unfolding low_spot low_tests
+  lows_orderly p [] = tt
+  lows_orderly p (l ∷ ls) = (tt, lows_orderly p ls)
 
-  field-ascends : (h : Option (Owned Row)) (above : List (Owned FieldRow)) (g : Owned FieldRow) → T (ascending 0 (fieldSpot terms h above g).tests)
-  unfolding fieldSpot looseTests fieldTests
-  field-ascends none above g = tt
-  field-ascends (some h) above g = tt
+  field_ascends : (h : Option (Owned Row)) (above : List (Owned FieldRow)) (g : Owned FieldRow) → T (ascending 0 (field_spot terms h above g).tests)
+  unfolding field_spot loose_tests field_tests
+  field_ascends none above g = tt
+  field_ascends (some h) above g = tt
 
-  fields-orderly : (h : Option (Owned Row)) (above gs : List (Owned FieldRow)) → Orderly (fields terms h above gs)
-  fields-orderly h above [] = tt
-  fields-orderly h above (g ∷ gs) =
-      (field-ascends h above g, orderly-append (lows (place_in h) g.below) (fields terms h (g ∷ above) gs) (lows-orderly (place_in h) g.below) (fields-orderly h (g ∷ above) gs))
+  fields_orderly : (h : Option (Owned Row)) (above gs : List (Owned FieldRow)) → Orderly (fields terms h above gs)
+  fields_orderly h above [] = tt
+  fields_orderly h above (g ∷ gs) =
+      (field_ascends h above g, orderly_append (lows (place_in h) g.below) (fields terms h (g ∷ above) gs) (lows_orderly (place_in h) g.below) (fields_orderly h (g ∷ above) gs))
 
-  inner-orderly : (i : Item) → Orderly (inner terms i)
-  inner-orderly i = orderly-append (lows inside i.head.below) (fields terms (some i.head) [] i.fields) (lows-orderly inside i.head.below) (fields-orderly (some i.head) [] i.fields)
+  inner_orderly : (i : Item) → Orderly (inner terms i)
+  inner_orderly i = orderly_append (lows inside i.head.below) (fields terms (some i.head) [] i.fields) (lows_orderly inside i.head.below) (fields_orderly (some i.head) [] i.fields)
 
-  items-orderly : (above is : List Item) → Orderly (items terms above is)
-  items-orderly above [] = tt
-  items-orderly above (i ∷ is) = (head-ascends above i is, orderly-append (inner terms i) (items terms (i ∷ above) is) (inner-orderly i) (items-orderly (i ∷ above) is))
+  items_orderly : (above is : List Item) → Orderly (items terms above is)
+  items_orderly above [] = tt
+  items_orderly above (i ∷ is) = (head_ascends above i is, orderly_append (inner terms i) (items terms (i ∷ above) is) (inner_orderly i) (items_orderly (i ∷ above) is))
 
-  pub spots-orderly : (f : File) → Orderly (spots terms f)
-  spots-orderly f =
-      orderly-append (lows nowhere f.top) (fields terms none [] f.loose ++ items terms [] f.items) (lows-orderly nowhere f.top)
-      (orderly-append (fields terms none [] f.loose) (items terms [] f.items) (fields-orderly none [] f.loose) (items-orderly [] f.items))
+  pub spots_orderly : (f : File) → Orderly (spots terms f)
+  spots_orderly f =
+      orderly_append (lows nowhere f.top) (fields terms none [] f.loose ++ items terms [] f.items) (lows_orderly nowhere f.top)
+      (orderly_append (fields terms none [] f.loose) (items terms [] f.items) (fields_orderly none [] f.loose) (items_orderly [] f.items))

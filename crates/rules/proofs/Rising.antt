@@ -22,15 +22,15 @@ rising_le j k [] h R = tt
 rising_le j k (m ∷ ms) h R = (omega (arith, R.0), R.1)
 
 -- numbers below j, then numbers from j on
-pub rising-append : (k j : ℕ) (ms ns : List ℕ) → k ≤ j → Rising k ms → Under j ms → Rising j ns → Rising k (ms ++ ns)
-rising-append k j [] ns h R U Q = rising_le k j ns h Q
-rising-append k j (m ∷ ms) ns h R U Q = (R.0, rising-append (suc m) j ms ns U.0 R.1 U.1 Q)
+pub rising_append : (k j : ℕ) (ms ns : List ℕ) → k ≤ j → Rising k ms → Under j ms → Rising j ns → Rising k (ms ++ ns)
+rising_append k j [] ns h R U Q = rising_le k j ns h Q
+rising_append k j (m ∷ ms) ns h R U Q = (R.0, rising_append (suc m) j ms ns U.0 R.1 U.1 Q)
 
 -- ---- a list whose members have numbers that rise
 module _ {A : Type 0} (num : A → ℕ) where
-  pub member-from : (k : ℕ) (xs : List A) (x : A) → Rising k (map num xs) → Memᴰ x xs → k ≤ num x
-  member-from k [] x R m = absurd (Memᴰ.not-nil m)
-  member-from k (y ∷ ys) x R m = go (member-from (suc (num y)) ys x R.1) (Memᴰ.cases_cons m)
+  pub member_from : (k : ℕ) (xs : List A) (x : A) → Rising k (map num xs) → Memᴰ x xs → k ≤ num x
+  member_from k [] x R m = absurd (Memᴰ.not-nil m)
+  member_from k (y ∷ ys) x R m = go (member_from (suc (num y)) ys x R.1) (Memᴰ.cases_cons m)
     where
       go : (Memᴰ x ys → suc (num y) ≤ num x) → (x ≡ y) ⊎ Memᴰ x ys → k ≤ num x
       go ih (inl e) = omega (arith, R.0, ap num e)
@@ -43,6 +43,6 @@ module _ {A : Type 0} (num : A → ℕ) where
     where
       go : (Memᴰ x zs → Memᴰ y zs → x ≡ y) → (x ≡ z) ⊎ Memᴰ x zs → (y ≡ z) ⊎ Memᴰ y zs → x ≡ y
       go ih (inl a) (inl b) = a ∙ sym b
-      go ih (inl a) (inr q) = absurd (omega (arith, ap num a, e, member-from (suc (num z)) zs y R.1 q))
-      go ih (inr p) (inl b) = absurd (omega (arith, ap num b, e, member-from (suc (num z)) zs x R.1 p))
+      go ih (inl a) (inr q) = absurd (omega (arith, ap num a, e, member_from (suc (num z)) zs y R.1 q))
+      go ih (inr p) (inl b) = absurd (omega (arith, ap num b, e, member_from (suc (num z)) zs x R.1 p))
       go ih (inr p) (inr q) = ih p q

@@ -3,9 +3,9 @@
 use Prim.Native.Nat.{ℕ}
 use mathlib.Core.Path.{◌≡◌, refl}
 use mathlib.Core.List.{List, [], ◌∷◌, ◌++◌}
-use Rattle.days.specs.Days.{isReal, isLeap, row, monthLength, dayNumber}
+use Rattle.days.specs.Days.{is_real, is_leap, row, month_length, day_number}
 use Rattle.headings.specs.declared.Read.TheVariants.{Reads}
-use Rattle.headings.specs.ItemTypes.{isInput, isPayment, isPriority, isTrilateral}
+use Rattle.headings.specs.ItemTypes.{is_input, is_payment, is_priority, is_trilateral}
 use Rattle.headings.specs.HeadRules.{rule10, rule13, rule14}
 use Rattle.rules.specs.declared.FirstKc.{FirstKc}
 use Rattle.rules.specs.declared.FirstKc.TheVariants.{NoKc, Pays}
@@ -15,11 +15,11 @@ use Rattle.rules.specs.declared.FirstSum.TheVariants.{NoSum, Says}
 use Rattle.rules.specs.declared.Sum.{Sum}
 use Rattle.rules.specs.declared.Digest.{Digest}
 use Rattle.rules.specs.Terms.{input}
-use Rattle.rules.specs.Tests.{brokenOf}
-use Rattle.rules.specs.Spots.{ownTests, blockTests}
+use Rattle.rules.specs.Tests.{broken_of}
+use Rattle.rules.specs.Spots.{own_tests, block_tests}
 
-abbrev noSum : Sum
-noSum = record { stated = NoSum }
+abbrev no_sum : Sum
+no_sum = record { stated = NoSum }
 
 -- an item of 300, for 710, on 4 March 2024; S1 states c and s
 abbrev item : (kind number : ℕ) → FirstKc → FirstIn → (c s : ℕ) → Digest
@@ -36,7 +36,7 @@ item kind number kc span c s =
       });
       kc = kc;
       span = span;
-      sums = record { groups = noSum ∷ record { stated = Says c (record { 0 = s }) } ∷ noSum ∷ noSum ∷ noSum ∷ noSum ∷ noSum ∷ noSum ∷ noSum ∷ noSum ∷ [] };
+      sums = record { groups = no_sum ∷ record { stated = Says c (record { 0 = s }) } ∷ no_sum ∷ no_sum ∷ no_sum ∷ no_sum ∷ no_sum ∷ no_sum ∷ no_sum ∷ no_sum ∷ [] };
     }
 
 abbrev payment : (kind number amount : ℕ) → Digest
@@ -50,14 +50,14 @@ closing c s = item 51 0 NoKc (Runs (record { 0 = 1 }) (record { 0 = 2 })) c s
 
 -- the rules that are broken at its heading, 16 left aside
 abbrev broken : List Digest → Digest → List ℕ
-broken above it = brokenOf (ownTests (input 300 20240304) it it.head ++ blockTests above it it.head)
+broken above it = broken_of (own_tests (input 300 20240304) it it.head ++ block_tests above it it.head)
 
 -- a 51 that adds both as they stand has no fault
 pub added : broken block (closing 2 15000) ≡ []
-unfolding ownTests blockTests rule10 rule13 rule14 isInput isPayment isPriority isTrilateral isReal isLeap row monthLength dayNumber
+unfolding own_tests block_tests rule10 rule13 rule14 is_input is_payment is_priority is_trilateral is_real is_leap row month_length day_number
 added = refl
 
 -- a 51 that takes the 13 off breaks 31
 pub subtracted : broken block (closing 2 10000) ≡ 31 ∷ []
-unfolding ownTests blockTests rule10 rule13 rule14 isInput isPayment isPriority isTrilateral isReal isLeap row monthLength dayNumber
+unfolding own_tests block_tests rule10 rule13 rule14 is_input is_payment is_priority is_trilateral is_real is_leap row month_length day_number
 subtracted = refl

@@ -4,7 +4,7 @@ use Rattle.std.specs.Prelude.{ℕ, ◌+◌, Bool, true, false, cond, not, ◌&&�
 use Rattle.laws.specs.Lists.{sum}
 use Rattle.headings.specs.declared.ItemNo.{ItemNo}
 use Rattle.headings.specs.declared.Heading.{Heading}
-use Rattle.headings.specs.ItemTypes.{isClosing, isPayment, isPriority}
+use Rattle.headings.specs.ItemTypes.{is_closing, is_payment, is_priority}
 use Rattle.rules.specs.declared.FirstIn.{FirstIn}
 use Rattle.rules.specs.declared.FirstIn.TheVariants.{NoIn, BrokenIn, Runs}
 use Rattle.rules.specs.declared.FirstSum.{FirstSum}
@@ -12,20 +12,20 @@ use Rattle.rules.specs.declared.FirstSum.TheVariants.{NoSum, BrokenSum, Says}
 use Rattle.rules.specs.declared.Sum.{Sum}
 use Rattle.rules.specs.declared.Sums.{Sums}
 use Rattle.rules.specs.declared.Digest.{Digest}
-use Rattle.rules.specs.Blocks.{empty, oldest, noneCloses, blockAbove, readable, payments, amounts}
+use Rattle.rules.specs.Blocks.{empty, oldest, none_closes, block_above, readable, payments, amounts}
 
 -- '16: the first heading (readable or not) after the last block, or the file's first if it has no block'
 abbrev pub rule16 : List Digest → Digest → List Digest → Bool
-rule16 above it below = empty (blockAbove above) && noneCloses (it ∷ below)
+rule16 above it below = empty (block_above above) && none_closes (it ∷ below)
 
 -- ---- 'The rest concern readable headings'; h is one
 -- '17: a 51 whose block has no other heading, readable or not'
 abbrev pub rule17 : List Digest → Heading → Bool
-rule17 above h = isClosing h.kind && empty (blockAbove above)
+rule17 above h = is_closing h.kind && empty (block_above above)
 
 -- '18: day differs from the block's first'
 abbrev pub rule18 : List Digest → Heading → Bool
-rule18 above h = not (eqb h.day (oldest h (readable (blockAbove above))).day)
+rule18 above h = not (eqb h.day (oldest h (readable (block_above above))).day)
 
 -- a number isn't one more than that of the nearest heading, if there is one
 abbrev pub skips : List Heading → ItemNo → Bool
@@ -36,39 +36,39 @@ skips (g ∷ gs) n = not (eqb n.0 (g.number.0 + 1))
 -- than the last, if there is one'
 abbrev pub rule19 : List Digest → Heading → Bool
 rule19 above h =
-    cond (isClosing h.kind) (not (eqb h.number.0 0) && skips (readable (blockAbove above)) h.number)
-    (eqb h.number.0 0 || skips (readable (blockAbove above)) h.number)
+    cond (is_closing h.kind) (not (eqb h.number.0 0) && skips (readable (block_above above)) h.number)
+    (eqb h.number.0 0 || skips (readable (block_above above)) h.number)
 
 abbrev pub unlike : Bool → Bool → Bool
 unlike p q = (p && not q) || (not p && q)
 
 -- '20: input type other than 51 whose class differs from the file's first such'
 abbrev pub rule20 : List Digest → Heading → Bool
-rule20 above h = isPayment h.kind && unlike (isPriority h.kind) (isPriority (oldest h.kind (payments (readable above))))
+rule20 above h = is_payment h.kind && unlike (is_priority h.kind) (is_priority (oldest h.kind (payments (readable above))))
 
-abbrev pub spanWrong : List Heading → FirstIn → Bool
-spanWrong hs NoIn = true
-spanWrong hs BrokenIn = false
-spanWrong [] (Runs a b) = false
-spanWrong (g ∷ gs) (Runs a b) = not (eqb a.0 (oldest g gs).number.0 && eqb b.0 g.number.0)
+abbrev pub span_wrong : List Heading → FirstIn → Bool
+span_wrong hs NoIn = true
+span_wrong hs BrokenIn = false
+span_wrong [] (Runs a b) = false
+span_wrong (g ∷ gs) (Runs a b) = not (eqb a.0 (oldest g gs).number.0 && eqb b.0 g.number.0)
 
 -- '21: a 51 with no IN, or whose first IN reads and isn't the first and last number of the block's other headings, if any'
 abbrev pub rule21 : List Digest → Heading → FirstIn → Bool
-rule21 above h span = isClosing h.kind && spanWrong (readable (blockAbove above)) span
+rule21 above h span = is_closing h.kind && span_wrong (readable (block_above above)) span
 
 -- what reads and isn't the count n and the sum t; absent means 0 and 0. 'A true sum of 10^17 or more equals no Sd': it has 17 digits
--- (`large_sum`, `large-count` of `account`)
+-- (`large_sum`, `large_count` of `account`)
 abbrev pub misstated : ℕ → ℕ → FirstSum → Bool
 misstated n t NoSum = not (eqb 0 n && eqb 0 t)
 misstated n t BrokenSum = false
 misstated n t (Says c s) = not (eqb c n && eqb s.0 t)
 
-abbrev pub statedIn : List Sum → ℕ → FirstSum
-statedIn groups d = (get_or groups d (record { stated = NoSum })).stated
+abbrev pub stated_in : List Sum → ℕ → FirstSum
+stated_in groups d = (get_or groups d (record { stated = NoSum })).stated
 
 -- '30 to 38: for group d = 0 to 8, a 51 whose first Sd reads (absent means 0 and 0) and isn't the count and sum over the block's items of
 -- input type other than 51 with tens digit d and a first KC that reads': here 30 + d; 'group 9 joins as rule 39' (document 02, A3)
 abbrev pub rule30 : ℕ → List Digest → Heading → Sums → Bool
 rule30 d above h stated =
-    isClosing h.kind
-    && misstated (length (amounts d (blockAbove above))) (sum (amounts d (blockAbove above))) (statedIn stated.groups d)
+    is_closing h.kind
+    && misstated (length (amounts d (block_above above))) (sum (amounts d (block_above above))) (stated_in stated.groups d)

@@ -3,7 +3,7 @@ use Rattle.std.specs.Prelude.{ℕ, Bool, true, false, cond, not, ◌&&◌, List,
 use Rattle.headings.specs.declared.Heading.{Heading}
 use Rattle.headings.specs.declared.Read.{Read}
 use Rattle.headings.specs.declared.Read.TheVariants.{Reads, Unreadable}
-use Rattle.headings.specs.ItemTypes.{isClosing, isPayment, group_of}
+use Rattle.headings.specs.ItemTypes.{is_closing, is_payment, group_of}
 use Rattle.rules.specs.declared.FirstKc.{FirstKc}
 use Rattle.rules.specs.declared.FirstKc.TheVariants.{NoKc, BrokenKc, Pays}
 use Rattle.rules.specs.declared.Digest.{Digest}
@@ -19,20 +19,20 @@ oldest x (y ∷ ys) = oldest y ys
 
 -- 'A block ends with each readable heading of type 51'
 abbrev pub closes_at : Read → Bool
-closes_at (Reads h) = isClosing h.kind
+closes_at (Reads h) = is_closing h.kind
 closes_at Unreadable = false
 
 abbrev pub closes : Digest → Bool
 closes i = closes_at i.head
 
-abbrev pub noneCloses : List Digest → Bool
-noneCloses [] = true
-noneCloses (i ∷ is) = not (closes i) && noneCloses is
+abbrev pub none_closes : List Digest → Bool
+none_closes [] = true
+none_closes (i ∷ is) = not (closes i) && none_closes is
 
 -- the items above that are in the same block: back to the nearest that closes one
-abbrev pub blockAbove : List Digest → List Digest
-blockAbove [] = []
-blockAbove (i ∷ is) = cond (closes i) [] (i ∷ blockAbove is)
+abbrev pub block_above : List Digest → List Digest
+block_above [] = []
+block_above (i ∷ is) = cond (closes i) [] (i ∷ block_above is)
 
 abbrev pub with_head : Read → List Heading → List Heading
 with_head (Reads h) hs = h ∷ hs
@@ -46,19 +46,19 @@ readable (i ∷ is) = with_head i.head (readable is)
 -- the types among them that are input types other than 51
 abbrev pub payments : List Heading → List ℕ
 payments [] = []
-payments (h ∷ hs) = cond (isPayment h.kind) (h.kind ∷ payments hs) (payments hs)
+payments (h ∷ hs) = cond (is_payment h.kind) (h.kind ∷ payments hs) (payments hs)
 
 -- a readable heading of an input type other than 51 with tens digit d
-abbrev pub inGroup : ℕ → Read → Bool
-inGroup d (Reads h) = isPayment h.kind && eqb (group_of h.kind) d
-inGroup d Unreadable = false
+abbrev pub in_group : ℕ → Read → Bool
+in_group d (Reads h) = is_payment h.kind && eqb (group_of h.kind) d
+in_group d Unreadable = false
 
-abbrev pub withAmount : FirstKc → Bool → List ℕ → List ℕ
-withAmount NoKc counted ns = ns
-withAmount BrokenKc counted ns = ns
-withAmount (Pays a day) counted ns = cond counted (a.0 ∷ ns) ns
+abbrev pub with_amount : FirstKc → Bool → List ℕ → List ℕ
+with_amount NoKc counted ns = ns
+with_amount BrokenKc counted ns = ns
+with_amount (Pays a day) counted ns = cond counted (a.0 ∷ ns) ns
 
 -- the amounts of group d: of each of its items whose first KC reads. 'Every amount is added as it stands'
 abbrev pub amounts : ℕ → List Digest → List ℕ
 amounts d [] = []
-amounts d (i ∷ is) = withAmount i.kc (inGroup d i.head) (amounts d is)
+amounts d (i ∷ is) = with_amount i.kc (in_group d i.head) (amounts d is)

@@ -4,8 +4,8 @@ use Rattle.std.specs.Prelude.{ℕ, zero, suc, ◌+◌, ◌<◌, ◌≡◌, true,
 use mathlib.Core.List.{List, [], ◌∷◌, Memᴰ}
 use Rattle.lines.specs.Lines.{body}
 use Rattle.rules.specs.Terms.{Terms}
-use Rattle.rules.specs.Tests.{◌if◌, brokenOf, Spot}
-use Rattle.rules.specs.Spots.{spotsIn}
+use Rattle.rules.specs.Tests.{◌if◌, broken_of, Spot}
+use Rattle.rules.specs.Spots.{spots_in}
 use Rattle.rules.specs.Faults.{Fault}
 
 -- a rule is broken at a spot: it is tested there, and the test says so
@@ -17,22 +17,22 @@ abbrev pub FaultAmong : Fault → List Spot → Type 0
 FaultAmong f ss = (s : Spot) × Memᴰ s ss × (f.line ≡ s.line) × BrokenAt f.rule s
 
 -- n, n + 1, .., k in all
-abbrev pub countFrom : ℕ → ℕ → List ℕ
-countFrom n zero = []
-countFrom n (suc k) = n ∷ countFrom (suc n) k
+abbrev pub count_from : ℕ → ℕ → List ℕ
+count_from n zero = []
+count_from n (suc k) = n ∷ count_from (suc n) k
 
 -- the lines of a file with their tests
-abbrev pub spotsOf : Terms → List ℕ → List Spot
-spotsOf terms file = spotsIn terms (body file)
+abbrev pub spots_of : Terms → List ℕ → List Spot
+spots_of terms file = spots_in terms (body file)
 
 -- the fault's rule is broken at its line of the file
 abbrev pub FaultIn : Terms → List ℕ → Fault → Type 0
-FaultIn terms file f = FaultAmong f (spotsOf terms file)
+FaultIn terms file f = FaultAmong f (spots_of terms file)
 
 -- 'the total is the sum of their sizes'
 abbrev pub sizes : List Spot → ℕ
 sizes [] = 0
-sizes (s ∷ ss) = length (brokenOf s.tests) + sizes ss
+sizes (s ∷ ss) = length (broken_of s.tests) + sizes ss
 
 -- by line, and at one line by rule
 abbrev pub Before : Fault → Fault → Type 0

@@ -1,10 +1,10 @@
 -- Rules 5 to 9, 23 and 24, at a field of an item. The fields above one in its item are listed with the nearest first.
 use Rattle.std.specs.Prelude.{ℕ, Bool, true, false, not, ◌&&◌, ◌||◌, List, [], ◌∷◌, eqb, ltb}
 use Rattle.laws.specs.Tests.{among}
-use Rattle.days.specs.Days.{isReal, later}
+use Rattle.days.specs.Days.{is_real, later}
 use Rattle.headings.specs.declared.Read.{Read}
 use Rattle.headings.specs.declared.Read.TheVariants.{Reads, Unreadable}
-use Rattle.headings.specs.ItemTypes.{isPayment}
+use Rattle.headings.specs.ItemTypes.{is_payment}
 use Rattle.figures.specs.declared.parts.Number.{Number}
 use Rattle.figures.specs.declared.parts.Number.TheVariants.{Good, Failing, Zero}
 use Rattle.figures.specs.declared.parts.Halves.{Halves}
@@ -27,66 +27,66 @@ abbrev pub rule6 : Owned FieldRow → Bool
 rule6 g = not (reads (class_of g.owner.ident) g.owner.row.bytes (continuations g.below))
 
 -- ---- 7, 23 and 24: of 'a UD or UK that reads' (document 01), by the half that is wrong (document 02, A4)
-abbrev pub ofParty : (Halves → Bool) → Reading → Bool
-ofParty wrong Broken = false
-ofParty wrong Plain = false
-ofParty wrong (Paid a d) = false
-ofParty wrong (Span a b) = false
-ofParty wrong (Stated n a) = false
-ofParty wrong (Party h) = wrong h
+abbrev pub of_party : (Halves → Bool) → Reading → Bool
+of_party wrong Broken = false
+of_party wrong Plain = false
+of_party wrong (Paid a d) = false
+of_party wrong (Span a b) = false
+of_party wrong (Stated n a) = false
+of_party wrong (Party h) = wrong h
 
-abbrev pub prefixFails : Halves → Bool
-prefixFails h = not h.prefix
+abbrev pub prefix_fails : Halves → Bool
+prefix_fails h = not h.prefix
 
-abbrev pub isFailing : Number → Bool
-isFailing Good = false
-isFailing Failing = true
-isFailing Zero = false
+abbrev pub is_failing : Number → Bool
+is_failing Good = false
+is_failing Failing = true
+is_failing Zero = false
 
 abbrev pub is_zero : Number → Bool
 is_zero Good = false
 is_zero Failing = false
 is_zero Zero = true
 
-abbrev pub numberFails : Halves → Bool
-numberFails h = isFailing h.number
+abbrev pub number_fails : Halves → Bool
+number_fails h = is_failing h.number
 
-abbrev pub numberZero : Halves → Bool
-numberZero h = is_zero h.number
+abbrev pub number_zero : Halves → Bool
+number_zero h = is_zero h.number
 
 -- 'Rule 7 now means the prefix'
 abbrev pub rule7 : Owned FieldRow → Bool
-rule7 g = ofParty prefixFails (says g)
+rule7 g = of_party prefix_fails (says g)
 
 -- '23 is a number that fails'
 abbrev pub rule23 : Owned FieldRow → Bool
-rule23 g = ofParty numberFails (says g)
+rule23 g = of_party number_fails (says g)
 
 -- '24 is a number of zero, where the sum isn't judged'
 abbrev pub rule24 : Owned FieldRow → Bool
-rule24 g = ofParty numberZero (says g)
+rule24 g = of_party number_zero (says g)
 
 -- ---- 8 and 9: 'For the first KC of an item whose heading reads, with an input type other than 51, if that KC reads'
 -- the types whose KC may not be later than the accounting day, and those whose may be 30 days later
-abbrev pub untilToday : List ℕ
-untilToday = 01 ∷ 11 ∷ 12 ∷ 13 ∷ 14 ∷ 21 ∷ 35 ∷ 37 ∷ 45 ∷ []
+abbrev pub until_today : List ℕ
+until_today = 01 ∷ 11 ∷ 12 ∷ 13 ∷ 14 ∷ 21 ∷ 35 ∷ 37 ∷ 45 ∷ []
 
-abbrev pub untilThirty : List ℕ
-untilThirty = 32 ∷ 33 ∷ []
+abbrev pub until_thirty : List ℕ
+until_thirty = 32 ∷ 33 ∷ []
 
 -- '8: its day isn't real, or is later than the accounting day for 01, 11, 12, 13, 14, 21, 35, 37, 45, or more than 30 days later for
 -- 32, 33'
 abbrev pub rule8 : Terms → ℕ → ℕ → Bool
 rule8 terms kind day =
-    isPayment kind
-    && (not (isReal day) || ((among kind untilToday && later day terms.today 0) || (among kind untilThirty && later day terms.today 30)))
+    is_payment kind
+    && (not (is_real day) || ((among kind until_today && later day terms.today 0) || (among kind until_thirty && later day terms.today 30)))
 
 -- '9: type 32, amount over 100000000000'
 abbrev pub rule9 : ℕ → ℕ → Bool
 rule9 kind amount = eqb kind 32 && ltb 100000000000 amount
 
-abbrev pub isFirstKc : List (Owned FieldRow) → Owned FieldRow → Bool
-isFirstKc above g = eqb g.owner.ident (named "KC") && not (stands (named "KC") above)
+abbrev pub is_first_kc : List (Owned FieldRow) → Owned FieldRow → Bool
+is_first_kc above g = eqb g.owner.ident (named "KC") && not (stands (named "KC") above)
 
 -- the heading reads, and so does the field, as a KC whose day breaks 8
 abbrev pub late : Terms → Read → Reading → Bool
@@ -109,8 +109,8 @@ large (Reads h) (Party b) = false
 large Unreadable r = false
 
 -- so at a field, below a heading that reads as h
-abbrev pub rule8At : Terms → Read → List (Owned FieldRow) → Owned FieldRow → Bool
-rule8At terms h above g = isFirstKc above g && late terms h (says g)
+abbrev pub rule8_at : Terms → Read → List (Owned FieldRow) → Owned FieldRow → Bool
+rule8_at terms h above g = is_first_kc above g && late terms h (says g)
 
-abbrev pub rule9At : Read → List (Owned FieldRow) → Owned FieldRow → Bool
-rule9At h above g = isFirstKc above g && large h (says g)
+abbrev pub rule9_at : Read → List (Owned FieldRow) → Owned FieldRow → Bool
+rule9_at h above g = is_first_kc above g && large h (says g)

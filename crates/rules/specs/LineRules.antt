@@ -1,12 +1,12 @@
 -- Rules 1 to 4, at every line (document 01, 'The rules, by number').
 use Rattle.std.specs.Prelude.{Bool, true, false, not}
 use Rattle.laws.specs.Lists.{any_of}
-use Rattle.text.specs.Characters.{isInadmissible}
+use Rattle.text.specs.Characters.{is_inadmissible}
 use Rattle.rules.specs.Rows.{Row, LowRow}
 
 -- '1: holds an inadmissible byte'
 unfoldable pub rule1 : Row → Bool
-rule1 r = any_of isInadmissible r.bytes
+rule1 r = any_of is_inadmissible r.bytes
 
 -- where a line stands: above every heading and field, above every heading, in an item
 pub data Place : Type 0 where

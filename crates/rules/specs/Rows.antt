@@ -26,14 +26,14 @@ pub data Sorted : Type 0 where
   field : FieldRow → Sorted
   low : LowRow → Sorted
 
-abbrev pub sortedAs : Kind → Row → Sorted
-sortedAs Heading r = heading r
-sortedAs Continuation r = low (record { row = r; continues = true })
-sortedAs (Field i) r = field (record { row = r; ident = i })
-sortedAs Other r = low (record { row = r; continues = false })
+abbrev pub sorted_as : Kind → Row → Sorted
+sorted_as Heading r = heading r
+sorted_as Continuation r = low (record { row = r; continues = true })
+sorted_as (Field i) r = field (record { row = r; ident = i })
+sorted_as Other r = low (record { row = r; continues = false })
 
 unfoldable pub sorted : Row → Sorted
-sorted r = sortedAs (kind_of r.bytes) r
+sorted r = sorted_as (kind_of r.bytes) r
 
 -- the lines, the first of which has the number n
 unfoldable pub rows_from : ℕ → List Line → List Sorted

@@ -3,11 +3,11 @@ use Rattle.std.specs.Prelude.{ℕ, Bool, true, false, cond, ◌||◌, List, [], 
 use Rattle.std.proofs.Math.Option.{Option, none, some}
 use Rattle.headings.specs.declared.Read.{Read}
 use Rattle.headings.specs.declared.Read.TheVariants.{Reads, Unreadable}
-use Rattle.headings.specs.Reading.{headingOf}
+use Rattle.headings.specs.Reading.{heading_of}
 use Rattle.fields.specs.declared.readings.Reading.{Reading}
 use Rattle.fields.specs.declared.readings.Reading.TheVariants.{Broken, Plain, Paid, Span, Stated, Party}
 use Rattle.fields.specs.Kinds.{named}
-use Rattle.fields.specs.Classes.{class_of, sumGroup}
+use Rattle.fields.specs.Classes.{class_of, sum_group}
 use Rattle.fields.specs.Tails.{says_of}
 use Rattle.rules.specs.declared.FirstKc.{FirstKc}
 use Rattle.rules.specs.declared.FirstKc.TheVariants.{NoKc, BrokenKc, Pays}
@@ -40,20 +40,20 @@ abbrev pub or_else : Option Reading → Option Reading → Option Reading
 or_else (some r) o = some r
 or_else none o = o
 
-abbrev pub ifThere : Bool → Reading → Option Reading
-ifThere true r = some r
-ifThere false r = none
+abbrev pub if_there : Bool → Reading → Option Reading
+if_there true r = some r
+if_there false r = none
 
 -- what the first field says whose identifier passes a test
-unfoldable pub firstSaid : (ℕ → Bool) → List (Owned FieldRow) → Option Reading
-firstSaid p [] = none
-firstSaid p (g ∷ gs) = or_else (ifThere (p g.owner.ident) (says g)) (firstSaid p gs)
+unfoldable pub first_said : (ℕ → Bool) → List (Owned FieldRow) → Option Reading
+first_said p [] = none
+first_said p (g ∷ gs) = or_else (if_there (p g.owner.ident) (says g)) (first_said p gs)
 
 abbrev pub is : ℕ → ℕ → Bool
 is i j = eqb j i
 
 abbrev pub is_group : ℕ → ℕ → Bool
-is_group d j = eqb (sumGroup j) d
+is_group d j = eqb (sum_group j) d
 
 -- ---- headings
 -- a continuation stands among some lines
@@ -63,62 +63,62 @@ continued (l ∷ ls) = l.continues || continued ls
 
 -- a heading reads if it has its layout, which has no continuation
 unfoldable pub head_of : Owned Row → Read
-head_of g = cond (continued g.below) Unreadable (headingOf g.owner.bytes)
+head_of g = cond (continued g.below) Unreadable (heading_of g.owner.bytes)
 
-abbrev pub isUnreadable : Read → Bool
-isUnreadable (Reads h) = false
-isUnreadable Unreadable = true
+abbrev pub is_unreadable : Read → Bool
+is_unreadable (Reads h) = false
+is_unreadable Unreadable = true
 
 -- ---- items
 -- its first KC: none, one that does not read, or its amount and day
-abbrev pub kcBy : Reading → FirstKc
-kcBy (Paid a d) = Pays a d
-kcBy Broken = BrokenKc
-kcBy Plain = BrokenKc
-kcBy (Span a b) = BrokenKc
-kcBy (Stated n a) = BrokenKc
-kcBy (Party b) = BrokenKc
+abbrev pub kc_by : Reading → FirstKc
+kc_by (Paid a d) = Pays a d
+kc_by Broken = BrokenKc
+kc_by Plain = BrokenKc
+kc_by (Span a b) = BrokenKc
+kc_by (Stated n a) = BrokenKc
+kc_by (Party b) = BrokenKc
 
-abbrev pub kcOf : Option Reading → FirstKc
-kcOf none = NoKc
-kcOf (some r) = kcBy r
+abbrev pub kc_of : Option Reading → FirstKc
+kc_of none = NoKc
+kc_of (some r) = kc_by r
 
 -- its first IN
-abbrev pub spanBy : Reading → FirstIn
-spanBy (Span a b) = Runs a b
-spanBy Broken = BrokenIn
-spanBy Plain = BrokenIn
-spanBy (Paid a d) = BrokenIn
-spanBy (Stated n a) = BrokenIn
-spanBy (Party b) = BrokenIn
+abbrev pub span_by : Reading → FirstIn
+span_by (Span a b) = Runs a b
+span_by Broken = BrokenIn
+span_by Plain = BrokenIn
+span_by (Paid a d) = BrokenIn
+span_by (Stated n a) = BrokenIn
+span_by (Party b) = BrokenIn
 
 abbrev pub span_of : Option Reading → FirstIn
 span_of none = NoIn
-span_of (some r) = spanBy r
+span_of (some r) = span_by r
 
 -- its first Sd
-abbrev pub statedBy : Reading → FirstSum
-statedBy (Stated n a) = Says n a
-statedBy Broken = BrokenSum
-statedBy Plain = BrokenSum
-statedBy (Paid a d) = BrokenSum
-statedBy (Span a b) = BrokenSum
-statedBy (Party b) = BrokenSum
+abbrev pub stated_by : Reading → FirstSum
+stated_by (Stated n a) = Says n a
+stated_by Broken = BrokenSum
+stated_by Plain = BrokenSum
+stated_by (Paid a d) = BrokenSum
+stated_by (Span a b) = BrokenSum
+stated_by (Party b) = BrokenSum
 
-abbrev pub statedOf : Option Reading → FirstSum
-statedOf none = NoSum
-statedOf (some r) = statedBy r
+abbrev pub stated_of : Option Reading → FirstSum
+stated_of none = NoSum
+stated_of (some r) = stated_by r
 
 -- one for each group
-abbrev pub tenSums : (ℕ → Sum) → List Sum
-tenSums f = f 0 ∷ f 1 ∷ f 2 ∷ f 3 ∷ f 4 ∷ f 5 ∷ f 6 ∷ f 7 ∷ f 8 ∷ f 9 ∷ []
+abbrev pub ten_sums : (ℕ → Sum) → List Sum
+ten_sums f = f 0 ∷ f 1 ∷ f 2 ∷ f 3 ∷ f 4 ∷ f 5 ∷ f 6 ∷ f 7 ∷ f 8 ∷ f 9 ∷ []
 
 -- an item, as the rules at headings see it
 unfoldable pub digest : Item → Digest
 digest i =
     record {
       head = head_of i.head;
-      kc = kcOf (firstSaid (is (named "KC")) i.fields);
-      span = span_of (firstSaid (is (named "IN")) i.fields);
-      sums = record { groups = tenSums (λ d. record { stated = statedOf (firstSaid (is_group d) i.fields) }) };
+      kc = kc_of (first_said (is (named "KC")) i.fields);
+      span = span_of (first_said (is (named "IN")) i.fields);
+      sums = record { groups = ten_sums (λ d. record { stated = stated_of (first_said (is_group d) i.fields) }) };
     }

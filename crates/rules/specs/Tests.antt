@@ -11,9 +11,9 @@ abbrev pub ◌if◌ : ℕ → Bool → Test
 rule if broken = record { rule = rule; broken = broken }
 
 -- the broken rules, in the order of the tests
-abbrev pub brokenOf : List Test → List ℕ
-brokenOf [] = []
-brokenOf (t ∷ ts) = cond t.broken (t.rule ∷ brokenOf ts) (brokenOf ts)
+abbrev pub broken_of : List Test → List ℕ
+broken_of [] = []
+broken_of (t ∷ ts) = cond t.broken (t.rule ∷ broken_of ts) (broken_of ts)
 
 -- a line, and the tests of the rules there, by rule
 pub record Spot : Type 0 where

@@ -19,8 +19,8 @@ pub record File : Type 0 where
   pub loose : List (Owned FieldRow)
   pub items : List Item
 
-abbrev pub noLines : File
-noLines = record { top = []; loose = []; items = [] }
+abbrev pub no_lines : File
+no_lines = record { top = []; loose = []; items = [] }
 
 -- the item of a heading above a file
 abbrev pub item_of : Row → File → Item
@@ -34,5 +34,5 @@ field x ▹ f = record { top = []; loose = record { owner = x; below = f.top } �
 low l ▹ f = record { top = l ∷ f.top; loose = f.loose; items = f.items }
 
 abbrev pub tree : List Sorted → File
-tree [] = noLines
+tree [] = no_lines
 tree (l ∷ ls) = l ▹ tree ls

@@ -5,9 +5,9 @@ use Prim.Native.Nat.{ℕ}
 use lib.IntN.{ℤ}
 use Rattle.sheet_face.specs.Face.{OpenedAt, PostedAt}
 
-pub opened-unique : {codes : List ℕ} {before : List ℤ} {r r' : ℕ} {after after' : List ℤ} → OpenedAt codes before r after → OpenedAt codes before r' after' → (r ≡ r') × (after ≡ after')
-opened-unique C D = (C.number ∙ sym D.number, C.turnovers ∙ sym D.turnovers)
+pub opened_unique : {codes : List ℕ} {before : List ℤ} {r r' : ℕ} {after after' : List ℤ} → OpenedAt codes before r after → OpenedAt codes before r' after' → (r ≡ r') × (after ≡ after')
+opened_unique C D = (C.number ∙ sym D.number, C.turnovers ∙ sym D.turnovers)
 
-pub posted-unique : {codes : List ℕ} {before : List ℤ} {file : List ℕ} {code day r r' : ℕ} {after after' : List ℤ} → PostedAt codes before file code day r after → PostedAt codes before file code day r' after'
+pub posted_unique : {codes : List ℕ} {before : List ℤ} {file : List ℕ} {code day r r' : ℕ} {after after' : List ℤ} → PostedAt codes before file code day r after → PostedAt codes before file code day r' after'
     → (r ≡ r') × (after ≡ after')
-posted-unique C D = (C.number ∙ sym D.number, C.turnovers ∙ sym D.turnovers)
+posted_unique C D = (C.number ∙ sym D.number, C.turnovers ∙ sym D.turnovers)

@@ -6,7 +6,7 @@ use lib.ListN.{drop}
 use lib.IntN.{ℤ}
 use Rattle.showing.specs.Shown.{shown, Shows}
 
-pub show-unique : {before : List ℕ} {z : ℤ} {after after' : List ℕ} {r r' : ℕ} → Shows before z after r → Shows before z after' r' → (r ≡ r') × (after ≡ after')
-show-unique {before} {z} C D =
+pub show_unique : {before : List ℕ} {z : ℤ} {after after' : List ℕ} {r r' : ℕ} → Shows before z after r → Shows before z after' r' → (r ≡ r') × (after ≡ after')
+show_unique {before} {z} C D =
     let e = C.long ∙ sym D.long in
     (e, C.text ∙ ap (λ (n : ℕ). shown z ++ drop n before) e ∙ sym D.text)

@@ -6,7 +6,7 @@ use Rattle.shutting.specs.declared.Starts.{Starts}
 pub record Stands (off : ℕ → ℕ) (s : Starts) (head wait : ℕ) : Type 0 where
   pub none : off 0 ≡ 0
   pub at_head : off head ≡ s.head
-  pub at-wait : off wait ≡ s.wait
+  pub at_wait : off wait ≡ s.wait
 
 -- the line that waits then starts at a place
 abbrev pub WaitsAt : Starts → ℕ → ℕ → ℕ → ℕ → Type 0

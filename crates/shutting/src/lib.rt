@@ -1,12 +1,12 @@
 // What the pass does with lent memory. What is open closes: the field, and the item with its heading and the one that waits for rule 16 are
 // entered in the lent slices, each beside where its line starts; and an array keeps at which line each identifier last stood. Promised:
-// what is entered is what `byFaults` of `closing` says, and the third slice stays a function of the lines. It stands on `closing`, `judging` and
+// what is entered is what `by_faults` of `closing` says, and the third slice stays a function of the lines. It stands on `closing`, `judging` and
 // `ledger`.
 ghost use Rattle.std.specs.Prelude.{◌≡◌, ◌++◌, ◌-◌, ◌≤◌, ◌<◌, ◌^◌, ltb, length, get_or, set, replicate};
 ghost use Rattle.ledger.specs.Slices.{Ready, Entered, Kept};
 ghost use Rattle.ledger.specs.Marks.{marked};
-ghost use Rattle.closing.specs.Closing.{closeBy, byFaults, countsBy, sumsBy};
-ghost use Rattle.judging.specs.Opening.{readAs};
+ghost use Rattle.closing.specs.Closing.{close_by, by_faults, counts_by, sums_by};
+ghost use Rattle.judging.specs.Opening.{read_as};
 ghost use Rattle.shutting.specs.Starts.{Stands, WaitsAt, start_of};
 
 use blocks::Course;
@@ -71,8 +71,8 @@ pub fn count_item(
     h: Heading,
     kc: FirstKc,
 )
-    ensures counts_after { counts.new ≡ countsBy counts.old no (readAs reads h) kc }
-    ensures sums_after { sums.new ≡ sumsBy sums.old no (readAs reads h) kc }
+    ensures counts_after { counts.new ≡ counts_by counts.old no (read_as reads h) kc }
+    ensures sums_after { sums.new ≡ sums_by sums.old no (read_as reads h) kc }
 {
     if no == 0 {
         return;
@@ -101,8 +101,8 @@ fn shut_item(
     requires ready { Ready g.kept lines.old rules.old }
     requires lines_len { length lines.old ≡ length offsets.old }
     requires total_bound { (g.total < 2 ^ 62) × (w.marks < 2 ^ 41) × (own ≤ 18) × (groups ≤ 2 ^ 40 - 2 ^ 30) }
-    ensures entered { Entered (byFaults basis c w no own read kc span groups) g lines.old rules.old result.ledger lines.new rules.new }
-    ensures course_value { (result.course ≡ (closeBy basis c w no own read kc span groups).course) × (result.wait ≡ (closeBy basis c w no own read kc span groups).wait) × (result.wait.marks < 2 ^ 41) }
+    ensures entered { Entered (by_faults basis c w no own read kc span groups) g lines.old rules.old result.ledger lines.new rules.new }
+    ensures course_value { (result.course ≡ (close_by basis c w no own read kc span groups).course) × (result.wait ≡ (close_by basis c w no own read kc span groups).wait) × (result.wait.marks < 2 ^ 41) }
     ensures kept { Kept (λ off. Stands off starts no w.line) g.kept lines.old offsets.old result.ledger.kept lines.new offsets.new }
     ensures waits_at { WaitsAt starts no w.line result.wait.line result.start }
 {
@@ -142,8 +142,8 @@ pub fn shut_all(
     requires ready { Ready g.kept lines.old rules.old }
     requires lines_len { length lines.old ≡ length offsets.old }
     requires total_bound { (g.total < 2 ^ 61) × (w.marks < 2 ^ 41) × (own ≤ 18) × (groups ≤ 2 ^ 40 - 2 ^ 30) }
-    ensures entered { Entered (marked o.no o.marks ++ byFaults basis c w no own (readAs reads h) kc span groups) g lines.old rules.old result.ledger lines.new rules.new }
-    ensures course_value { (result.course ≡ (closeBy basis c w no own (readAs reads h) kc span groups).course) × (result.wait ≡ (closeBy basis c w no own (readAs reads h) kc span groups).wait) × (result.wait.marks < 2 ^ 41) }
+    ensures entered { Entered (marked o.no o.marks ++ by_faults basis c w no own (read_as reads h) kc span groups) g lines.old rules.old result.ledger lines.new rules.new }
+    ensures course_value { (result.course ≡ (close_by basis c w no own (read_as reads h) kc span groups).course) × (result.wait ≡ (close_by basis c w no own (read_as reads h) kc span groups).wait) × (result.wait.marks < 2 ^ 41) }
     ensures kept { Kept (λ off. (off o.no ≡ starts.field) × Stands off starts no w.line) g.kept lines.old offsets.old result.ledger.kept lines.new offsets.new }
     ensures waits_at { WaitsAt starts no w.line result.wait.line result.start }
 {

@@ -7,12 +7,12 @@ abbrev pub sign : ℕ → ℕ → List ℕ
 sign a b = 0x0d ∷ 0x0a ∷ a ∷ b ∷ 0x3a ∷ []
 
 -- a sign stands at a place
-abbrev pub standsAt : List ℕ → ℕ → ℕ → ℕ → Bool
-standsAt s a b i = begins (drop i s) (sign a b)
+abbrev pub stands_at : List ℕ → ℕ → ℕ → ℕ → Bool
+stands_at s a b i = begins (drop i s) (sign a b)
 
 -- none from i on and before j
 abbrev pub Quiet : List ℕ → ℕ → ℕ → ℕ → ℕ → Type 0
-Quiet s a b i j = (k : ℕ) → i ≤ k → k < j → standsAt s a b k ≡ false
+Quiet s a b i j = (k : ℕ) → i ≤ k → k < j → stands_at s a b k ≡ false
 
 -- at no place among the first n does a stand with b after it
 abbrev pub Apart : List ℕ → ℕ → ℕ → ℕ → Type 0
@@ -23,4 +23,4 @@ pub record IsSign (s : List ℕ) (a b at stop r : ℕ) : Type 0 where
   pub none : Quiet s a b at r
   pub from : at ≤ r
   pub to : r ≤ stop
-  pub there : r < stop → standsAt s a b r ≡ true
+  pub there : r < stop → stands_at s a b r ≡ true

@@ -2,7 +2,7 @@
 // letters, the colon. Each CR LF cuts, so a sign is always such a line. Promised by `sign_from`, for every text: the first place where a
 // sign stands (specs/Signs.antt). Stands on `text` for comparing.
 ghost use Rattle.std.specs.Prelude.{◌≡◌, true, false, ◌+◌, ◌<◌, ◌≤◌, length};
-ghost use Rattle.sign_finder.specs.Signs.{standsAt, Quiet, Apart, IsSign};
+ghost use Rattle.sign_finder.specs.Signs.{stands_at, Quiet, Apart, IsSign};
 
 // Whether two bytes stand in s, one after the other. A loop that only sets a flag is compiled to wide compares; one that stops early
 // is not.
@@ -36,7 +36,7 @@ fn is_quiet(s: &[u8], i: usize, a: u8, b: u8) -> bool
 // Whether a sign stands at a place. Most bytes are no CR.
 fn stands(s: &[u8], i: usize, a: u8, b: u8) -> bool
     requires { i < length s.now }
-    ensures { result ≡ standsAt s.now a b i }
+    ensures { result ≡ stands_at s.now a b i }
 {
     if s[i] != 0x0d {
         return false;

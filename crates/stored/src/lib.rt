@@ -7,7 +7,7 @@
 // Promised: a state that was stored reads back as itself; any numbers read as some state, and they are open only with the mark, which
 // closing takes away. It judges nothing; which states can go on is `portions`' to say.
 ghost use Rattle.std.specs.Prelude.{◌≡◌, cond, set};
-ghost use Rattle.stored.specs.Stored.{frame_of, stateIn, Puts};
+ghost use Rattle.stored.specs.Stored.{frame_of, state_in, Puts};
 
 use carried::Words;
 use going::Going;
@@ -26,7 +26,7 @@ pub fn state_in(
     small: &[u8; 19],
     text: &[u8; 68],
 ) -> Portions
-    ensures { result ≡ stateIn wide.now length narrow.now frame.now small.now text.now }
+    ensures { result ≡ state_in wide.now length narrow.now frame.now small.now text.now }
 {
     let words = Words {
         wide: *wide,

@@ -16,14 +16,14 @@ abbrev pub sum_of : ℤ → ℤ → Turnover
 sum_of t x = cond (beyond (t +ℤ x)) Beyond (Stands (t +ℤ x))
 
 -- a turnover with an amount more
-abbrev pub plusAt : List ℤ → ℕ → ℤ → List ℤ
-plusAt ts k x = set ts k (get_or ts k (pos 0) +ℤ x)
+abbrev pub plus_at : List ℤ → ℕ → ℤ → List ℤ
+plus_at ts k x = set ts k (get_or ts k (pos 0) +ℤ x)
 
 -- .. that stays where it would pass the limit
 abbrev pub added : List ℤ → ℕ → ℤ → List ℤ
-added ts k x = cond (beyond (get_or ts k (pos 0) +ℤ x)) ts (plusAt ts k x)
+added ts k x = cond (beyond (get_or ts k (pos 0) +ℤ x)) ts (plus_at ts k x)
 
 -- two turnovers with an amount more: whether one passes the limit, and the sheet where none does
 pub record AddsBoth (ts : List ℤ) (here there : ℕ) (x : ℤ) (r : Bool) (ts' : List ℤ) : Type 0 where
-  pub passes : r ≡ (beyond (get_or ts here (pos 0) +ℤ x) || beyond (get_or (plusAt ts here x) there (pos 0) +ℤ x))
-  pub sheet : r ≡ false → ts' ≡ plusAt (plusAt ts here x) there x
+  pub passes : r ≡ (beyond (get_or ts here (pos 0) +ℤ x) || beyond (get_or (plus_at ts here x) there (pos 0) +ℤ x))
+  pub sheet : r ≡ false → ts' ≡ plus_at (plus_at ts here x) there x

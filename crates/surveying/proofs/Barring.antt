@@ -3,75 +3,75 @@ use Prim.Native.Nat.{ℕ}
 use mathlib.Core.Path.{◌≡◌, refl, sym, ap, ◌∙◌}
 use mathlib.Core.Bool.{Bool, true, false, cond, ◌||◌, or-false, or_assoc}
 use mathlib.Core.List.{List, [], ◌∷◌, ◌++◌, map}
-use Rattle.laws.proofs.Truth.{by-test}
+use Rattle.laws.proofs.Truth.{by_test}
 use Rattle.laws.specs.Lists.{any_of}
 use Rattle.laws.proofs.Any.{or_left, or_right, any_append}
 use Rattle.headings.specs.declared.Read.{Read}
 use Rattle.headings.specs.declared.Read.TheVariants.{Reads, Unreadable}
 use Rattle.rules.specs.declared.Digest.{Digest}
 use Rattle.rules.specs.Terms.{Terms}
-use Rattle.rules.specs.Tests.{Test, ◌if◌, brokenOf}
+use Rattle.rules.specs.Tests.{Test, ◌if◌, broken_of}
 use Rattle.rules.specs.Tree.{Item}
 use Rattle.rules.specs.Said.{head_of, digest}
-use Rattle.rules.specs.HeadingRules.{rule6At}
+use Rattle.rules.specs.HeadingRules.{rule6_at}
 use Rattle.rules.specs.LineRules.{rule1, rule4}
-use Rattle.rules.specs.Spots.{ownTests, blockTests, rule16At, headTests, inner, items}
-use Rattle.vetting.specs.Vetting.{bars, anyBarred, itemBarred}
-use Rattle.vetting.proofs.Barring.{barred-both}
-use Rattle.surveying.specs.Model.{itemsBarred}
+use Rattle.rules.specs.Spots.{own_tests, block_tests, rule16_at, head_tests, inner, items}
+use Rattle.vetting.specs.Vetting.{bars, any_barred, item_barred}
+use Rattle.vetting.proofs.Barring.{barred_both}
+use Rattle.surveying.specs.Model.{items_barred}
 
 -- ---- tests of rules that bar nothing
-broken-append : (ts us : List Test) → brokenOf (ts ++ us) ≡ brokenOf ts ++ brokenOf us
-broken-append [] us = refl
-broken-append (t ∷ ts) us = by-test t.broken
-    (λ q. rw q (ap (λ (rs : List ℕ). t.rule ∷ rs) (broken-append ts us)))
-    (λ q. rw q (broken-append ts us))
+broken_append : (ts us : List Test) → broken_of (ts ++ us) ≡ broken_of ts ++ broken_of us
+broken_append [] us = refl
+broken_append (t ∷ ts) us = by_test t.broken
+    (λ q. rw q (ap (λ (rs : List ℕ). t.rule ∷ rs) (broken_append ts us)))
+    (λ q. rw q (broken_append ts us))
 
-abbrev ruleOf : Test → ℕ
-ruleOf t = t.rule
+abbrev rule_of : Test → ℕ
+rule_of t = t.rule
 
-idle : (ts : List Test) → any_of bars (map ruleOf ts) ≡ false → any_of bars (brokenOf ts) ≡ false
+idle : (ts : List Test) → any_of bars (map rule_of ts) ≡ false → any_of bars (broken_of ts) ≡ false
 unfolding any_of
 idle [] e = refl
 idle (t ∷ ts) e =
-    go t.broken (idle ts (or_right (bars t.rule) (any_of bars (map ruleOf ts)) e))
+    go t.broken (idle ts (or_right (bars t.rule) (any_of bars (map rule_of ts)) e))
   where
-    go : (b : Bool) → any_of bars (brokenOf ts) ≡ false → any_of bars (cond b (t.rule ∷ brokenOf ts) (brokenOf ts)) ≡ false
-    go true w = rw (or_left (bars t.rule) (any_of bars (map ruleOf ts)) e) w
+    go : (b : Bool) → any_of bars (broken_of ts) ≡ false → any_of bars (cond b (t.rule ∷ broken_of ts) (broken_of ts)) ≡ false
+    go true w = rw (or_left (bars t.rule) (any_of bars (map rule_of ts)) e) w
     go false w = w
 
-block-idle : (above : List Digest) (it : Digest) (h : Read) → any_of bars (brokenOf (blockTests above it h)) ≡ false
-unfolding any_of blockTests
-block-idle above it Unreadable = refl
-block-idle above it (Reads h) = idle (blockTests above it (Reads h)) refl
+block_idle : (above : List Digest) (it : Digest) (h : Read) → any_of bars (broken_of (block_tests above it h)) ≡ false
+unfolding any_of block_tests
+block_idle above it Unreadable = refl
+block_idle above it (Reads h) = idle (block_tests above it (Reads h)) refl
 
 -- what stands above and below an item plays no part
 module _ (terms : Terms) (i : Item) where
   abbrev own : List Test
-  own = ownTests terms (digest i) (head_of i.head)
+  own = own_tests terms (digest i) (head_of i.head)
 
   abbrev front : List Test
-  front = (1 if rule1 i.head.owner) ∷ (4 if rule4 i.head.owner) ∷ (6 if rule6At i.head) ∷ own
+  front = (1 if rule1 i.head.owner) ∷ (4 if rule4 i.head.owner) ∷ (6 if rule6_at i.head) ∷ own
 
-  rest-idle : (above below : List Item) → any_of bars (brokenOf ((16 if rule16At above i below) ∷ blockTests (map digest above) (digest i) (head_of i.head))) ≡ false
+  rest_idle : (above below : List Item) → any_of bars (broken_of ((16 if rule16_at above i below) ∷ block_tests (map digest above) (digest i) (head_of i.head))) ≡ false
   unfolding any_of
-  rest-idle above below = by-test (rule16At above i below)
-      (λ q. rw q (block-idle (map digest above) (digest i) (head_of i.head)))
-      (λ q. rw q (block-idle (map digest above) (digest i) (head_of i.head)))
+  rest_idle above below = by_test (rule16_at above i below)
+      (λ q. rw q (block_idle (map digest above) (digest i) (head_of i.head)))
+      (λ q. rw q (block_idle (map digest above) (digest i) (head_of i.head)))
 
-  pub head-alone : (above below : List Item) → any_of bars (brokenOf (headTests terms above i below)) ≡ any_of bars (brokenOf front)
-  unfolding headTests
-  head-alone above below =
-      let bs = (16 if rule16At above i below) ∷ blockTests (map digest above) (digest i) (head_of i.head) in
-      ap (any_of bars) (broken-append front bs)
-      ∙ any_append bars (brokenOf front) (brokenOf bs)
-      ∙ ap (λ (t : Bool). any_of bars (brokenOf front) || t) (rest-idle above below)
-      ∙ or-false (any_of bars (brokenOf front))
+  pub head_alone : (above below : List Item) → any_of bars (broken_of (head_tests terms above i below)) ≡ any_of bars (broken_of front)
+  unfolding head_tests
+  head_alone above below =
+      let bs = (16 if rule16_at above i below) ∷ block_tests (map digest above) (digest i) (head_of i.head) in
+      ap (any_of bars) (broken_append front bs)
+      ∙ any_append bars (broken_of front) (broken_of bs)
+      ∙ ap (λ (t : Bool). any_of bars (broken_of front) || t) (rest_idle above below)
+      ∙ or-false (any_of bars (broken_of front))
 
-pub items-barred : (terms : Terms) (above is : List Item) → anyBarred (items terms above is) ≡ itemsBarred terms is
-unfolding anyBarred itemsBarred itemBarred
-items-barred terms above [] = refl
-items-barred terms above (i ∷ is) =
-    ap (λ (t : Bool). any_of bars (brokenOf (headTests terms above i is)) || t) (barred-both (inner terms i) (items terms (i ∷ above) is) ∙ ap (λ (t : Bool). anyBarred (inner terms i) || t) (items-barred terms (i ∷ above) is))
-    ∙ ap (λ (t : Bool). t || (anyBarred (inner terms i) || itemsBarred terms is)) (head-alone terms i above is ∙ sym (head-alone terms i [] []))
-    ∙ sym (or_assoc (any_of bars (brokenOf (headTests terms [] i []))) (anyBarred (inner terms i)) (itemsBarred terms is))
+pub items_barred_lem : (terms : Terms) (above is : List Item) → any_barred (items terms above is) ≡ items_barred terms is
+unfolding any_barred items_barred item_barred
+items_barred_lem terms above [] = refl
+items_barred_lem terms above (i ∷ is) =
+    ap (λ (t : Bool). any_of bars (broken_of (head_tests terms above i is)) || t) (barred_both (inner terms i) (items terms (i ∷ above) is) ∙ ap (λ (t : Bool). any_barred (inner terms i) || t) (items_barred_lem terms (i ∷ above) is))
+    ∙ ap (λ (t : Bool). t || (any_barred (inner terms i) || items_barred terms is)) (head_alone terms i above is ∙ sym (head_alone terms i [] []))
+    ∙ sym (or_assoc (any_of bars (broken_of (head_tests terms [] i []))) (any_barred (inner terms i)) (items_barred terms is))

@@ -7,10 +7,10 @@ use mathlib.Core.List.{List}
 use lib.Dec.{eqb, ltb}
 use lib.ListN.{get_or, set}
 use borrow.Author.Tests.{eqb-true, eq-eqb, ne_eqb, ltb-true, ltb-false}
-use Rattle.laws.proofs.Truth.{by-test}
-use Rattle.group_sums.specs.Model.{plusAt}
+use Rattle.laws.proofs.Truth.{by_test}
+use Rattle.group_sums.specs.Model.{plus_at}
 use Rattle.account.specs.Summary.{ten}
-use Rattle.account.proofs.Ten.{get-ten, set-ten, same-ten, cap-cap}
+use Rattle.account.proofs.Ten.{get_ten, set_ten, same_ten, cap_cap}
 
 -- xs is a number for each group; with what is left, up to the cap, what all make
 pub record Tally (cap : ℕ) (left all : ℕ → ℕ) (xs : List ℕ) : Type 0 where
@@ -20,31 +20,31 @@ pub record Tally (cap : ℕ) (left all : ℕ → ℕ) (xs : List ℕ) : Type 0 w
   pub adds : (d : ℕ) → d < 10 → min cap (each d + left d) ≡ min cap (all d)
 
 -- at the start all is left
-pub tally-start : {cap : ℕ} {all : ℕ → ℕ} {xs : List ℕ} → xs ≡ ten (λ d. 0) → Tally cap all all xs
-tally-start {cap} {all} e = record { each = λ d. 0; held = e; capped = λ d. omega arith; adds = λ d l. ap (min cap) (let z : 0 + all d ≡ all d = omega arith in z) }
+pub tally_start : {cap : ℕ} {all : ℕ → ℕ} {xs : List ℕ} → xs ≡ ten (λ d. 0) → Tally cap all all xs
+tally_start {cap} {all} e = record { each = λ d. 0; held = e; capped = λ d. omega arith; adds = λ d l. ap (min cap) (let z : 0 + all d ≡ all d = omega arith in z) }
 
 -- at the end nothing is
-pub tally-end : {cap : ℕ} {left all : ℕ → ℕ} {xs : List ℕ} → Tally cap left all xs → ((d : ℕ) → left d ≡ 0) → xs ≡ ten (λ d. min cap (all d))
-tally-end {cap} {left} {all} {xs} t z =
-    t.held ∙ same-ten t.each (λ d. min cap (all d)) (λ d l. omega (arith, t.adds d l, t.capped d, z d))
+pub tally_end : {cap : ℕ} {left all : ℕ → ℕ} {xs : List ℕ} → Tally cap left all xs → ((d : ℕ) → left d ≡ 0) → xs ≡ ten (λ d. min cap (all d))
+tally_end {cap} {left} {all} {xs} t z =
+    t.held ∙ same_ten t.each (λ d. min cap (all d)) (λ d l. omega (arith, t.adds d l, t.capped d, z d))
 
 -- an amount more in group e, which was the first of what was left
-module _ {cap : ℕ} {left all : ℕ → ℕ} {xs xs' : List ℕ} (e u : ℕ) (left' : ℕ → ℕ) (t : Tally cap left all xs) (p : xs' ≡ plusAt cap xs e u)
+module _ {cap : ℕ} {left all : ℕ → ℕ} {xs xs' : List ℕ} (e u : ℕ) (left' : ℕ → ℕ) (t : Tally cap left all xs) (p : xs' ≡ plus_at cap xs e u)
     (h : (d : ℕ) → left d ≡ cond (eqb e d) (u + left' d) (left' d)) where
   abbrev next : ℕ → ℕ
   next d = cond (eqb e d) (min cap (t.each e + u)) (t.each d)
 
-  capped-on : (d : ℕ) → next d ≤ cap
-  capped-on d = by-test (eqb e d)
+  capped_on : (d : ℕ) → next d ≤ cap
+  capped_on d = by_test (eqb e d)
       (λ q. rw q (omega arith))
       (λ q. rw q (t.capped d))
 
   adds_on : (d : ℕ) → d < 10 → min cap (next d + left' d) ≡ min cap (all d)
-  adds_on d l = by-test (eqb e d)
+  adds_on d l = by_test (eqb e d)
       (λ q. rw q (
       let s : e ≡ d = eqb-true e d q in
       let w : left d ≡ u + left' d = h d ∙ ap (λ (b : Bool). cond b (u + left' d) (left' d)) q in
-      cap-cap cap (t.each e + u) (left' d)
+      cap_cap cap (t.each e + u) (left' d)
       ∙ ap (min cap) (let z : t.each e + u + left' d ≡ t.each d + left d = omega (arith, ap t.each s, w) in z)
       ∙ t.adds d l))
       (λ q. rw q (
@@ -55,16 +55,16 @@ module _ {cap : ℕ} {left all : ℕ → ℕ} {xs xs' : List ℕ} (e u : ℕ) (l
   apart d n = ap (λ (b : Bool). cond b (min cap (t.each e + u)) (t.each d)) (sym (ne_eqb e d (λ q. n (sym q))))
 
   held_on : xs' ≡ ten next
-  unfolding plusAt
+  unfolding plus_at
   held_on = p ∙ go (ltb e 10) refl
     where
       go : (b : Bool) → ltb e 10 ≡ b → cond b (set xs e (min cap (get_or xs e 0 + u))) xs ≡ ten next
       go true q =
           let l = ltb-true e 10 q in
           ap (λ (ys : List ℕ). set ys e (min cap (get_or ys e 0 + u))) t.held
-          ∙ ap (λ (v : ℕ). set (ten t.each) e (min cap (v + u))) (get-ten t.each e l)
-          ∙ set-ten t.each next e (min cap (t.each e + u)) l (ap (λ (b : Bool). cond b (min cap (t.each e + u)) (t.each e)) (eq-eqb e e refl)) apart
-      go false q = t.held ∙ same-ten t.each next (λ d l. apart d (λ z. omega (arith, z, l, ltb-false e 10 q)))
+          ∙ ap (λ (v : ℕ). set (ten t.each) e (min cap (v + u))) (get_ten t.each e l)
+          ∙ set_ten t.each next e (min cap (t.each e + u)) l (ap (λ (b : Bool). cond b (min cap (t.each e + u)) (t.each e)) (eq-eqb e e refl)) apart
+      go false q = t.held ∙ same_ten t.each next (λ d l. apart d (λ z. omega (arith, z, l, ltb-false e 10 q)))
 
-  pub tally-on : Tally cap left' all xs'
-  tally-on = record { each = next; held = held_on; capped = capped-on; adds = adds_on }
+  pub tally_on : Tally cap left' all xs'
+  tally_on = record { each = next; held = held_on; capped = capped_on; adds = adds_on }

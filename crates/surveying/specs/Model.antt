@@ -3,17 +3,17 @@ use Rattle.std.specs.Prelude.{ℕ, suc, ◌+◌, ◌≤◌, ◌<◌, min, ◌≡
 use Rattle.laws.specs.Lists.{sum}
 use Rattle.laws.specs.Refusals.{first}
 use Rattle.headings.specs.declared.Heading.{Heading}
-use Rattle.headings.specs.ItemTypes.{isPriority, group_of}
-use Rattle.turning.specs.Turning.{turned, turnRefusals}
-use Rattle.outcomes.specs.Deriving.{issueRefusals}
-use Rattle.rules.specs.Terms.{isCode, Terms}
+use Rattle.headings.specs.ItemTypes.{is_priority, group_of}
+use Rattle.turning.specs.Turning.{turned, turn_refusals}
+use Rattle.outcomes.specs.Deriving.{issue_refusals}
+use Rattle.rules.specs.Terms.{is_code, Terms}
 use Rattle.rules.specs.Tree.{Item}
-use Rattle.blocks.specs.Model.{countCap, sumCap}
-use Rattle.group_sums.specs.Model.{plusAt}
+use Rattle.blocks.specs.Model.{count_cap, sum_cap}
+use Rattle.group_sums.specs.Model.{plus_at}
 use Rattle.account.specs.Summary.{ten}
-use Rattle.item_reader.specs.Slips.{fileFrom, Headed}
-use Rattle.vetting.specs.Vetting.{itemBarred, ItemAt}
-use Rattle.outgoing_lines.specs.Outgoing.{Orders, asDerived, outcomeAt, standingAt, underived}
+use Rattle.item_reader.specs.Slips.{file_from, Headed}
+use Rattle.vetting.specs.Vetting.{item_barred, ItemAt}
+use Rattle.outgoing_lines.specs.Outgoing.{Orders, as_derived, outcome_at, standing_at, underived}
 use Rattle.surveying.specs.declared.Way.{Way}
 use Rattle.surveying.specs.declared.Way.TheVariants.{Nowhere, Goes}
 use Rattle.surveying.specs.declared.Step.{Step}
@@ -21,43 +21,43 @@ use Rattle.surveying.specs.declared.Step.TheVariants.{Stops, On}
 use Rattle.surveying.specs.declared.Lead.{Lead}
 use Rattle.surveying.specs.declared.Survey.{Survey}
 use Rattle.surveying.specs.declared.Survey.TheVariants.{NotSent, Sent}
-use Rattle.surveying.specs.Items.{items_of, headText, inKind, outKind, goesTo, isAlone, unsent, anyUnsent, mixes, anyMixes, amountsOut}
+use Rattle.surveying.specs.Items.{items_of, head_text, in_kind, out_kind, goes_to, is_alone, unsent, any_unsent, mixes, any_mixes, amounts_out}
 
 -- the refusals of deriving from a heading that reads
-abbrev pub refusalOf : Heading → ℕ → ℕ → ℕ → ℕ
-refusalOf h o p n = first (turnRefusals h (asDerived o) p ++ issueRefusals h.kind (record { 0 = n }) 54)
+abbrev pub refusal_of : Heading → ℕ → ℕ → ℕ → ℕ
+refusal_of h o p n = first (turn_refusals h (as_derived o) p ++ issue_refusals h.kind (record { 0 = n }) 54)
 
 -- the type and the recipient of the heading that is derived
 abbrev pub way_of : Heading → ℕ → ℕ → ℕ → Way
-way_of h o p n = cond (eqb (refusalOf h o p n) 0) (Goes (turned h (asDerived o)).kind (turned h (asDerived o)).second.0) Nowhere
+way_of h o p n = cond (eqb (refusal_of h o p n) 0) (Goes (turned h (as_derived o)).kind (turned h (as_derived o)).second.0) Nowhere
 
 -- a recipient is no participant, or not the first one's
 abbrev pub strays : ℕ → ℕ → Bool
-strays first to = not (isCode to) || not (eqb to first)
+strays first to = not (is_code to) || not (eqb to first)
 
 -- ---- one item, where k stand above it
 -- what goes with it
 pub record Asks (q : Orders) (k o p n : ℕ) : Type 0 where
-  pub outcome : outcomeAt q k ≡ o
-  pub standing : standingAt q k ≡ p
+  pub outcome : outcome_at q k ≡ o
+  pub standing : standing_at q k ≡ p
   pub number : q.start + k ≡ n
 
 module _ (q : Orders) (terms : Terms) (lead : Lead) (s : List ℕ) (at k : ℕ) (counts sums : List ℕ) where
   -- it is not sent
   abbrev pub StopsAt : ℕ → Type 0
-  StopsAt n = (i : Item) × (is : List Item) × ((fileFrom n (drop at s)).items ≡ i ∷ is) × ((itemBarred terms i || unsent q lead.to k i) ≡ true)
+  StopsAt n = (i : Item) × (is : List Item) × ((file_from n (drop at s)).items ≡ i ∷ is) × ((item_barred terms i || unsent q lead.to k i) ≡ true)
 
   -- it is: it counts in the group of its derived type, and the next one stands at `next`
   pub record GoesOn (next : ℕ) (other : Bool) (counts' sums' : List ℕ) (n : ℕ) : Type 0 where
     pub item : Item
     pub place : ItemAt s at next n item
-    pub clean : itemBarred terms item ≡ false
+    pub clean : item_barred terms item ≡ false
     pub sent : unsent q lead.to k item ≡ false
     pub mixing : other ≡ mixes q lead.priority lead.alone k item
     pub amount : ℕ
-    pub paid : (d : ℕ) (is : List Item) → amountsOut q d k (item ∷ is) ≡ cond (eqb (group_of (outKind q k item)) d) (amount ∷ amountsOut q d (suc k) is) (amountsOut q d (suc k) is)
-    pub counted : counts' ≡ plusAt countCap counts (group_of (outKind q k item)) 1
-    pub summed : sums' ≡ plusAt sumCap sums (group_of (outKind q k item)) amount
+    pub paid : (d : ℕ) (is : List Item) → amounts_out q d k (item ∷ is) ≡ cond (eqb (group_of (out_kind q k item)) d) (amount ∷ amounts_out q d (suc k) is) (amounts_out q d (suc k) is)
+    pub counted : counts' ≡ plus_at count_cap counts (group_of (out_kind q k item)) 1
+    pub summed : sums' ≡ plus_at sum_cap sums (group_of (out_kind q k item)) amount
 
   abbrev pub Steps : Step → List ℕ → List ℕ → Type 0
   Steps Stops counts' sums' = (n : ℕ) → StopsAt n
@@ -66,23 +66,23 @@ module _ (q : Orders) (terms : Terms) (lead : Lead) (s : List ℕ) (at k : ℕ) 
 
 -- ---- all of them
 -- a line of one of some items bars it
-unfoldable pub itemsBarred : Terms → List Item → Bool
-itemsBarred terms [] = false
-itemsBarred terms (i ∷ is) = itemBarred terms i || itemsBarred terms is
+unfoldable pub items_barred : Terms → List Item → Bool
+items_barred terms [] = false
+items_barred terms (i ∷ is) = item_barred terms i || items_barred terms is
 
 -- what a walk over all items finds, by what the first one says: that one is not sent; or else whether one is of another class, and the
 -- groups, as far as their caps
 abbrev pub Surveys : Orders → Terms → Lead → List ℕ → Survey → List ℕ → List ℕ → Type 0
-Surveys q terms lead s NotSent counts sums = (itemsBarred terms (items_of s) || anyUnsent q lead.to 0 (items_of s)) ≡ true
+Surveys q terms lead s NotSent counts sums = (items_barred terms (items_of s) || any_unsent q lead.to 0 (items_of s)) ≡ true
 Surveys q terms lead s (Sent other) counts sums =
-    ((itemsBarred terms (items_of s) || anyUnsent q lead.to 0 (items_of s)) ≡ false)
-    × (other ≡ anyMixes q lead.priority lead.alone 0 (items_of s))
-    × (counts ≡ ten (λ d. min countCap (length (amountsOut q d 0 (items_of s)))))
-    × (sums ≡ ten (λ d. min sumCap (sum (amountsOut q d 0 (items_of s)))))
+    ((items_barred terms (items_of s) || any_unsent q lead.to 0 (items_of s)) ≡ false)
+    × (other ≡ any_mixes q lead.priority lead.alone 0 (items_of s))
+    × (counts ≡ ten (λ d. min count_cap (length (amounts_out q d 0 (items_of s)))))
+    × (sums ≡ ten (λ d. min sum_cap (sum (amounts_out q d 0 (items_of s)))))
 
 -- what the first item says, where deriving does not refuse it
 abbrev pub Leads : Orders → List Item → Lead → Type 0
 Leads q [] lead = Unit {0}
 Leads q (i ∷ is) lead =
-    underived q 0 (headText i) ≡ false
-    → (lead.to ≡ goesTo q 0 i) × (lead.priority ≡ isPriority (inKind i)) × (lead.alone ≡ isAlone (outKind q 0 i))
+    underived q 0 (head_text i) ≡ false
+    → (lead.to ≡ goes_to q 0 i) × (lead.priority ≡ is_priority (in_kind i)) × (lead.alone ≡ is_alone (out_kind q 0 i))

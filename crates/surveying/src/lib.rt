@@ -6,11 +6,11 @@ ghost use Rattle.std.specs.Prelude.{◌≡◌, ◌+◌, ◌≤◌, ◌<◌, min,
 ghost use Rattle.text.specs.Characters.{answers};
 ghost use Rattle.rules.specs.Terms.{Terms, input};
 ghost use Rattle.rules.specs.BlockRules.{unlike};
-ghost use Rattle.own_rules.specs.Model.{basisOf};
+ghost use Rattle.own_rules.specs.Model.{basis_of};
 ghost use Rattle.item_reader.specs.Slips.{Headed};
 ghost use Rattle.vetting.specs.Vetting.{Stamped};
 ghost use Rattle.outgoing_lines.specs.Outgoing.{Orders};
-ghost use Rattle.surveying.specs.Items.{isAlone, items_of};
+ghost use Rattle.surveying.specs.Items.{is_alone, items_of};
 ghost use Rattle.surveying.specs.Model.{strays, way_of, Asks, Steps, Surveys, Leads};
 
 use group_sums::add_amount;
@@ -52,7 +52,7 @@ pub enum Survey {
 }
 
 fn is_alone(kind: u32) -> bool
-    ensures { result ≡ isAlone kind }
+    ensures { result ≡ is_alone kind }
 {
     (kind == 44) | (kind == 84)
 }
@@ -107,7 +107,7 @@ fn one_item(
 ) -> Step
     requires { (table.now ≡ answers) × (at < length s.now) × Headed s.now at × Stamped stood.old (k + 1) × (k < 30000) }
     ensures stamped { Stamped stood.new (k + 2) }
-    ensures steps { (q : Orders) (terms : Terms) → basis ≡ basisOf terms → Asks q k outcome standing number → Steps q terms lead s.now at k counts.old sums.old result counts.new sums.new }
+    ensures steps { (q : Orders) (terms : Terms) → basis ≡ basis_of terms → Asks q k outcome standing number → Steps q terms lead s.now at k counts.old sums.old result counts.new sums.new }
 {
     match take_item(table, stood, s, at, k + 1, basis) {
         Taken::Barred => Step::Stops,

@@ -9,12 +9,12 @@ use native.Mathlib.Omega.{arith}
 use lib.Dec.{leb, eqb}
 use lib.ListN.{length}
 use borrow.Author.Tests.{leb-true, leb-false, ne_eqb, eqb-true}
-use Rattle.text.specs.Digits.{digits, valueAfter, value}
+use Rattle.text.specs.Digits.{digits, value_after, value}
 use Rattle.text.specs.Decimals.{bare, decimal}
-use Rattle.text.proofs.Widths.{read-written, length_digits}
+use Rattle.text.proofs.Widths.{read_written, length_digits}
 
-ten-pos : (n : ℕ) → 0 < 10 ^ n
-ten-pos n = one-le-pow n 10 (omega arith)
+ten_pos : (n : ℕ) → 0 < 10 ^ n
+ten_pos n = one-le-pow n 10 (omega arith)
 
 -- a zero in front goes
 shed : (n v : ℕ) → v < 10 ^ suc n → bare (digits (suc (suc n)) v) ≡ bare (digits (suc n) v)
@@ -25,73 +25,73 @@ shed n v h = rw (div-eq_of_lt h)
 full : (n v : ℕ) → 10 ^ suc n ≤ v → v < 10 ^ suc (suc n) → bare (digits (suc (suc n)) v) ≡ digits (suc (suc n)) v
 unfolding digits bare
 full n v l h =
-    let one : 1 ≤ v / 10 ^ suc n = (le-div_iff_mul-le (ten-pos (suc n))).1 (omega arith) in
-    let ten : v / 10 ^ suc n < 10 = (div-lt_iff_lt-mul (ten-pos (suc n))).1 (rw pow-succ' at h) in
+    let one : 1 ≤ v / 10 ^ suc n = (le-div_iff_mul-le (ten_pos (suc n))).1 (omega arith) in
+    let ten : v / 10 ^ suc n < 10 = (div-lt_iff_lt-mul (ten_pos (suc n))).1 (rw pow-succ' at h) in
     rw (ne_eqb (48 + v / 10 ^ suc n % 10) 48 (λ e. omega (arith, mod-eq_of_lt ten)))
 
-shed-all : (k n v : ℕ) → v < 10 ^ suc n → bare (digits (suc (k + n)) v) ≡ bare (digits (suc n) v)
-shed-all zero n v h = rw zero-add
-shed-all (suc k) n v h =
+shed_all : (k n v : ℕ) → v < 10 ^ suc n → bare (digits (suc (k + n)) v) ≡ bare (digits (suc n) v)
+shed_all zero n v h = rw zero-add
+shed_all (suc k) n v h =
     let e : suc n ≤ suc (k + n) = omega arith in
-    rw suc-add (shed (k + n) v (omega (arith, pow-le-pow_right {n = 10} (omega arith) e)) ∙ shed-all k n v h)
+    rw suc-add (shed (k + n) v (omega (arith, pow-le-pow_right {n = 10} (omega arith) e)) ∙ shed_all k n v h)
 
 -- 20 stands for any width that holds the number
-width-free : (n v : ℕ) → n ≤ 19 → v < 10 ^ suc n → decimal v ≡ bare (digits (suc n) v)
+width_free : (n v : ℕ) → n ≤ 19 → v < 10 ^ suc n → decimal v ≡ bare (digits (suc n) v)
 unfolding decimal
-width-free n v l h =
+width_free n v l h =
     let e : 20 ≡ suc (19 - n + n) = omega arith in
-    ap (λ (m : ℕ). bare (digits m v)) e ∙ shed-all (19 - n) n v h
+    ap (λ (m : ℕ). bare (digits m v)) e ∙ shed_all (19 - n) n v h
 
 -- at the least width that holds the number there is no zero in front, but for the one digit of 0
-pub least-width : (n v : ℕ) → 1 ≤ n → n ≤ 20 → v < 10 ^ n → (1 < n → 10 ^ (n - 1) ≤ v) → digits n v ≡ decimal v
+pub least_width : (n v : ℕ) → 1 ≤ n → n ≤ 20 → v < 10 ^ n → (1 < n → 10 ^ (n - 1) ≤ v) → digits n v ≡ decimal v
 unfolding bare digits
-least-width zero v o l h f = absurd (omega arith)
-least-width (suc zero) v o l h f = sym (width-free 0 v (omega arith) h)
-least-width (suc (suc n)) v o l h f =
+least_width zero v o l h f = absurd (omega arith)
+least_width (suc zero) v o l h f = sym (width_free 0 v (omega arith) h)
+least_width (suc (suc n)) v o l h f =
     let e : suc (suc n) - 1 ≡ suc n = omega arith in
-    sym (width-free (suc n) v (omega arith) h ∙ full n v (rw e at (f (omega arith))) h)
+    sym (width_free (suc n) v (omega arith) h ∙ full n v (rw e at (f (omega arith))) h)
 
 -- ---- how long it is
 
-bare-length : (bs : List ℕ) → length (bare bs) ≤ length bs
+bare_length : (bs : List ℕ) → length (bare bs) ≤ length bs
 unfolding bare
-bare-length [] = omega arith
-bare-length (b ∷ []) = omega arith
-bare-length (b ∷ d ∷ bs) = go (eqb b 48) (bare-length (d ∷ bs))
+bare_length [] = omega arith
+bare_length (b ∷ []) = omega arith
+bare_length (b ∷ d ∷ bs) = go (eqb b 48) (bare_length (d ∷ bs))
   where
     go : (t : Bool) → length (bare (d ∷ bs)) ≤ length (d ∷ bs) → length (cond t (bare (d ∷ bs)) (b ∷ d ∷ bs)) ≤ length (b ∷ d ∷ bs)
     go true h = omega (arith, h)
     go false h = omega arith
 
-pub decimal-length : (v : ℕ) → length (decimal v) ≤ 20
+pub decimal_length : (v : ℕ) → length (decimal v) ≤ 20
 unfolding decimal
-decimal-length v = omega (arith, bare-length (digits 20 v), length_digits 20 v)
+decimal_length v = omega (arith, bare_length (digits 20 v), length_digits 20 v)
 
 -- .. so 20 bytes have room for it
 pub room_for : (v at n : ℕ) → at + 20 ≤ n → at + length (decimal v) ≤ n
-room_for v at n h = omega (arith, h, decimal-length v)
+room_for v at n h = omega (arith, h, decimal_length v)
 
 -- .. no longer than a width that holds the number
-pub decimal-within : (n v : ℕ) → n ≤ 19 → v < 10 ^ suc n → length (decimal v) ≤ suc n
-decimal-within n v l h = omega (arith, ap length (width-free n v l h), bare-length (digits (suc n) v), length_digits (suc n) v)
+pub decimal_within : (n v : ℕ) → n ≤ 19 → v < 10 ^ suc n → length (decimal v) ≤ suc n
+decimal_within n v l h = omega (arith, ap length (width_free n v l h), bare_length (digits (suc n) v), length_digits (suc n) v)
 
 -- ---- what it stands for
 
 -- zeros in front add nothing
-bare-value : (bs : List ℕ) → value (bare bs) ≡ value bs
-unfolding bare valueAfter
-bare-value [] = refl
-bare-value (b ∷ []) = refl
-bare-value (b ∷ d ∷ bs) = go (eqb b 48) refl (bare-value (d ∷ bs))
+bare_value : (bs : List ℕ) → value (bare bs) ≡ value bs
+unfolding bare value_after
+bare_value [] = refl
+bare_value (b ∷ []) = refl
+bare_value (b ∷ d ∷ bs) = go (eqb b 48) refl (bare_value (d ∷ bs))
   where
     go : (t : Bool) → eqb b 48 ≡ t → value (bare (d ∷ bs)) ≡ value (d ∷ bs) → value (cond t (bare (d ∷ bs)) (b ∷ d ∷ bs)) ≡ value (b ∷ d ∷ bs)
     go true e r = r ∙ rw (eqb-true b 48 e)
     go false e r = refl
 
 -- reading a number written without zeros in front gives it back
-pub decimal-value : (v : ℕ) → v < 10 ^ 20 → value (decimal v) ≡ v
+pub decimal_value : (v : ℕ) → v < 10 ^ 20 → value (decimal v) ≡ v
 unfolding decimal
-decimal-value v h = bare-value (digits 20 v) ∙ read-written 20 v h
+decimal_value v h = bare_value (digits 20 v) ∙ read_written 20 v h
 
 -- ---- the loop that counts the digits
 
@@ -102,13 +102,13 @@ pub record Counted (v n rest : ℕ) : Type 0 where
   pub left : rest ≡ v / 10 ^ n
   pub high : 1 < n → 10 ^ (n - 1) ≤ v
 
-pub counted-one : (v : ℕ) → Counted v 1 (v / 10)
-counted-one v = record { some = omega arith; few = omega arith; left = refl; high = λ l. absurd (omega arith) }
+pub counted_one : (v : ℕ) → Counted v 1 (v / 10)
+counted_one v = record { some = omega arith; few = omega arith; left = refl; high = λ l. absurd (omega arith) }
 
-pub counted-more : (v n rest : ℕ) → v < 10 ^ 20 → Counted v n rest → 0 < rest → Counted v (n + 1) (rest / 10)
-counted-more v n rest w k p =
+pub counted_more : (v n rest : ℕ) → v < 10 ^ 20 → Counted v n rest → 0 < rest → Counted v (n + 1) (rest / 10)
+counted_more v n rest w k p =
     let l : 1 ≤ v / 10 ^ n = omega (arith, k.left) in
-    let h : 10 ^ n ≤ v = omega (arith, (le-div_iff_mul-le (ten-pos n)).0 l) in
+    let h : 10 ^ n ≤ v = omega (arith, (le-div_iff_mul-le (ten_pos n)).0 l) in
     let e : n + 1 - 1 ≡ n = omega arith in
     record {
       some = omega arith;
@@ -121,8 +121,8 @@ counted-more v n rest w k p =
     go h true q = omega (arith, leb-true n 19 q)
     go h false q = let g : 20 ≤ n = leb-false n 19 q in absurd (omega (arith, pow-le-pow_right {n = 10} (omega arith) g))
 
-pub counted-all : (v n rest : ℕ) → Counted v n rest → rest ≤ 0 → (n ≤ 20) × (digits n v ≡ decimal v)
-counted-all v n rest k z =
+pub counted_all : (v n rest : ℕ) → Counted v n rest → rest ≤ 0 → (n ≤ 20) × (digits n v ≡ decimal v)
+counted_all v n rest k z =
     let l : v / 10 ^ n < 1 = omega (arith, k.left) in
-    let h : v < 10 ^ n = omega (arith, (div-lt_iff_lt-mul (ten-pos n)).0 l) in
-    (k.few, least-width n v k.some k.few h k.high)
+    let h : v < 10 ^ n = omega (arith, (div-lt_iff_lt-mul (ten_pos n)).0 l) in
+    (k.few, least_width n v k.some k.few h k.high)

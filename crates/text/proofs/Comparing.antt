@@ -34,8 +34,8 @@ module _ (s x : List ℕ) (i : ℕ) (known : begins (drop i s) (drop i x) ≡ be
   whole h = rw (drop_of_length-le x h) at known
 
 -- a text that begins with another is as long
-pub begins-length : (s x : List ℕ) → begins s x ≡ true → length x ≤ length s
+pub begins_length : (s x : List ℕ) → begins s x ≡ true → length x ≤ length s
 unfolding begins
-begins-length s [] e = omega arith
-begins-length [] (b ∷ x) e = absurd (false≢true e)
-begins-length (a ∷ s) (b ∷ x) e = omega (arith, begins-length s x (both_right (eqb a b) (begins s x) e))
+begins_length s [] e = omega arith
+begins_length [] (b ∷ x) e = absurd (false≢true e)
+begins_length (a ∷ s) (b ∷ x) e = omega (arith, begins_length s x (both_right (eqb a b) (begins s x) e))

@@ -21,14 +21,14 @@ twice false true c = refl
 twice false false c = refl
 
 module _ (f : ℕ → Bool) where
-  none-append : (s t : List ℕ) {a b : Bool} → a ≡ not (any_of f s) → b ≡ not (any_of f t) → (a && b) ≡ not (any_of f (s ++ t))
-  none-append s t p q = ap₂ (λ (x y : Bool). x && y) p q ∙ neither (any_of f s) (any_of f t) ∙ ap not (sym (any_append f s t))
+  none_append : (s t : List ℕ) {a b : Bool} → a ≡ not (any_of f s) → b ≡ not (any_of f t) → (a && b) ≡ not (any_of f (s ++ t))
+  none_append s t p q = ap₂ (λ (x y : Bool). x && y) p q ∙ neither (any_of f s) (any_of f t) ∙ ap not (sym (any_append f s t))
 
   -- the element at n, after the n before it
   pub none_more : (s : List ℕ) (n : ℕ) {a b : Bool} → n < length s → a ≡ not (any_of f (take n s)) → b ≡ not (f (get_or s n 0)) → (a && b) ≡ not (any_of f (take (suc n) s))
   unfolding any_of
   none_more s n h p q =
-      none-append (take n s) (get_or s n 0 ∷ []) p (q ∙ ap not (sym (or-false (f (get_or s n 0))))) ∙ ap (λ (l : List ℕ). not (any_of f l)) (sym (take-suc s n 0 h))
+      none_append (take n s) (get_or s n 0 ∷ []) p (q ∙ ap not (sym (or-false (f (get_or s n 0))))) ∙ ap (λ (l : List ℕ). not (any_of f l)) (sym (take-suc s n 0 h))
 
   -- the same from i on
   pub none_from : (s : List ℕ) (i n : ℕ) {a b : Bool} → i + n < length s → a ≡ not (any_of f (take n (drop i s))) → b ≡ not (f (get_or s (i + n) 0)) → (a && b) ≡ not (any_of f (take (suc n) (drop i s)))
@@ -38,12 +38,12 @@ module _ (f : ℕ → Bool) where
   unfolding any_of
   none_first s i h q = none_from s i 0 (rw add-zero h) refl (rw add-zero q)
 
-  pub none-all : (s : List ℕ) (i : ℕ) {a : Bool} → length s ≤ i → a ≡ not (any_of f (take i s)) → not a ≡ any_of f s
-  none-all s i h p = ap not p ∙ not-not _ ∙ ap (any_of f) (take_all i s h)
+  pub none_all : (s : List ℕ) (i : ℕ) {a : Bool} → length s ≤ i → a ≡ not (any_of f (take i s)) → not a ≡ any_of f s
+  none_all s i h p = ap not p ∙ not-not _ ∙ ap (any_of f) (take_all i s h)
 
   -- up to i, and n from j on, which begin at or before i: up to j + n
-  pub none-on : (s : List ℕ) (i j n : ℕ) {a b : Bool} → j ≤ i → i ≤ j + n → a ≡ not (any_of f (take i s)) → b ≡ not (any_of f (take n (drop j s))) → (a && b) ≡ not (any_of f (take (j + n) s))
-  none-on s i j n h k p q =
+  pub none_on : (s : List ℕ) (i j n : ℕ) {a b : Bool} → j ≤ i → i ≤ j + n → a ≡ not (any_of f (take i s)) → b ≡ not (any_of f (take n (drop j s))) → (a && b) ≡ not (any_of f (take (j + n) s))
+  none_on s i j n h k p q =
       let u : j + (i - j) ≡ i = omega arith in
       let v : (i - j) + (n - (i - j)) ≡ n = omega arith in
       let front = ap (λ (m : ℕ). any_of f (take m s)) (sym u) ∙ parts s j (i - j) in

@@ -9,20 +9,20 @@ use native.Mathlib.Omega.{arith}
 use lib.ListN.{length, drop, get_or, drop_of_length-le}
 use lib.Seq.{drop-cons}
 use lib.Arith.{digits_lt}
-use Rattle.text.specs.Digits.{allDigits, valueAfter, value}
-use Rattle.text.proofs.Widths.{digit-parts}
+use Rattle.text.specs.Digits.{all_are_digits, value_after, value}
+use Rattle.text.proofs.Widths.{digit_parts}
 
 module _ (s : List ℕ) (i : ℕ) (h : i < length s) where
-  pub digit-next : allDigits (drop i s) ≡ true → (48 ≤ get_or s i 0) × (get_or s i 0 ≤ 57) × (allDigits (drop (i + 1) s) ≡ true)
-  digit-next e = rw add-one (digit-parts (get_or s i 0) (drop (suc i) s) (rw (← drop-cons s i 0 h) e))
+  pub digit_next : all_are_digits (drop i s) ≡ true → (48 ≤ get_or s i 0) × (get_or s i 0 ≤ 57) × (all_are_digits (drop (i + 1) s) ≡ true)
+  digit_next e = rw add-one (digit_parts (get_or s i 0) (drop (suc i) s) (rw (← drop-cons s i 0 h) e))
 
-  pub value-next : (v : ℕ) → value s ≡ valueAfter v (drop i s) → value s ≡ valueAfter (v * 10 + (get_or s i 0 - 48)) (drop (i + 1) s)
-  unfolding valueAfter
-  value-next v known = known ∙ rw (add-one, drop-cons s i 0)
+  pub value_next : (v : ℕ) → value s ≡ value_after v (drop i s) → value s ≡ value_after (v * 10 + (get_or s i 0 - 48)) (drop (i + 1) s)
+  unfolding value_after
+  value_next v known = known ∙ rw (add-one, drop-cons s i 0)
 
-pub value-done : (s : List ℕ) (i v : ℕ) → value s ≡ valueAfter v (drop i s) → length s ≤ i → v ≡ value s
-unfolding valueAfter
-value-done s i v known h = sym (known ∙ rw (drop_of_length-le s h))
+pub value_done : (s : List ℕ) (i v : ℕ) → value s ≡ value_after v (drop i s) → length s ≤ i → v ≡ value s
+unfolding value_after
+value_done s i v known h = sym (known ∙ rw (drop_of_length-le s h))
 
 pub grows : (v i d : ℕ) → v < 10 ^ i → d < 10 → v * 10 + d < 10 ^ (i + 1)
 grows v i d h k = rw (add-one, pow-succ', mul_comm 10) (digits_lt h k)

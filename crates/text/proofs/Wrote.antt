@@ -5,11 +5,11 @@ use Prim.Native.Nat.{ℕ, ◌+◌, ◌≤◌}
 use native.Mathlib.Omega.{arith}
 use lib.ListN.{length, length-append}
 use lib.Seq.{paste, take-length}
-use Rattle.laws.proofs.Put.{put_is, length-put, put_both}
+use Rattle.laws.proofs.Put.{put_is, length_put, put_both}
 use Rattle.text.specs.Strings.{Wrote}
 
 pub same_length : {before : List ℕ} {at : ℕ} {text after : List ℕ} {end : ℕ} → Wrote before at text after end → length after ≡ length before
-same_length {before} {at} {text} w = ap length w.holds ∙ length-put before at text w.room
+same_length {before} {at} {text} w = ap length w.holds ∙ length_put before at text w.room
 
 pub then : {before : List ℕ} {at : ℕ} {a mid : List ℕ} {next : ℕ} {b after : List ℕ} {end : ℕ} → Wrote before at a mid next → Wrote mid next b after end → Wrote before at (a ++ b) after end
 then {before} {at} {a} {mid} {next} {b} {after} {end} v w = record {

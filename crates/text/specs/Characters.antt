@@ -16,16 +16,16 @@ others =
     0xE0 ∷ 0xE2 ∷ 0xE5 ∷ 0xE6 ∷ 0xE7 ∷ 0xE8 ∷ 0xE9 ∷ 0xEA ∷ 0xEC ∷ 0xED ∷
     0xFC ∷ 0xFD ∷ []
 
-unfoldable pub isAdmissible : ℕ → Bool
-isAdmissible b = is_plain b || among b others
+unfoldable pub is_admissible : ℕ → Bool
+is_admissible b = is_plain b || among b others
 
-abbrev pub isInadmissible : ℕ → Bool
-isInadmissible b = not (isAdmissible b)
+abbrev pub is_inadmissible : ℕ → Bool
+is_inadmissible b = not (is_admissible b)
 
 -- not plain: a byte that may be inadmissible
-abbrev pub isOdd : ℕ → Bool
-isOdd b = not (is_plain b)
+abbrev pub is_odd : ℕ → Bool
+is_odd b = not (is_plain b)
 
 -- the answer for each byte
 unfoldable pub answers : List Bool
-answers = tabulate isAdmissible 0 256
+answers = tabulate is_admissible 0 256

@@ -1,21 +1,21 @@
 -- Numbers as digits, at every width.
 use Rattle.std.specs.Prelude.{ℕ, zero, suc, ◌+◌, ◌-◌, ◌*◌, ◌/◌, ◌%◌, ◌^◌, Bool, true, ◌&&◌, List, [], ◌∷◌, leb}
 
-abbrev pub isDigit : ℕ → Bool
-isDigit b = leb 48 b && leb b 57
+abbrev pub is_digit : ℕ → Bool
+is_digit b = leb 48 b && leb b 57
 
-unfoldable pub allDigits : List ℕ → Bool
-allDigits [] = true
-allDigits (b ∷ bs) = isDigit b && allDigits bs
+unfoldable pub all_are_digits : List ℕ → Bool
+all_are_digits [] = true
+all_are_digits (b ∷ bs) = is_digit b && all_are_digits bs
 
 -- the number that digits stand for, where those before them stand for v
-unfoldable pub valueAfter : ℕ → List ℕ → ℕ
-valueAfter v [] = v
-valueAfter v (b ∷ bs) = valueAfter (v * 10 + (b - 48)) bs
+unfoldable pub value_after : ℕ → List ℕ → ℕ
+value_after v [] = v
+value_after v (b ∷ bs) = value_after (v * 10 + (b - 48)) bs
 
 -- the number that digits stand for
 abbrev pub value : List ℕ → ℕ
-value bs = valueAfter 0 bs
+value bs = value_after 0 bs
 
 -- the last n digits of v
 unfoldable pub digits : ℕ → ℕ → List ℕ

@@ -1,6 +1,6 @@
 -- Texts in a fixed layout: which texts have it, the numbers of such a text, and the text of such numbers.
 use Rattle.std.specs.Prelude.{ℕ, ◌^◌, Bool, true, false, ◌&&◌, ◌||◌, List, [], ◌∷◌, ◌++◌, length, take, drop, replicate, ltb, eqb}
-use Rattle.text.specs.Digits.{isDigit, value, digits}
+use Rattle.text.specs.Digits.{is_digit, value, digits}
 
 -- a layout is a list of pieces: bytes that stand there, and numbers of so many digits
 pub data Piece : Type 0 where
@@ -14,15 +14,15 @@ template (fixed l ∷ ps) = l ++ template ps
 template (padded n ∷ ps) = replicate n 48 ++ template ps
 
 -- each byte of a template stands for itself, and 0 for any digit
-abbrev pub fitsByte : ℕ → ℕ → Bool
-fitsByte t b = eqb b t || (eqb t 48 && isDigit b)
+abbrev pub fits_byte : ℕ → ℕ → Bool
+fits_byte t b = eqb b t || (eqb t 48 && is_digit b)
 
 -- a text has a template's form, byte by byte
-unfoldable pub hasForm : List ℕ → List ℕ → Bool
-hasForm [] [] = true
-hasForm [] (b ∷ bs) = false
-hasForm (t ∷ ts) [] = false
-hasForm (t ∷ ts) (b ∷ bs) = fitsByte t b && hasForm ts bs
+unfoldable pub has_form : List ℕ → List ℕ → Bool
+has_form [] [] = true
+has_form [] (b ∷ bs) = false
+has_form (t ∷ ts) [] = false
+has_form (t ∷ ts) (b ∷ bs) = fits_byte t b && has_form ts bs
 
 -- the number that the n digits from a place on stand for
 abbrev pub part_at : List ℕ → ℕ → ℕ → ℕ
@@ -35,16 +35,16 @@ numbers (fixed l ∷ ps) s = numbers ps (drop (length l) s)
 numbers (padded n ∷ ps) s = value (take n s) ∷ numbers ps (drop n s)
 
 -- there is a number for each place, and each fits its digits
-unfoldable pub numbersFit : List Piece → List ℕ → Bool
-numbersFit [] [] = true
-numbersFit [] (v ∷ vs) = false
-numbersFit (fixed l ∷ ps) vs = numbersFit ps vs
-numbersFit (padded n ∷ ps) [] = false
-numbersFit (padded n ∷ ps) (v ∷ vs) = ltb v (10 ^ n) && numbersFit ps vs
+unfoldable pub numbers_fit : List Piece → List ℕ → Bool
+numbers_fit [] [] = true
+numbers_fit [] (v ∷ vs) = false
+numbers_fit (fixed l ∷ ps) vs = numbers_fit ps vs
+numbers_fit (padded n ∷ ps) [] = false
+numbers_fit (padded n ∷ ps) (v ∷ vs) = ltb v (10 ^ n) && numbers_fit ps vs
 
 -- the text of numbers in a layout
-unfoldable pub formText : List Piece → List ℕ → List ℕ
-formText [] vs = []
-formText (fixed l ∷ ps) vs = l ++ formText ps vs
-formText (padded n ∷ ps) [] = digits n 0 ++ formText ps []
-formText (padded n ∷ ps) (v ∷ vs) = digits n v ++ formText ps vs
+unfoldable pub form_text : List Piece → List ℕ → List ℕ
+form_text [] vs = []
+form_text (fixed l ∷ ps) vs = l ++ form_text ps vs
+form_text (padded n ∷ ps) [] = digits n 0 ++ form_text ps []
+form_text (padded n ∷ ps) (v ∷ vs) = digits n v ++ form_text ps vs

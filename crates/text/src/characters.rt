@@ -1,7 +1,7 @@
 // Admissible bytes (document 01; 000, 2.1): one test, the table of all answers, and the look over a part of a slice.
 ghost use Rattle.std.specs.Prelude.{◌≡◌, not, ◌&&◌, ◌+◌, ◌≤◌, length, take, drop};
 ghost use Rattle.laws.specs.Lists.{any_of, tabulate};
-ghost use Rattle.text.specs.Characters.{is_plain, isAdmissible, isInadmissible, answers};
+ghost use Rattle.text.specs.Characters.{is_plain, is_admissible, is_inadmissible, answers};
 
 pub fn is_plain(b: u8) -> bool
     ensures { result ≡ is_plain b }
@@ -11,7 +11,7 @@ pub fn is_plain(b: u8) -> bool
 
 // Of the bytes from 80 on, 64 to a word, one bit each.
 pub fn is_admissible(b: u8) -> bool
-    ensures { result ≡ isAdmissible b }
+    ensures { result ≡ is_admissible b }
 {
     if b < 0x80 {
         return is_plain(b);
@@ -55,7 +55,7 @@ pub fn table() -> [bool; 256]
 
 fn is_good(t: &[bool; 256], b: u8) -> bool
     requires { t.now ≡ answers }
-    ensures { result ≡ not (isInadmissible b) }
+    ensures { result ≡ not (is_inadmissible b) }
 {
     t[b as usize]
 }
@@ -63,7 +63,7 @@ fn is_good(t: &[bool; 256], b: u8) -> bool
 // The eight bytes from a place on.
 fn good_at(t: &[bool; 256], s: &[u8], i: usize) -> bool
     requires { (t.now ≡ answers) × (i + 8 ≤ length s.now) }
-    ensures { result ≡ not (any_of isInadmissible (take 8 (drop i s.now))) }
+    ensures { result ≡ not (any_of is_inadmissible (take 8 (drop i s.now))) }
 {
     is_good(t, s[i])
         & is_good(t, s[i + 1])
@@ -78,7 +78,7 @@ fn good_at(t: &[bool; 256], s: &[u8], i: usize) -> bool
 // A short text, byte by byte.
 fn few_bad(t: &[bool; 256], s: &[u8]) -> bool
     requires { t.now ≡ answers }
-    ensures { result ≡ any_of isInadmissible s.now }
+    ensures { result ≡ any_of is_inadmissible s.now }
 {
     let mut good = true;
     let mut i = 0;
@@ -92,7 +92,7 @@ fn few_bad(t: &[bool; 256], s: &[u8]) -> bool
 // A text of 8 to 40 bytes by five eights, each as far on as it can be: most texts are so long, and how many eights there are is not guessed.
 fn five_good(t: &[bool; 256], s: &[u8]) -> bool
     requires { (t.now ≡ answers) × (8 ≤ length s.now) × (length s.now ≤ 40) }
-    ensures { result ≡ not (any_of isInadmissible s.now) }
+    ensures { result ≡ not (any_of is_inadmissible s.now) }
 {
     let last = s.len() - 8;
     let second = crate::least(8, last);
@@ -108,7 +108,7 @@ fn five_good(t: &[bool; 256], s: &[u8]) -> bool
 // By eights; the last eight may have been looked at in part.
 fn holds_bad(t: &[bool; 256], s: &[u8]) -> bool
     requires { t.now ≡ answers }
-    ensures { result ≡ any_of isInadmissible s.now }
+    ensures { result ≡ any_of is_inadmissible s.now }
 {
     let n = s.len();
     if n < 8 {
@@ -130,7 +130,7 @@ fn holds_bad(t: &[bool; 256], s: &[u8]) -> bool
 // Whether a text holds an inadmissible byte (rule 1): where none is odd, that is not plain, the table is not asked.
 pub fn holds_inadmissible(t: &[bool; 256], s: &[u8], odd: bool) -> bool
     requires { t.now ≡ answers }
-    ensures { result ≡ (odd && any_of isInadmissible s.now) }
+    ensures { result ≡ (odd && any_of is_inadmissible s.now) }
 {
     if odd {
         return holds_bad(t, s);

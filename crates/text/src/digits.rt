@@ -1,7 +1,7 @@
 // Numbers as digits, at every width that fits 64 bits.
 ghost use Rattle.std.specs.Prelude.{◌≡◌, true, ◌+◌, ◌≤◌, length};
 ghost use Rattle.laws.specs.Lists.{put};
-ghost use Rattle.text.specs.Digits.{allDigits, value as value_of, digits};
+ghost use Rattle.text.specs.Digits.{all_are_digits, value as value_of, digits};
 
 fn wide(b: u8) -> u32
     ensures { result ≡ b }
@@ -12,7 +12,7 @@ fn wide(b: u8) -> u32
 // The number that bytes stand for which are known to be digits. A byte is widened before 48 is taken off: so compiled code adds a digit in
 // three instructions.
 pub fn value(s: &[u8]) -> u32
-    requires { (length s.now ≤ 9) × (allDigits s.now ≡ true) }
+    requires { (length s.now ≤ 9) × (all_are_digits s.now ≡ true) }
     ensures { result ≡ value_of s.now }
 {
     let mut v: u32 = 0;

@@ -1,21 +1,21 @@
 // Texts in a fixed layout: whether a text has the form, the number at a part, and digits written in their place.
 ghost use Rattle.std.specs.Prelude.{◌≡◌, true, ◌++◌, ◌+◌, ◌≤◌, length, take, drop};
 ghost use Rattle.laws.specs.Ascii.{ascii};
-ghost use Rattle.text.specs.Digits.{allDigits, digits};
+ghost use Rattle.text.specs.Digits.{all_are_digits, digits};
 ghost use Rattle.text.specs.Strings.{Wrote};
-ghost use Rattle.text.specs.Forms.{fitsByte, hasForm, part_at};
+ghost use Rattle.text.specs.Forms.{fits_byte, has_form, part_at};
 
 use super::{digits, strings};
 
 fn fits_byte(t: u8, b: u8) -> bool
-    ensures { result ≡ fitsByte t b }
+    ensures { result ≡ fits_byte t b }
 {
     (b == t) | ((t == 48) & ((48 <= b) & (b <= 57)))
 }
 
 // Whether a text has the form of a template, a text with 0 for each digit. No byte ends the loop early, so that many are compared at once.
 pub fn has_form(template: &[u8], s: &[u8]) -> bool
-    ensures { result ≡ hasForm template.now s.now }
+    ensures { result ≡ has_form template.now s.now }
 {
     if template.len() != s.len() {
         return false;
@@ -31,7 +31,7 @@ pub fn has_form(template: &[u8], s: &[u8]) -> bool
 
 // The number that the n digits from a place on stand for.
 pub fn part(s: &[u8], at: usize, n: usize) -> u32
-    requires { (at + n ≤ length s.now) × (n ≤ 9) × (allDigits (take n (drop at s.now)) ≡ true) }
+    requires { (at + n ≤ length s.now) × (n ≤ 9) × (all_are_digits (take n (drop at s.now)) ≡ true) }
     ensures { result ≡ part_at s.now at n }
 {
     digits::value(&s[at..at + n])

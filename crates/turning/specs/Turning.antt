@@ -3,7 +3,7 @@
 use Rattle.std.specs.Prelude.{ℕ, Bool, not, ◌&&◌, ◌||◌, List, [], ◌∷◌, leb, eqb}
 use Rattle.laws.specs.Refusals.{Refusal, ◌if◌}
 use Rattle.headings.specs.declared.Heading.{Heading}
-use Rattle.headings.specs.ItemTypes.{isClosing, isTrilateral}
+use Rattle.headings.specs.ItemTypes.{is_closing, is_trilateral}
 use Rattle.headings.specs.HeadRules.{rule10, rule13, rule14}
 use Rattle.outcome_tables.specs.declared.Codes.{Codes}
 use Rattle.outcome_tables.specs.Outcomes.{outgoing, codes}
@@ -12,27 +12,27 @@ use Rattle.turning.specs.declared.Turned.TheVariants as turning
 
 -- '12: a 51, or breaks rule 10, 13 or 14'
 unfoldable pub barred : Heading → Bool
-barred h = isClosing h.kind || (rule10 h || (rule13 h || rule14 h))
+barred h = is_closing h.kind || (rule10 h || (rule13 h || rule14 h))
 
 -- or not this sender's: 'A third party may send only 35, 37 and 45; its other headings are refused with 12'
-unfoldable pub barredTo : ℕ → Heading → Bool
-barredTo p h = barred h || (eqb p 2 && not (isTrilateral h.kind))
+unfoldable pub barred_to : ℕ → Heading → Bool
+barred_to p h = barred h || (eqb p 2 && not (is_trilateral h.kind))
 
 -- '13: outcome not 1 to 7'
-abbrev pub isOutcome : ℕ → Bool
-isOutcome o = leb 1 o && leb o 7
+abbrev pub is_outcome : ℕ → Bool
+is_outcome o = leb 1 o && leb o 7
 
 -- 'the sender's standing, 1 direct or 2 third party (13 otherwise)'
-abbrev pub isStanding : ℕ → Bool
-isStanding p = eqb p 1 || eqb p 2
+abbrev pub is_standing : ℕ → Bool
+is_standing p = eqb p 1 || eqb p 2
 
 -- 'For a direct sender of a 45, outcomes 5 and 6 are refused with 14'
 abbrev pub withheld : ℕ → ℕ → ℕ → Bool
 withheld p kind o = eqb p 1 && (eqb kind 45 && (eqb o 5 || eqb o 6))
 
 -- '14: the table has no entry', or the entry isn't for this sender
-abbrev pub isMissing : ℕ → ℕ → ℕ → Bool
-isMissing p kind o = eqb (outgoing kind o) 0 || withheld p kind o
+abbrev pub is_missing : ℕ → ℕ → ℕ → Bool
+is_missing p kind o = eqb (outgoing kind o) 0 || withheld p kind o
 
 -- a heading with another type and other codes; 'day and input number stay'
 abbrev pub coded : ℕ → Codes → Heading → Heading
@@ -41,22 +41,22 @@ coded kind cs h =
 
 -- the outgoing type and codes in a heading's place
 unfoldable pub turned : Heading → ℕ → Heading
-turned h o = coded (outgoing h.kind o) (codes (isTrilateral h.kind) o h.first h.second h.third) h
+turned h o = coded (outgoing h.kind o) (codes (is_trilateral h.kind) o h.first h.second h.third) h
 
 -- the first step: which outgoing type and which codes, of a heading, an outcome and a standing
-abbrev pub turnRefusals : Heading → ℕ → ℕ → List Refusal
-turnRefusals h o p = (12 if barredTo p h) ∷ (13 if not (isOutcome o && isStanding p)) ∷ (14 if isMissing p h.kind o) ∷ []
+abbrev pub turn_refusals : Heading → ℕ → ℕ → List Refusal
+turn_refusals h o p = (12 if barred_to p h) ∷ (13 if not (is_outcome o && is_standing p)) ∷ (14 if is_missing p h.kind o) ∷ []
 
 -- document 01's number for each answer of the first step
-abbrev pub turnNumber : Turned → ℕ
-turnNumber (turning.To g) = 0
-turnNumber turning.Barred = 12
-turnNumber turning.NotOutcome = 13
-turnNumber turning.Nowhere = 14
+abbrev pub turn_number : Turned → ℕ
+turn_number (turning.To g) = 0
+turn_number turning.Barred = 12
+turn_number turning.NotOutcome = 13
+turn_number turning.Nowhere = 14
 
 -- the heading that an answer of the first step carries, or the one given where it carries none
-abbrev pub turnHeading : Turned → Heading → Heading
-turnHeading (turning.To g) h = g
-turnHeading turning.Barred h = h
-turnHeading turning.NotOutcome h = h
-turnHeading turning.Nowhere h = h
+abbrev pub turn_heading : Turned → Heading → Heading
+turn_heading (turning.To g) h = g
+turn_heading turning.Barred h = h
+turn_heading turning.NotOutcome h = h
+turn_heading turning.Nowhere h = h

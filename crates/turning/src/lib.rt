@@ -3,7 +3,7 @@
 // on `outcome_tables` for the tables, on the types and the rules of `headings`, and on `laws`.
 ghost use Rattle.std.specs.Prelude.{◌≡◌};
 ghost use Rattle.laws.specs.Refusals.{first};
-ghost use Rattle.turning.specs.Turning.{barredTo, isOutcome, isStanding, withheld, coded, turned, turnRefusals, turnNumber, turnHeading};
+ghost use Rattle.turning.specs.Turning.{barred_to, is_outcome, is_standing, withheld, coded, turned, turn_refusals, turn_number, turn_heading};
 
 use headings::Heading;
 use headings::head_rules::{breaks_fourteen, breaks_ten, breaks_thirteen};
@@ -41,20 +41,20 @@ fn coded(kind: u32, cs: Codes, h: Heading) -> Heading
 
 // Whether a heading is a 51, or breaks a rule that deriving asks it to keep, or is none that a third party may send.
 fn is_barred(h: Heading, standing: u32) -> bool
-    ensures { result ≡ barredTo standing h }
+    ensures { result ≡ barred_to standing h }
 {
     ((h.kind == 51) | (breaks_ten(h) | (breaks_thirteen(h) | breaks_fourteen(h))))
         | ((standing == 2) & !is_trilateral(h.kind))
 }
 
 fn is_outcome(outcome: u32) -> bool
-    ensures { result ≡ isOutcome outcome }
+    ensures { result ≡ is_outcome outcome }
 {
     (1 <= outcome) & (outcome <= 7)
 }
 
 fn is_standing(standing: u32) -> bool
-    ensures { result ≡ isStanding standing }
+    ensures { result ≡ is_standing standing }
 {
     (standing == 1) | (standing == 2)
 }
@@ -68,8 +68,8 @@ fn is_withheld(standing: u32, kind: u32, outcome: u32) -> bool
 
 // The first step: the outgoing type and codes.
 pub fn turn(h: Heading, outcome: u32, standing: u32) -> Turned
-    ensures number { turnNumber result ≡ first (turnRefusals h outcome standing) }
-    ensures heading { turnHeading result (turned h outcome) ≡ turned h outcome }
+    ensures number { turn_number result ≡ first (turn_refusals h outcome standing) }
+    ensures heading { turn_heading result (turned h outcome) ≡ turned h outcome }
 {
     if is_barred(h, standing) {
         return Turned::Barred;

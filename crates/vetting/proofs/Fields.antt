@@ -14,40 +14,40 @@ use Rattle.rules.specs.declared.FirstKc.TheVariants.{NoKc, BrokenKc, Pays}
 use Rattle.rules.specs.Terms.{Terms}
 use Rattle.rules.specs.Rows.{FieldRow}
 use Rattle.rules.specs.Tree.{Owned}
-use Rattle.rules.specs.Said.{stands, firstSaid}
-use Rattle.items.specs.Claims.{kcKept}
-use Rattle.item_reader.specs.Slips.{kcAmong, fileFrom}
+use Rattle.rules.specs.Said.{stands, first_said}
+use Rattle.items.specs.Claims.{kc_kept}
+use Rattle.item_reader.specs.Slips.{kc_among, file_from}
 use Rattle.vetting.specs.Vetting.{Stamped}
-use Rattle.vetting.specs.Parts.{fieldsBarred, Sure, FieldAt, FieldsAt}
+use Rattle.vetting.specs.Parts.{fields_barred, Sure, FieldAt, FieldsAt}
 use Rattle.vetting.proofs.Here.{Ends}
 
 -- ---- the first KC
-kept-none : (k : FirstKc) → kcKept k NoKc ≡ k
-kept-none NoKc = refl
-kept-none BrokenKc = refl
-kept-none (Pays a d) = refl
+kept_none : (k : FirstKc) → kc_kept k NoKc ≡ k
+kept_none NoKc = refl
+kept_none BrokenKc = refl
+kept_none (Pays a d) = refl
 
-kept-assoc : (a b c : FirstKc) → kcKept a (kcKept b c) ≡ kcKept (kcKept a b) c
-kept-assoc NoKc b c = refl
-kept-assoc BrokenKc b c = refl
-kept-assoc (Pays a d) b c = refl
+kept_assoc : (a b c : FirstKc) → kc_kept a (kc_kept b c) ≡ kc_kept (kc_kept a b) c
+kept_assoc NoKc b c = refl
+kept_assoc BrokenKc b c = refl
+kept_assoc (Pays a d) b c = refl
 
-kept-sure : (a b : FirstKc) → Sure a → Sure b → Sure (kcKept a b)
-kept-sure NoKc b p q = q
-kept-sure BrokenKc b p q = p
-kept-sure (Pays a d) b p q = p
+kept_sure : (a b : FirstKc) → Sure a → Sure b → Sure (kc_kept a b)
+kept_sure NoKc b p q = q
+kept_sure BrokenKc b p q = p
+kept_sure (Pays a d) b p q = p
 
 -- ---- stamps
 abbrev pub StampedIn : List ℕ → ℕ → List (Owned FieldRow) → Type 0
 StampedIn stood stamp above = (i : ℕ) → i < 1296 → eqb (get_or stood i 0) stamp ≡ stands i above
 
-stamped-start : (stood : List ℕ) (stamp : ℕ) → Stamped stood stamp → StampedIn stood stamp []
+stamped_start : (stood : List ℕ) (stamp : ℕ) → Stamped stood stamp → StampedIn stood stamp []
 unfolding stands
-stamped-start stood stamp S i h = ne_eqb (get_or stood i 0) stamp (λ e. omega (arith, S.1 i h))
+stamped_start stood stamp S i h = ne_eqb (get_or stood i 0) stamp (λ e. omega (arith, S.1 i h))
 
-stamped-more : (stood : List ℕ) (stamp ident : ℕ) (above : List (Owned FieldRow)) (g : Owned FieldRow) → ident < length stood → g.owner.ident ≡ ident → StampedIn stood stamp above → StampedIn (set stood ident stamp) stamp (g ∷ above)
+stamped_more : (stood : List ℕ) (stamp ident : ℕ) (above : List (Owned FieldRow)) (g : Owned FieldRow) → ident < length stood → g.owner.ident ≡ ident → StampedIn stood stamp above → StampedIn (set stood ident stamp) stamp (g ∷ above)
 unfolding stands
-stamped-more stood stamp ident above g h e S i l = go (eqb ident i) refl ∙ ap (λ (j : ℕ). eqb j i || stands i above) (sym e)
+stamped_more stood stamp ident above g h e S i l = go (eqb ident i) refl ∙ ap (λ (j : ℕ). eqb j i || stands i above) (sym e)
   where
     go : (t : Bool) → eqb ident i ≡ t → eqb (get_or (set stood ident stamp) i 0) stamp ≡ (t || stands i above)
     go true q =
@@ -56,11 +56,11 @@ stamped-more stood stamp ident above g h e S i l = go (eqb ident i) refl ∙ ap 
     go false q = ap (λ (v : ℕ). eqb v stamp) (get_or-set_other stood ident i stamp 0 (λ w. eqb-false ident i q (sym w))) ∙ S i l
 
 -- every stamp is that of this item, or of one before
-pub stamped-after : (stood : List ℕ) (stamp : ℕ) → Stamped stood stamp → Stamped stood (stamp + 1)
-stamped-after stood stamp S = (S.0, λ i h. omega (arith, S.1 i h))
+pub stamped_after : (stood : List ℕ) (stamp : ℕ) → Stamped stood stamp → Stamped stood (stamp + 1)
+stamped_after stood stamp S = (S.0, λ i h. omega (arith, S.1 i h))
 
-pub stamped-set : (stood : List ℕ) (stamp ident : ℕ) → ident < 1296 → Stamped stood (stamp + 1) → Stamped (set stood ident stamp) (stamp + 1)
-stamped-set stood stamp ident h S = (length-set stood ident stamp ∙ S.0, λ i l. go i l (eqb ident i) refl)
+pub stamped_set : (stood : List ℕ) (stamp ident : ℕ) → ident < 1296 → Stamped stood (stamp + 1) → Stamped (set stood ident stamp) (stamp + 1)
+stamped_set stood stamp ident h S = (length-set stood ident stamp ∙ S.0, λ i l. go i l (eqb ident i) refl)
   where
     go : (i : ℕ) → i < 1296 → (t : Bool) → eqb ident i ≡ t → get_or (set stood ident stamp) i 0 < stamp + 1
     go i l true q =
@@ -71,59 +71,59 @@ stamped-set stood stamp ident h S = (length-set stood ident stamp ∙ S.0, λ i 
         omega (arith, z, S.1 i l)
 
 -- before the first item
-pub stamped-none : Stamped (replicate 1296 0) 1
-stamped-none = (length-replicate {A = ℕ} 1296 0, λ i l. let z : ◌≡◌ {A = ℕ} (get_or (replicate 1296 0) i 0) 0 = get_or-replicate 1296 i 0 0 l in omega (arith, z))
+pub stamped_none : Stamped (replicate 1296 0) 1
+stamped_none = (length-replicate {A = ℕ} 1296 0, λ i l. let z : ◌≡◌ {A = ℕ} (get_or (replicate 1296 0) i 0) 0 = get_or-replicate 1296 i 0 0 l in omega (arith, z))
 
 -- ---- what is known at a place below some fields, nearest first
 pub record Fielding (terms : Terms) (h : Heading) (s : List ℕ) (at n stamp : ℕ) (stood : List ℕ) (kc : FirstKc) (p : ℕ) : Type 0 where
   pub below : ℕ
   pub above : List (Owned FieldRow)
-  pub items : (fileFrom n (drop at s)).items ≡ (fileFrom below (drop p s)).items
-  pub left : fieldsBarred terms h [] (fileFrom n (drop at s)).loose ≡ fieldsBarred terms h above (fileFrom below (drop p s)).loose
-  pub states : kcAmong (fileFrom n (drop at s)).loose ≡ kcKept kc (kcAmong (fileFrom below (drop p s)).loose)
+  pub items : (file_from n (drop at s)).items ≡ (file_from below (drop p s)).items
+  pub left : fields_barred terms h [] (file_from n (drop at s)).loose ≡ fields_barred terms h above (file_from below (drop p s)).loose
+  pub states : kc_among (file_from n (drop at s)).loose ≡ kc_kept kc (kc_among (file_from below (drop p s)).loose)
   pub stamped : StampedIn stood stamp above
   pub known : Sure kc
 
-pub fields-start : (terms : Terms) (h : Heading) (s : List ℕ) (at n stamp : ℕ) (stood : List ℕ) → Stamped stood stamp → Fielding terms h s at n stamp stood NoKc at
-fields-start terms h s at n stamp stood S = record {
+pub fields_start : (terms : Terms) (h : Heading) (s : List ℕ) (at n stamp : ℕ) (stood : List ℕ) → Stamped stood stamp → Fielding terms h s at n stamp stood NoKc at
+fields_start terms h s at n stamp stood S = record {
   below = n;
   above = [];
   items = refl;
   left = refl;
   states = refl;
-  stamped = stamped-start stood stamp S;
+  stamped = stamped_start stood stamp S;
   known = tt;
 }
 
 module _ {terms : Terms} {h : Heading} {s : List ℕ} {at n stamp : ℕ} {stood : List ℕ} {kc : FirstKc} {p : ℕ} (F : Fielding terms h s at n stamp stood kc p) where
   -- a field that breaks nothing
-  pub fields-more : {ident : ℕ} {again : Bool} {own : FirstKc} {next : ℕ} → ident < 1296 → ident < length stood → again ≡ eqb (get_or stood ident 0) stamp
-      → FieldAt terms h s p F.below ident again own next → Sure own → Fielding terms h s at n stamp (set stood ident stamp) (kcKept kc own) next
-  unfolding fieldsBarred
-  fields-more {ident} {again} {own} {next} l k e A w = record {
+  pub fields_more : {ident : ℕ} {again : Bool} {own : FirstKc} {next : ℕ} → ident < 1296 → ident < length stood → again ≡ eqb (get_or stood ident 0) stamp
+      → FieldAt terms h s p F.below ident again own next → Sure own → Fielding terms h s at n stamp (set stood ident stamp) (kc_kept kc own) next
+  unfolding fields_barred
+  fields_more {ident} {again} {own} {next} l k e A w = record {
     below = A.below;
     above = A.field ∷ F.above;
     items = F.items ∙ A.items;
     left =
-        F.left ∙ ap (fieldsBarred terms h F.above) A.loose
-        ∙ ap (λ (t : Bool). t || fieldsBarred terms h (A.field ∷ F.above) (fileFrom A.below (drop next s)).loose) (A.sound F.above (sym (F.stamped ident l) ∙ sym e));
-    states = F.states ∙ ap (kcKept kc) (ap kcAmong A.loose ∙ A.states (fileFrom A.below (drop next s)).loose) ∙ kept-assoc kc own (kcAmong (fileFrom A.below (drop next s)).loose);
-    stamped = stamped-more stood stamp ident F.above A.field k A.ident-is F.stamped;
-    known = kept-sure kc own F.known w;
+        F.left ∙ ap (fields_barred terms h F.above) A.loose
+        ∙ ap (λ (t : Bool). t || fields_barred terms h (A.field ∷ F.above) (file_from A.below (drop next s)).loose) (A.sound F.above (sym (F.stamped ident l) ∙ sym e));
+    states = F.states ∙ ap (kc_kept kc) (ap kc_among A.loose ∙ A.states (file_from A.below (drop next s)).loose) ∙ kept_assoc kc own (kc_among (file_from A.below (drop next s)).loose);
+    stamped = stamped_more stood stamp ident F.above A.field k A.ident_is F.stamped;
+    known = kept_sure kc own F.known w;
   }
 
   -- one that bars
-  pub fields-bar : {ident : ℕ} {again : Bool} → ident < 1296 → again ≡ eqb (get_or stood ident 0) stamp
-      → ((m : ℕ) (above : List (Owned FieldRow)) → stands ident above ≡ again → fieldsBarred terms h above (fileFrom m (drop p s)).loose ≡ true)
-      → fieldsBarred terms h [] (fileFrom n (drop at s)).loose ≡ true
-  fields-bar {ident} l e B = F.left ∙ B F.below F.above (sym (F.stamped ident l) ∙ sym e)
+  pub fields_bar : {ident : ℕ} {again : Bool} → ident < 1296 → again ≡ eqb (get_or stood ident 0) stamp
+      → ((m : ℕ) (above : List (Owned FieldRow)) → stands ident above ≡ again → fields_barred terms h above (file_from m (drop p s)).loose ≡ true)
+      → fields_barred terms h [] (file_from n (drop at s)).loose ≡ true
+  fields_bar {ident} l e B = F.left ∙ B F.below F.above (sym (F.stamped ident l) ∙ sym e)
 
   -- the last one
-  pub fields-end : Ends s p → FieldsAt terms h s at n kc p
-  unfolding fieldsBarred firstSaid
-  fields-end E = record {
+  pub fields_end : Ends s p → FieldsAt terms h s at n kc p
+  unfolding fields_barred first_said
+  fields_end E = record {
     below = F.below;
     items = F.items;
-    sound = F.left ∙ ap (fieldsBarred terms h F.above) (E.loose F.below);
-    states = F.states ∙ ap (λ (gs : List (Owned FieldRow)). kcKept kc (kcAmong gs)) (E.loose F.below) ∙ kept-none kc;
+    sound = F.left ∙ ap (fields_barred terms h F.above) (E.loose F.below);
+    states = F.states ∙ ap (λ (gs : List (Owned FieldRow)). kc_kept kc (kc_among gs)) (E.loose F.below) ∙ kept_none kc;
   }

@@ -6,7 +6,7 @@ use mathlib.Core.List.{List, [], ◌∷◌}
 use lib.Dec.{eqb}
 use lib.ListN.{length, drop}
 use borrow.Author.Tests.{eqb-true}
-use Rattle.laws.proofs.Truth.{by-test}
+use Rattle.laws.proofs.Truth.{by_test}
 use Rattle.lines.specs.Reading.{line_at, span}
 use Rattle.headings.specs.declared.Heading.{Heading}
 use Rattle.figures.specs.Layouts.{fits, part}
@@ -18,144 +18,144 @@ use Rattle.fields.specs.declared.readings.Reading.TheVariants.{Broken, Plain, Pa
 use Rattle.fields.specs.Kinds.{named, place, kind_of}
 use Rattle.fields.specs.Classes.{class_of}
 use Rattle.fields.specs.Codes.{code_of}
-use Rattle.fields.specs.Readings.{text_of, layout_of, saidBy, reading_of, ifFits}
-use Rattle.fields.specs.Tails.{takes, says_of, isBroken}
+use Rattle.fields.specs.Readings.{text_of, layout_of, said_by, reading_of, if_fits}
+use Rattle.fields.specs.Tails.{takes, says_of, is_broken}
 use Rattle.rules.specs.declared.FirstKc.TheVariants.{NoKc}
 use Rattle.rules.specs.Terms.{Terms}
 use Rattle.rules.specs.LineRules.{inside, rule1}
 use Rattle.rules.specs.Rows.{FieldRow, LowRow, field}
 use Rattle.rules.specs.Tree.{Owned, File, ◌▹◌}
-use Rattle.rules.specs.Said.{continuations, says, stands, or_else, ifThere, firstSaid, is, kcBy, kcOf}
+use Rattle.rules.specs.Said.{continuations, says, stands, or_else, if_there, first_said, is, kc_by, kc_of}
 use Rattle.rules.specs.Spots.{lows}
-use Rattle.own_rules.specs.Model.{basisOf}
-use Rattle.items.specs.Claims.{kcKept}
-use Rattle.items.proofs.Firsts.{kc-first}
-use Rattle.judging.proofs.OpenField.{says-own}
-use Rattle.item_reader.specs.Slips.{kcAmong, fileFrom}
-use Rattle.vetting.specs.Vetting.{anyBarred}
-use Rattle.vetting.specs.Parts.{badAt, owned, ownBreaks, kcHere, fieldBarred, fieldsBarred, TailAt, Sure, FieldAt}
-use Rattle.vetting.proofs.Here.{row_at, file-at}
-use Rattle.vetting.proofs.Barring.{saidBad, marks-bad, field-barred}
+use Rattle.own_rules.specs.Model.{basis_of}
+use Rattle.items.specs.Claims.{kc_kept}
+use Rattle.items.proofs.Firsts.{kc_first}
+use Rattle.judging.proofs.OpenField.{says_own}
+use Rattle.item_reader.specs.Slips.{kc_among, file_from}
+use Rattle.vetting.specs.Vetting.{any_barred}
+use Rattle.vetting.specs.Parts.{bad_at, owned, own_breaks, kc_here, field_barred, fields_barred, TailAt, Sure, FieldAt}
+use Rattle.vetting.proofs.Here.{row_at, file_at}
+use Rattle.vetting.proofs.Barring.{said_bad, marks_bad, field_barred_lem}
 
 -- a field that is broken bars
-bad-broken : (terms : Terms) (first : Bool) (h : Heading) (said : Reading) → isBroken said ≡ true → saidBad terms first h said ≡ true
-bad-broken terms first h Broken e = refl
-bad-broken terms first h Plain e = absurd (false≢true e)
-bad-broken terms first h (Paid a d) e = absurd (false≢true e)
-bad-broken terms first h (Span a b) e = absurd (false≢true e)
-bad-broken terms first h (Stated n a) e = absurd (false≢true e)
-bad-broken terms first h (Party b) e = absurd (false≢true e)
+bad_broken : (terms : Terms) (first : Bool) (h : Heading) (said : Reading) → is_broken said ≡ true → said_bad terms first h said ≡ true
+bad_broken terms first h Broken e = refl
+bad_broken terms first h Plain e = absurd (false≢true e)
+bad_broken terms first h (Paid a d) e = absurd (false≢true e)
+bad_broken terms first h (Span a b) e = absurd (false≢true e)
+bad_broken terms first h (Stated n a) e = absurd (false≢true e)
+bad_broken terms first h (Party b) e = absurd (false≢true e)
 
-broken-bars : (terms : Terms) (h : Heading) (ident : ℕ) (again bad : Bool) (said : Reading) → isBroken said ≡ true → ownBreaks (basisOf terms) h ident again bad said ≡ true
-broken-bars terms h ident again bad said e =
-    ap (λ (t : Bool). (bad || again) || t) (marks-bad terms (eqb ident (named "KC")) h said ∙ bad-broken terms (eqb ident (named "KC")) h said e) ∙ or-true (bad || again)
+broken_bars : (terms : Terms) (h : Heading) (ident : ℕ) (again bad : Bool) (said : Reading) → is_broken said ≡ true → own_breaks (basis_of terms) h ident again bad said ≡ true
+broken_bars terms h ident again bad said e =
+    ap (λ (t : Bool). (bad || again) || t) (marks_bad terms (eqb ident (named "KC")) h said ∙ bad_broken terms (eqb ident (named "KC")) h said e) ∙ or-true (bad || again)
 
 -- one that does not bar reads
-unbroken : (terms : Terms) (h : Heading) (ident : ℕ) (again bad : Bool) (said : Reading) → ownBreaks (basisOf terms) h ident again bad said ≡ false → isBroken said ≡ false
-unbroken terms h ident again bad said e = by-test (isBroken said)
-    (λ q. absurd (true≢false (sym (broken-bars terms h ident again bad said q) ∙ e)))
+unbroken : (terms : Terms) (h : Heading) (ident : ℕ) (again bad : Bool) (said : Reading) → own_breaks (basis_of terms) h ident again bad said ≡ false → is_broken said ≡ false
+unbroken terms h ident again bad said e = by_test (is_broken said)
+    (λ q. absurd (true≢false (sym (broken_bars terms h ident again bad said q) ∙ e)))
     (λ q. q)
 
 -- a KC that reads has an amount
-paid-sure : (t : List ℕ) → isBroken (reading_of Money t) ≡ false → Sure (kcBy (reading_of Money t))
+paid_sure : (t : List ℕ) → is_broken (reading_of Money t) ≡ false → Sure (kc_by (reading_of Money t))
 unfolding reading_of
-paid-sure t = go (fits (layout_of Money).own t)
+paid_sure t = go (fits (layout_of Money).own t)
   where
-    go : (b : Bool) → isBroken (ifFits b (saidBy Money (part 0 (layout_of Money).own t) (part 1 (layout_of Money).own t))) ≡ false
-        → Sure (kcBy (ifFits b (saidBy Money (part 0 (layout_of Money).own t) (part 1 (layout_of Money).own t))))
+    go : (b : Bool) → is_broken (if_fits b (said_by Money (part 0 (layout_of Money).own t) (part 1 (layout_of Money).own t))) ≡ false
+        → Sure (kc_by (if_fits b (said_by Money (part 0 (layout_of Money).own t) (part 1 (layout_of Money).own t))))
     go true e = tt
     go false e = absurd (true≢false e)
 
-kc-class : class_of (named "KC") ≡ Money
+kc_class : class_of (named "KC") ≡ Money
 unfolding class_of place
-kc-class = refl
+kc_class = refl
 
 module _ (s : List ℕ) (at ident : ℕ) (l : at < length s) (e : kind_of (drop at s) ≡ Field ident) {said : Reading} (S : said ≡ reading_of (class_of ident) (text_of (span at (line_at s at).end s))) where
   abbrev owner : ℕ → FieldRow
   owner n = record { row = row_at s at n; ident = ident }
 
   abbrev rest : ℕ → File
-  rest n = fileFrom (suc n) (drop (line_at s at).next s)
+  rest n = file_from (suc n) (drop (line_at s at).next s)
 
-  file-here : (n : ℕ) → fileFrom n (drop at s) ≡ field (owner n) ▹ rest n
-  file-here n = file-at s at l (Field ident) e n
+  file_here : (n : ℕ) → file_from n (drop at s) ≡ field (owner n) ▹ rest n
+  file_here n = file_at s at l (Field ident) e n
 
   -- what it says: that of its own line, or nothing
-  says-or : (n : ℕ) (ls : List LowRow) → says (owned (owner n) ls) ≡ ifFits (takes (layout_of (class_of ident)).more (continuations ls)) said
+  says_or : (n : ℕ) (ls : List LowRow) → says (owned (owner n) ls) ≡ if_fits (takes (layout_of (class_of ident)).more (continuations ls)) said
   unfolding says says_of
-  says-or n ls = ap (ifFits (takes (layout_of (class_of ident)).more (continuations ls))) (sym S)
+  says_or n ls = ap (if_fits (takes (layout_of (class_of ident)).more (continuations ls))) (sym S)
 
-  says-alone : (n : ℕ) → says (owned (owner n) []) ≡ said
-  says-alone n = says-own (owner n) ∙ sym S
+  says_alone : (n : ℕ) → says (owned (owner n) []) ≡ said
+  says_alone n = says_own (owner n) ∙ sym S
 
   module _ (terms : Terms) (h : Heading) (again : Bool) where
     -- it bars, whatever stands below it
-    first-bars : (n : ℕ) (above : List (Owned FieldRow)) → fieldBarred terms h above (owned (owner n) (rest n).top) ≡ true
-        → fieldsBarred terms h above (fileFrom n (drop at s)).loose ≡ true
-    unfolding fieldsBarred
-    first-bars n above q =
-        ap (λ (f : File). fieldsBarred terms h above f.loose) (file-here n) ∙ ap (λ (t : Bool). t || fieldsBarred terms h (owned (owner n) (rest n).top ∷ above) (rest n).loose) q
+    first_bars : (n : ℕ) (above : List (Owned FieldRow)) → field_barred terms h above (owned (owner n) (rest n).top) ≡ true
+        → fields_barred terms h above (file_from n (drop at s)).loose ≡ true
+    unfolding fields_barred
+    first_bars n above q =
+        ap (λ (f : File). fields_barred terms h above f.loose) (file_here n) ∙ ap (λ (t : Bool). t || fields_barred terms h (owned (owner n) (rest n).top ∷ above) (rest n).loose) q
 
     -- by its own line
-    pub own-bars : ownBreaks (basisOf terms) h ident again (badAt s at) said ≡ true
-        → (n : ℕ) (above : List (Owned FieldRow)) → stands ident above ≡ again → fieldsBarred terms h above (fileFrom n (drop at s)).loose ≡ true
+    pub own_bars : own_breaks (basis_of terms) h ident again (bad_at s at) said ≡ true
+        → (n : ℕ) (above : List (Owned FieldRow)) → stands ident above ≡ again → fields_barred terms h above (file_from n (drop at s)).loose ≡ true
     unfolding rule1
-    own-bars q n above a =
-        first-bars n above
-        (field-barred terms h above (owned (owner n) (rest n).top) a
-        ∙ ap (λ (t : Bool). t || anyBarred (lows inside (rest n).top))
-        (ap (ownBreaks (basisOf terms) h ident again (badAt s at)) (says-or n (rest n).top) ∙ go (takes (layout_of (class_of ident)).more (continuations (rest n).top))))
+    own_bars q n above a =
+        first_bars n above
+        (field_barred_lem terms h above (owned (owner n) (rest n).top) a
+        ∙ ap (λ (t : Bool). t || any_barred (lows inside (rest n).top))
+        (ap (own_breaks (basis_of terms) h ident again (bad_at s at)) (says_or n (rest n).top) ∙ go (takes (layout_of (class_of ident)).more (continuations (rest n).top))))
       where
-        go : (t : Bool) → ownBreaks (basisOf terms) h ident again (badAt s at) (ifFits t said) ≡ true
+        go : (t : Bool) → own_breaks (basis_of terms) h ident again (bad_at s at) (if_fits t said) ≡ true
         go true = q
-        go false = broken-bars terms h ident again (badAt s at) Broken refl
+        go false = broken_bars terms h ident again (bad_at s at) Broken refl
 
     -- by the lines below it
-    pub below-bars : ((n : ℕ) (x : FieldRow) → code_of x.ident ≡ code_of ident
-        → (isBroken (says (owned x (fileFrom n (drop (line_at s at).next s)).top)) || anyBarred (lows inside (fileFrom n (drop (line_at s at).next s)).top)) ≡ true)
-        → (n : ℕ) (above : List (Owned FieldRow)) → stands ident above ≡ again → fieldsBarred terms h above (fileFrom n (drop at s)).loose ≡ true
+    pub below_bars : ((n : ℕ) (x : FieldRow) → code_of x.ident ≡ code_of ident
+        → (is_broken (says (owned x (file_from n (drop (line_at s at).next s)).top)) || any_barred (lows inside (file_from n (drop (line_at s at).next s)).top)) ≡ true)
+        → (n : ℕ) (above : List (Owned FieldRow)) → stands ident above ≡ again → fields_barred terms h above (file_from n (drop at s)).loose ≡ true
     unfolding rule1
-    below-bars B n above a =
-        first-bars n above (field-barred terms h above (owned (owner n) (rest n).top) a ∙ go (isBroken (says (owned (owner n) (rest n).top))) refl (B (suc n) (owner n) refl))
+    below_bars B n above a =
+        first_bars n above (field_barred_lem terms h above (owned (owner n) (rest n).top) a ∙ go (is_broken (says (owned (owner n) (rest n).top))) refl (B (suc n) (owner n) refl))
       where
-        go : (t : Bool) → isBroken (says (owned (owner n) (rest n).top)) ≡ t → (t || anyBarred (lows inside (rest n).top)) ≡ true
-            → (ownBreaks (basisOf terms) h ident again (badAt s at) (says (owned (owner n) (rest n).top)) || anyBarred (lows inside (rest n).top)) ≡ true
-        go true q w = ap (λ (t : Bool). t || anyBarred (lows inside (rest n).top)) (broken-bars terms h ident again (badAt s at) (says (owned (owner n) (rest n).top)) q)
-        go false q w = ap (λ (t : Bool). ownBreaks (basisOf terms) h ident again (badAt s at) (says (owned (owner n) (rest n).top)) || t) w ∙ or-true (ownBreaks (basisOf terms) h ident again (badAt s at) (says (owned (owner n) (rest n).top)))
+        go : (t : Bool) → is_broken (says (owned (owner n) (rest n).top)) ≡ t → (t || any_barred (lows inside (rest n).top)) ≡ true
+            → (own_breaks (basis_of terms) h ident again (bad_at s at) (says (owned (owner n) (rest n).top)) || any_barred (lows inside (rest n).top)) ≡ true
+        go true q w = ap (λ (t : Bool). t || any_barred (lows inside (rest n).top)) (broken_bars terms h ident again (bad_at s at) (says (owned (owner n) (rest n).top)) q)
+        go false q w = ap (λ (t : Bool). own_breaks (basis_of terms) h ident again (bad_at s at) (says (owned (owner n) (rest n).top)) || t) w ∙ or-true (own_breaks (basis_of terms) h ident again (bad_at s at) (says (owned (owner n) (rest n).top)))
 
     -- it does not bar
-    pub passes : ownBreaks (basisOf terms) h ident again (badAt s at) said ≡ false → {next : ℕ} → (n : ℕ) → TailAt s (line_at s at).next (suc n) (code_of ident) next
-        → FieldAt terms h s at n ident again (kcHere ident said) next
-    unfolding rule1 firstSaid
+    pub passes : own_breaks (basis_of terms) h ident again (bad_at s at) said ≡ false → {next : ℕ} → (n : ℕ) → TailAt s (line_at s at).next (suc n) (code_of ident) next
+        → FieldAt terms h s at n ident again (kc_here ident said) next
+    unfolding rule1 first_said
     passes q {next} n T =
-        let says_is : says (owned (owner n) (rest n).top) ≡ said = T.takes (owner n) refl ∙ says-alone n in
+        let says_is : says (owned (owner n) (rest n).top) ≡ said = T.takes (owner n) refl ∙ says_alone n in
         record {
           below = T.below;
           field = owned (owner n) (rest n).top;
-          loose = ap (λ (f : File). f.loose) (file-here n) ∙ ap (λ (gs : List (Owned FieldRow)). owned (owner n) (rest n).top ∷ gs) T.loose;
-          items = ap (λ (f : File). f.items) (file-here n) ∙ T.items;
-          ident-is = refl;
+          loose = ap (λ (f : File). f.loose) (file_here n) ∙ ap (λ (gs : List (Owned FieldRow)). owned (owner n) (rest n).top ∷ gs) T.loose;
+          items = ap (λ (f : File). f.items) (file_here n) ∙ T.items;
+          ident_is = refl;
           sound = λ above a.
-              field-barred terms h above (owned (owner n) (rest n).top) a
-              ∙ (λ i. ownBreaks (basisOf terms) h ident again (badAt s at) (says_is i) || T.clean i)
+              field_barred_lem terms h above (owned (owner n) (rest n).top) a
+              ∙ (λ i. own_breaks (basis_of terms) h ident again (bad_at s at) (says_is i) || T.clean i)
               ∙ ap (λ (t : Bool). t || false) q;
           states = λ gs.
-              ap (λ (r : Reading). kcOf (or_else (ifThere (eqb ident (named "KC")) r) (firstSaid (is (named "KC")) gs))) says_is
+              ap (λ (r : Reading). kc_of (or_else (if_there (eqb ident (named "KC")) r) (first_said (is (named "KC")) gs))) says_is
               ∙ kept (eqb ident (named "KC")) gs;
         }
       where
-        kept : (t : Bool) (gs : List (Owned FieldRow)) → kcOf (or_else (ifThere t said) (firstSaid (is (named "KC")) gs)) ≡ kcKept (cond t (kcBy said) NoKc) (kcAmong gs)
-        kept true gs = sym (kc-first said (kcAmong gs))
+        kept : (t : Bool) (gs : List (Owned FieldRow)) → kc_of (or_else (if_there t said) (first_said (is (named "KC")) gs)) ≡ kc_kept (cond t (kc_by said) NoKc) (kc_among gs)
+        kept true gs = sym (kc_first said (kc_among gs))
         kept false gs = refl
 
-    pub sure : ownBreaks (basisOf terms) h ident again (badAt s at) said ≡ false → Sure (kcHere ident said)
+    pub sure : own_breaks (basis_of terms) h ident again (bad_at s at) said ≡ false → Sure (kc_here ident said)
     sure q = go (eqb ident (named "KC")) refl
       where
-        reads : isBroken said ≡ false
-        reads = unbroken terms h ident again (badAt s at) said q
+        reads : is_broken said ≡ false
+        reads = unbroken terms h ident again (bad_at s at) said q
 
-        go : (t : Bool) → eqb ident (named "KC") ≡ t → Sure (cond t (kcBy said) NoKc)
+        go : (t : Bool) → eqb ident (named "KC") ≡ t → Sure (cond t (kc_by said) NoKc)
         go true k =
-            let m : said ≡ reading_of Money (text_of (span at (line_at s at).end s)) = S ∙ ap (λ (c : Class). reading_of c (text_of (span at (line_at s at).end s))) (ap class_of (eqb-true ident (named "KC") k) ∙ kc-class) in
-            subst (λ (r : Reading). Sure (kcBy r)) (sym m) (paid-sure (text_of (span at (line_at s at).end s)) (ap isBroken (sym m) ∙ reads))
+            let m : said ≡ reading_of Money (text_of (span at (line_at s at).end s)) = S ∙ ap (λ (c : Class). reading_of c (text_of (span at (line_at s at).end s))) (ap class_of (eqb-true ident (named "KC") k) ∙ kc_class) in
+            subst (λ (r : Reading). Sure (kc_by r)) (sym m) (paid_sure (text_of (span at (line_at s at).end s)) (ap is_broken (sym m) ∙ reads))
         go false k = tt

@@ -4,14 +4,14 @@ use Rattle.std.specs.Prelude.{ℕ, ◌≤◌, ◌<◌, ◌≡◌, Bool, true, fa
 use Rattle.laws.specs.Lists.{any_of}
 use Rattle.laws.specs.Tests.{among}
 use Rattle.headings.specs.declared.Read.TheVariants.{Reads}
-use Rattle.headings.specs.ItemTypes.{isPayment}
+use Rattle.headings.specs.ItemTypes.{is_payment}
 use Rattle.rules.specs.declared.FirstKc.TheVariants.{Pays}
 use Rattle.rules.specs.Terms.{Terms}
 use Rattle.rules.specs.Tree.{Item}
 use Rattle.rules.specs.Said.{head_of}
-use Rattle.rules.specs.Tests.{brokenOf, Spot}
-use Rattle.rules.specs.Spots.{inner, headSpot}
-use Rattle.item_reader.specs.Slips.{kcAmong, fileFrom, Headed}
+use Rattle.rules.specs.Tests.{broken_of, Spot}
+use Rattle.rules.specs.Spots.{inner, head_spot}
+use Rattle.item_reader.specs.Slips.{kc_among, file_from, Headed}
 use Rattle.vetting.specs.declared.Taken.{Taken}
 use Rattle.vetting.specs.declared.Taken.TheVariants.{Sound, Barred}
 
@@ -20,26 +20,26 @@ abbrev pub bars : ℕ → Bool
 bars r = among r (1 ∷ 2 ∷ 3 ∷ 4 ∷ 5 ∷ 6 ∷ 7 ∷ 8 ∷ 9 ∷ 10 ∷ 11 ∷ 13 ∷ 14 ∷ 15 ∷ 23 ∷ 24 ∷ [])
 
 -- 'a line breaks' such a rule: one of some lines
-unfoldable pub anyBarred : List Spot → Bool
-anyBarred [] = false
-anyBarred (p ∷ ps) = any_of bars (brokenOf p.tests) || anyBarred ps
+unfoldable pub any_barred : List Spot → Bool
+any_barred [] = false
+any_barred (p ∷ ps) = any_of bars (broken_of p.tests) || any_barred ps
 
 -- an item, whatever stands above and below it: 16 to 21 and 30 to 39, which ask for that, bar nothing
-unfoldable pub itemBarred : Terms → Item → Bool
-itemBarred terms i = anyBarred (headSpot terms [] i [] ∷ inner terms i)
+unfoldable pub item_barred : Terms → Item → Bool
+item_barred terms i = any_barred (head_spot terms [] i [] ∷ inner terms i)
 
 -- the item that stands at a place is i, and the next one at `next`; whatever number the line has
 pub record ItemAt (s : List ℕ) (at next n : ℕ) (i : Item) : Type 0 where
   pub below : ℕ
-  pub cut : (fileFrom n (drop at s)).items ≡ i ∷ (fileFrom below (drop next s)).items
+  pub cut : (file_from n (drop at s)).items ≡ i ∷ (file_from below (drop next s)).items
 
 -- what is taken of an item: its heading, the amount of its first KC (all but a 51 have one), and the place of the next one; or that a line
 -- of it bars it
 abbrev pub Takes : Terms → List ℕ → ℕ → Taken → Type 0
 Takes terms s at (Sound h a next) =
-    ((n : ℕ) → (i : Item) × ItemAt s at next n i × (itemBarred terms i ≡ false) × (head_of i.head ≡ Reads h) × (isPayment h.kind ≡ true → (d : ℕ) × (kcAmong i.fields ≡ Pays a d)))
+    ((n : ℕ) → (i : Item) × ItemAt s at next n i × (item_barred terms i ≡ false) × (head_of i.head ≡ Reads h) × (is_payment h.kind ≡ true → (d : ℕ) × (kc_among i.fields ≡ Pays a d)))
     × (at < next) × (next ≤ length s) × (next < length s → Headed s next) × (a.0 < 1000000000000000)
-Takes terms s at Barred = (n : ℕ) → (i : Item) × ((is : List Item) × ((fileFrom n (drop at s)).items ≡ i ∷ is)) × (itemBarred terms i ≡ true)
+Takes terms s at Barred = (n : ℕ) → (i : Item) × ((is : List Item) × ((file_from n (drop at s)).items ≡ i ∷ is)) × (item_barred terms i ≡ true)
 
 -- the identifiers that stood in items before, each with the stamp of the last item where it did: all of them are below the next item's
 abbrev pub Stamped : List ℕ → ℕ → Type 0

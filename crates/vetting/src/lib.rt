@@ -10,10 +10,10 @@ pub mod own_line;
 ghost use Rattle.std.specs.Prelude.{◌≡◌, false, ◌+◌, ◌≤◌, ◌<◌, length};
 ghost use Rattle.text.specs.Characters.{answers};
 ghost use Rattle.rules.specs.Terms.{Terms};
-ghost use Rattle.own_rules.specs.Model.{basisOf};
-ghost use Rattle.item_reader.specs.Slips.{amountOf, Headed};
+ghost use Rattle.own_rules.specs.Model.{basis_of};
+ghost use Rattle.item_reader.specs.Slips.{amount_of, Headed};
 ghost use Rattle.vetting.specs.Vetting.{Stamped, Takes};
-ghost use Rattle.vetting.specs.Parts.{lowAt, FieldsTo};
+ghost use Rattle.vetting.specs.Parts.{low_at, FieldsTo};
 
 use fields::classes;
 use headings::{Amount, Heading};
@@ -54,8 +54,8 @@ fn fields_from(
     basis: Basis,
     h: Heading,
 ) -> Passed
-    requires { (table.now ≡ answers) × (at ≤ length s.now) × (lowAt s.now at ≡ false) × Stamped stood.old stamp }
-    ensures fields_to { (terms : Terms) → basis ≡ basisOf terms → FieldsTo terms h s.now at result }
+    requires { (table.now ≡ answers) × (at ≤ length s.now) × (low_at s.now at ≡ false) × Stamped stood.old stamp }
+    ensures fields_to { (terms : Terms) → basis ≡ basis_of terms → FieldsTo terms h s.now at result }
     ensures stamped { Stamped stood.new (stamp + 1) }
 {
     let codes = classes::codes();
@@ -80,7 +80,7 @@ fn fields_from(
 }
 
 fn amount_of(kc: FirstKc) -> Amount
-    ensures { result.0 ≡ amountOf kc }
+    ensures { result.0 ≡ amount_of kc }
 {
     match kc {
         FirstKc::NoKc => Amount(0),
@@ -99,7 +99,7 @@ pub fn take_item(
     basis: Basis,
 ) -> Taken
     requires { (table.now ≡ answers) × (at < length s.now) × Headed s.now at × Stamped stood.old stamp }
-    ensures takes { (terms : Terms) → basis ≡ basisOf terms → Takes terms s.now at result }
+    ensures takes { (terms : Terms) → basis ≡ basis_of terms → Takes terms s.now at result }
     ensures stamped { Stamped stood.new (stamp + 1) }
 {
     let head = own_heading::head_at(table, s, at, basis);

@@ -4,11 +4,11 @@ ghost use Rattle.text.specs.Characters.{answers};
 ghost use Rattle.fields.specs.declared.classes.Class.{Class};
 ghost use Rattle.fields.specs.declared.kinds.Kind.TheVariants.{Field};
 ghost use Rattle.fields.specs.Kinds.{kind_of};
-ghost use Rattle.fields.specs.Codes.{codeBy, code_of};
+ghost use Rattle.fields.specs.Codes.{code_by, code_of};
 ghost use Rattle.fields.specs.Readings.{text_of, reading_of};
 ghost use Rattle.rules.specs.Terms.{Terms};
-ghost use Rattle.own_rules.specs.Model.{basisOf};
-ghost use Rattle.vetting.specs.Parts.{ownBreaks, kcHere, TailTo, FieldTo, FieldLeads};
+ghost use Rattle.own_rules.specs.Model.{basis_of};
+ghost use Rattle.vetting.specs.Parts.{own_breaks, kc_here, TailTo, FieldTo, FieldLeads};
 
 use crate::Passed;
 use crate::own_line::{continues, judged_at, kind_at, low_at};
@@ -60,7 +60,7 @@ fn tail_end(table: &[bool; 256], s: &[u8], at: usize, class: u8) -> Stop
 
 // What a field line says by its own text.
 fn said_at(class: u8, line: &[u8]) -> Reading
-    ensures { (k : Class) → codeBy k ≡ class → result ≡ reading_of k (text_of line.now) }
+    ensures { (k : Class) → code_by k ≡ class → result ≡ reading_of k (text_of line.now) }
 {
     if (class == 1) | (5 <= class) {
         return readings::read_claim(class, line);
@@ -70,14 +70,14 @@ fn said_at(class: u8, line: &[u8]) -> Reading
 
 // Whether a field's own line breaks a rule. A KC that stood already breaks 5, so each that is asked for 8 and 9 is the first.
 fn own_breaks(basis: Basis, h: Heading, ident: usize, again: bool, bad: bool, said: Reading) -> bool
-    ensures { result ≡ ownBreaks basis h ident again bad said }
+    ensures { result ≡ own_breaks basis h ident again bad said }
 {
     bad | again | (opening::said_marks(basis, ident == classes::KC, true, h, said) != 0)
 }
 
 // The KC that a field is.
 fn kc_of(ident: usize, said: Reading) -> FirstKc
-    ensures { result ≡ kcHere ident said }
+    ensures { result ≡ kc_here ident said }
 {
     if ident == classes::KC {
         return claiming::kc_by(said);
@@ -97,7 +97,7 @@ pub fn field_at(
     h: Heading,
 ) -> Passed
     requires { (table.now ≡ answers) × (at < length s.now) × (kind_of (drop at s.now) ≡ Field ident) × (class ≡ code_of ident) }
-    ensures field_to { (terms : Terms) → basis ≡ basisOf terms → FieldTo terms h s.now at ident again result }
+    ensures field_to { (terms : Terms) → basis ≡ basis_of terms → FieldTo terms h s.now at ident again result }
     ensures field_leads { FieldLeads s.now at result }
 {
     let l = judged_at(table, s, at);

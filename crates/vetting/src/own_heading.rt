@@ -2,9 +2,9 @@
 ghost use Rattle.std.specs.Prelude.{◌≡◌, ◌<◌, length};
 ghost use Rattle.text.specs.Characters.{answers};
 ghost use Rattle.rules.specs.Terms.{Terms};
-ghost use Rattle.own_rules.specs.Model.{basisOf};
+ghost use Rattle.own_rules.specs.Model.{basis_of};
 ghost use Rattle.item_reader.specs.Slips.{Headed};
-ghost use Rattle.vetting.specs.Parts.{headBreaks, HeadTo, HeadLeads};
+ghost use Rattle.vetting.specs.Parts.{head_breaks, HeadTo, HeadLeads};
 
 use crate::own_line::{judged_at, low_at};
 use headings::head_rules::{breaks_fourteen, breaks_ten, breaks_thirteen};
@@ -19,7 +19,7 @@ pub enum Started {
 }
 
 fn head_breaks(basis: Basis, h: Heading) -> bool
-    ensures { result ≡ headBreaks basis h }
+    ensures { result ≡ head_breaks basis h }
 {
     breaks_ten(h) | breaks_eleven(basis, h.day) | breaks_thirteen(h) | breaks_fourteen(h)
 }
@@ -28,7 +28,7 @@ fn head_breaks(basis: Basis, h: Heading) -> bool
 // next field or heading.
 pub fn head_at(table: &[bool; 256], s: &[u8], at: usize, basis: Basis) -> Started
     requires { (table.now ≡ answers) × (at < length s.now) × Headed s.now at }
-    ensures head_to { (terms : Terms) → basis ≡ basisOf terms → HeadTo terms s.now at result }
+    ensures head_to { (terms : Terms) → basis ≡ basis_of terms → HeadTo terms s.now at result }
     ensures head_leads { HeadLeads s.now at result }
 {
     let l = judged_at(table, s, at);

@@ -2,7 +2,7 @@
 ghost use Rattle.std.specs.Prelude.{◌≡◌, ◌≤◌, ◌<◌, eqb, length, drop, get_or, set};
 ghost use Rattle.text.specs.Characters.{answers};
 ghost use Rattle.fields.specs.Kinds.{kind_of};
-ghost use Rattle.vetting.specs.Parts.{judgedAt, isContinuation, isLow, identBy, lowAt};
+ghost use Rattle.vetting.specs.Parts.{judged_at, is_continuation, is_low, ident_by, low_at};
 
 use fields::kinds;
 use fields::kinds::Kind;
@@ -17,7 +17,7 @@ pub struct Judged {
 
 pub fn judged_at(table: &[bool; 256], s: &[u8], at: usize) -> Judged
     requires { (table.now ≡ answers) × (at < length s.now) }
-    ensures { result ≡ judgedAt s.now at }
+    ensures { result ≡ judged_at s.now at }
 {
     let f = lines::line_at(s, at);
     let end = f.end;
@@ -49,7 +49,7 @@ pub fn kind_at(s: &[u8], at: usize) -> Kind
 }
 
 pub fn continues(k: Kind) -> bool
-    ensures { result ≡ isContinuation k }
+    ensures { result ≡ is_continuation k }
 {
     match k {
         Kind::Heading => false,
@@ -60,7 +60,7 @@ pub fn continues(k: Kind) -> bool
 }
 
 fn is_low(k: Kind) -> bool
-    ensures { result ≡ isLow k }
+    ensures { result ≡ is_low k }
 {
     match k {
         Kind::Heading => false,
@@ -72,7 +72,7 @@ fn is_low(k: Kind) -> bool
 
 // The identifier of a field, and 1296 for any other line.
 pub fn ident_of(k: Kind) -> usize
-    ensures { result ≡ identBy k }
+    ensures { result ≡ ident_by k }
 {
     match k {
         Kind::Heading => 1296,
@@ -85,7 +85,7 @@ pub fn ident_of(k: Kind) -> usize
 // Whether a line stands at a place that is no heading and no field.
 pub fn low_at(s: &[u8], at: usize) -> bool
     requires { at ≤ length s.now }
-    ensures { result ≡ lowAt s.now at }
+    ensures { result ≡ low_at s.now at }
 {
     (at < s.len()) & is_low(kind_at(s, at))
 }

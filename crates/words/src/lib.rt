@@ -2,7 +2,7 @@
 // bits, in one step each, the first of its bytes that is below 20, and the first above 7E. Promised: what specs/Words.antt says, for
 // every word. It stands on crates `laws` and `text`.
 ghost use Rattle.std.specs.Prelude.{◌≡◌, ◌+◌, ◌≤◌, length, take, drop};
-ghost use Rattle.words.specs.Words.{bytes_of, isAbove, Tells, Marks, flagged};
+ghost use Rattle.words.specs.Words.{bytes_of, is_above, Tells, Marks, flagged};
 
 // Words of one byte eight times: the high bit; 01, which makes 7F reach it; 20, for which only a byte below it borrows.
 const HIGH: u64 = 0x8080_8080_8080_8080;
@@ -42,7 +42,7 @@ pub fn controls(w: u64) -> u64
 
 // A word whose first high bit is that of the first byte of w above 7E. Only FF carries into the next, and it is above 7E itself.
 pub fn odds(w: u64) -> u64
-    ensures { Tells isAbove 8 w result }
+    ensures { Tells is_above 8 w result }
 {
     std::num::wrapping_add_u64(w, ONES) | w
 }

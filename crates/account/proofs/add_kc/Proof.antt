@@ -1,5 +1,5 @@
 use borrow.Author.Rules.{rules}
-use Rattle.account.specs.Model.{countsAfter, sumsAfter}
+use Rattle.account.specs.Model.{counts_after, sums_after}
 use Rattle.account.proofs.add_kc.Statement.{statement}
 use Rattle.account.proofs.add_kc.Tie as tie
 use Rattle.account.proofs.add_kc.Reads as reads
@@ -8,15 +8,15 @@ use Rattle.group_sums.proofs.add_amount.Reads as add-amount-reads
 use Rattle.headings.proofs.item_types.is_payment.Reads as is-payment-reads
 
 returns : tie.Need-returns
-unfolding countsAfter sumsAfter
+unfolding counts_after sums_after
 returns c = (rw c.enum_told.given.1, rw c.enum_told.given.1)
 
 returns-2 : tie.Need-returns-2
-unfolding countsAfter sumsAfter
+unfolding counts_after sums_after
 returns-2 c = (rw c.enum-told2.given.1, rw c.enum-told2.given.1)
 
 returns-3 : tie.Need-returns-3
-unfolding countsAfter sumsAfter
+unfolding counts_after sums_after
 returns-3 c =
     let told = c.before.before.before.before.before.before.kc.given.1 in
     let paying = c.before.before.before.before.is-payment.ensures in
@@ -24,7 +24,7 @@ returns-3 c =
     (rw (told, ← paying, is, c.add-amount.ensures.0), rw (told, ← paying, is, c.add-amount.ensures.1))
 
 returns-4 : tie.Need-returns-4
-unfolding countsAfter sumsAfter
+unfolding counts_after sums_after
 returns-4 c =
     let told = c.before.before.before.kc.given.1 in
     let paying = c.before.is-payment.ensures in

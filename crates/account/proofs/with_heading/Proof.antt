@@ -1,10 +1,10 @@
-use Rattle.account.specs.Model.{headingBlock}
+use Rattle.account.specs.Model.{heading_block}
 use Rattle.account.proofs.with_heading.Statement.{statement}
 use borrow.Author.Rules.{rules}
 use Rattle.account.proofs.with_heading.Tie as tie
 
 returns : tie.Need-returns
-unfolding headingBlock
+unfolding heading_block
 returns c = simp (c.before.before.number-kept.ensures, c.before.before.before.day-kept.ensures, c.before.before.before.before.is-priority.ensures, c.before.before.before.before.before.is-payment.ensures)
 
 pub with-heading-spec : {M : Type 1} → statement M

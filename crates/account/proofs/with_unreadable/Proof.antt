@@ -1,10 +1,10 @@
-use Rattle.account.specs.Model.{touchedBlock}
+use Rattle.account.specs.Model.{touched_block}
 use Rattle.account.proofs.with_unreadable.Statement.{statement}
 use mathlib.Core.Path.{refl}
 use Rattle.account.proofs.with_unreadable.Tie as tie
 
 returns : tie.Need-returns
-unfolding touchedBlock
+unfolding touched_block
 returns c = refl
 
 pub with-unreadable-spec : {M : Type 1} → statement M

@@ -4,12 +4,12 @@ use mathlib.Core.Path.{sym, subst}
 use mathlib.Core.List.{List, ◌++◌}
 use lib.ListN.{take, drop}
 use lib.Seq.{length-take-le, length_front}
-use Rattle.item_reader.specs.Slips.{slipsFrom}
+use Rattle.item_reader.specs.Slips.{slips_from}
 use Rattle.sorting.specs.Sorting.{Within}
-use Rattle.register.specs.Register.{registerOf}
+use Rattle.register.specs.Register.{register_of}
 use Rattle.register.specs.Entering.{used}
-use Rattle.adding.proofs.Uses.{keys-within, uses-fit, ordered-front, enters-uses}
-use Rattle.adding.proofs.Lengths.{is-formed}
+use Rattle.adding.proofs.Uses.{keys_within, uses_fit, ordered_front, enters_uses}
+use Rattle.adding.proofs.Lengths.{is_formed}
 use borrow.Author.Rules.{rules}
 use Rattle.adding.proofs.enter_items.Statement.{statement}
 use Rattle.adding.proofs.enter_items.Tie as tie
@@ -26,7 +26,7 @@ slice-aggregate-put-in-order c = sym (length-take-le _ _ c.before.before.gather.
 put-in-order-requires : tie.Need-put-in-order-requires
 put-in-order-requires c κs =
     let s = c.before.before.before.before.before.before.before in
-    subst (λ (l : List ℕ). Within 0 1000000000000000 l) (sym c.before.before.gather.ensures.holds) (keys-within (used (slipsFrom 1 s.args.s.now)) (uses-fit 1 s.args.s.now) s.requires.2)
+    subst (λ (l : List ℕ). Within 0 1000000000000000 l) (sym c.before.before.gather.ensures.holds) (keys_within (used (slips_from 1 s.args.s.now)) (uses_fit 1 s.args.s.now) s.requires.2)
 
 array-share-prefix-keys : tie.Need-array-share-prefix-keys
 array-share-prefix-keys c =
@@ -52,9 +52,9 @@ returns c =
     let s = c.before.before.before.before.before.before.before.before.before.before.before.before.before.before in
     let g = c.before.before.before.before.before.before.before.before.before.gather in
     let p = c.before.before.before.before.before.before.put-in-order in
-    enters-uses (registerOf s.args.register.now) (is-formed s.args.register.now s.requires.0) (used (slipsFrom 1 s.args.s.now)) (uses-fit 1 s.args.s.now) s.requires.2
+    enters_uses (register_of s.args.register.now) (is_formed s.args.register.now s.requires.0) (used (slips_from 1 s.args.s.now)) (uses_fit 1 s.args.s.now) s.requires.2
     (take g.result (p.new.0 ++ drop g.result g.new.1.0))
-    (ordered-front g.new.1.0 p.new.0 g.result g.ensures.within g.ensures.holds p.auto.0 p.ensures)
+    (ordered_front g.new.1.0 p.new.0 g.result g.ensures.within g.ensures.holds p.auto.0 p.ensures)
     s.args.day s.args.code c.before.before.enter-keys.ensures
 
 pub enter-items-spec : {M : Type 1} → statement M

@@ -1,12 +1,12 @@
 use native.Mathlib.Omega.{arith}
-use Rattle.portions.proofs.Bounds.{open-so}
+use Rattle.portions.proofs.Bounds.{open_so}
 use Rattle.answering.proofs.Answers.{hands_out}
 use borrow.Author.Rules.{rules}
 use Rattle.answering.proofs.list_out.Statement.{statement}
 use Rattle.answering.proofs.list_out.Tie as tie
 
 finish-requires : tie.Need-finish-requires
-finish-requires c κs = let U = open-so _ _ _ _ c.before.before.before.before.before.before.requires.0 in (omega (arith, U.came, c.before.before.before.before.before.before.requires.1), U.sound)
+finish-requires c κs = let U = open_so _ _ _ _ c.before.before.before.before.before.before.requires.0 in (omega (arith, U.came, c.before.before.before.before.before.before.requires.1), U.sound)
 
 hand-out-requires : tie.Need-hand-out-requires
 hand-out-requires c κs = (omega (arith, c.before.before.before.handed.ensures, c.before.hand-out-arg2.given.0), omega (arith, c.before.before.before.handed.ensures, c.hand-out-arg3.given.0.1))

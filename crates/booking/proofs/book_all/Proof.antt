@@ -2,7 +2,7 @@ use Prim.Native.Nat.{◌-◌}
 use native.Mathlib.Omega.{arith}
 use lib.ListN.{length}
 use Rattle.booking.proofs.Soundness.{sound}
-use Rattle.booking.proofs.Walks.{Walk, walk_start, walk-on, walk_end}
+use Rattle.booking.proofs.Walks.{Walk, walk_start, walk_on, walk_end}
 use borrow.Author.Rules.{rules}
 use Rattle.booking.proofs.book_all.Statement.{statement}
 use Rattle.booking.proofs.book_all.Tie as tie
@@ -33,7 +33,7 @@ loop-less c =
 loop-again : tie.Need-loop-preserved invariant-loop decreases-loop
 loop-again c =
     let x = c.before.before.before.before in
-    walk-on x.before.before.loop.invariant x.slip-at.ensures c.before.posting-of.ensures c.book.ensures.0 c.book.ensures.1
+    walk_on x.before.before.loop.invariant x.slip-at.ensures c.before.posting-of.ensures c.book.ensures.0 c.book.ensures.1
 
 returns : tie.Need-returns invariant-loop decreases-loop
 returns c = walk_end c.before.loop.invariant c.loop-test.false

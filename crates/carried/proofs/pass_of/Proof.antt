@@ -1,4 +1,4 @@
-use Rattle.carried.specs.Words.{passOf}
+use Rattle.carried.specs.Words.{pass_of}
 use borrow.Author.Rules.{rules}
 use Rattle.carried.proofs.pass_of.Statement.{statement}
 use Rattle.carried.proofs.pass_of.Tie as tie
@@ -46,8 +46,8 @@ starts-in-requires : tie.Need-starts-in-requires
 starts-in-requires c κs = search rules
 
 returns : tie.Need-returns
-unfolding passOf
-returns c = rw (c.starts-in.ensures, c.before.wait-in.ensures, c.before.before.block_in.ensures, c.before.before.before.stated-in.ensures, c.before.before.before.before.span-in.ensures, c.before.before.before.before.before.kc-in.ensures, c.before.before.before.before.before.before.heading-in.ensures, c.before.before.before.before.before.before.before.pend_in.ensures, c.before.before.before.before.before.before.before.before.field_in.ensures, c.before.before.before.before.before.before.before.before.before.ledger-in.ensures)
+unfolding pass_of
+returns c = rw (c.starts_in.ensures, c.before.wait-in.ensures, c.before.before.block_in.ensures, c.before.before.before.stated-in.ensures, c.before.before.before.before.span-in.ensures, c.before.before.before.before.before.kc_in.ensures, c.before.before.before.before.before.before.heading-in.ensures, c.before.before.before.before.before.before.before.pend_in.ensures, c.before.before.before.before.before.before.before.before.field_in.ensures, c.before.before.before.before.before.before.before.before.before.ledger-in.ensures)
 
 pub pass-of-spec : {M : Type 1} → statement M
 pass-of-spec =

@@ -33,7 +33,7 @@ group-in-requires-10 : tie.Need-group-in-requires-10
 group-in-requires-10 c κs = search rules
 
 returns : tie.Need-returns
-returns c = rw (c.group-in10.ensures, c.before.group-in9.ensures, c.before.before.group-in8.ensures, c.before.before.before.group-in7.ensures, c.before.before.before.before.group-in6.ensures, c.before.before.before.before.before.group-in5.ensures, c.before.before.before.before.before.before.group-in4.ensures, c.before.before.before.before.before.before.before.group-in3.ensures, c.before.before.before.before.before.before.before.before.group-in2.ensures, c.before.before.before.before.before.before.before.before.before.group-in.ensures)
+returns c = rw (c.group-in10.ensures, c.before.group-in9.ensures, c.before.before.group-in8.ensures, c.before.before.before.group-in7.ensures, c.before.before.before.before.group-in6.ensures, c.before.before.before.before.before.group-in5.ensures, c.before.before.before.before.before.before.group-in4.ensures, c.before.before.before.before.before.before.before.group-in3.ensures, c.before.before.before.before.before.before.before.before.group-in2.ensures, c.before.before.before.before.before.before.before.before.before.group_in.ensures)
 
 pub stated-in-spec : {M : Type 1} → statement M
 stated-in-spec =

@@ -1,6 +1,6 @@
 use mathlib.Core.Path.{◌≡◌, ap, ◌∙◌}
-use Rattle.carried.specs.Words.{words_of, passOf}
-use Rattle.carried.proofs.Back.{pass-back}
+use Rattle.carried.specs.Words.{words_of, pass_of}
+use Rattle.carried.proofs.Back.{pass_back}
 use borrow.Author.Rules.{rules}
 use Rattle.carried.proofs.words_of.Statement.{statement}
 use Rattle.carried.proofs.words_of.Tie as tie
@@ -33,7 +33,7 @@ written c = rw (c.small_of.ensures, c.before.narrow-of.ensures, c.before.before.
 
 returns : tie.Need-returns
 returns c =
-    (written c, ap passOf (written c) ∙ pass-back _ c.before.before.wide_of.ensures.1 c.before.before.wide_of.ensures.2 c.before.before.before.flats-of.ensures.1)
+    (written c, ap pass_of (written c) ∙ pass_back _ c.before.before.wide_of.ensures.1 c.before.before.wide_of.ensures.2 c.before.before.before.flats-of.ensures.1)
 
 pub words-of-spec : {M : Type 1} → statement M
 words-of-spec =

@@ -1,6 +1,6 @@
 use mathlib.Core.Path.{sym}
 use native.Mathlib.Omega.{arith}
-use Rattle.closing_lines.proofs.Rows.{wrote_none, same_text, group_empty, group-some}
+use Rattle.closing_lines.proofs.Rows.{wrote_none, same_text, group_empty, group_some}
 use borrow.Author.Rules.{rules}
 use Rattle.closing_lines.proofs.put_group.Statement.{statement}
 use Rattle.closing_lines.proofs.put_group.Tie as tie
@@ -15,7 +15,7 @@ returns-2 c =
     let p = c.before.before in
     let i = p.before.before in
     let a = i.before.before in
-    (same_text (sym (group-some a.args.group a.args.count a.args.sum i.if1.false)) p.put-sum.ensures.0, search rules)
+    (same_text (sym (group_some a.args.group a.args.count a.args.sum i.if1.false)) p.put-sum.ensures.0, search rules)
 
 pub put-group-spec : {M : Type 1} → statement M
 put-group-spec = tie.close (tie.spec returns (λ c κs. search rules) (λ c. search rules) returns-2)

@@ -3,7 +3,7 @@ use mathlib.Core.Path.{◌≡◌, refl, ◌∙◌}
 use native.Mathlib.Omega.{arith}
 use lib.ListN.{length}
 use Rattle.text.proofs.Wrote.{same_length as as_long}
-use Rattle.closing_lines.proofs.Rows.{SumsSoFar, sums_none, sums-more, sums-all}
+use Rattle.closing_lines.proofs.Rows.{SumsSoFar, sums_none, sums_more, sums_all}
 use borrow.Author.Rules.{rules}
 use Rattle.closing_lines.proofs.put_groups.Statement.{statement}
 use Rattle.closing_lines.proofs.put_groups.Tie as tie
@@ -23,7 +23,7 @@ loop-again c =
     let i = p.before.before.before.before in
     let l = i.before in
     let a = l.before.before.before.before in (
-      sums-more l.loop.d a.args.counts.now a.args.sums.now (omega (arith, a.requires, i.loop-test.true)) (omega (arith, a.requires, i.loop-test.true)) l.loop.invariant.0 p.put-group.ensures.0,
+      sums_more l.loop.d a.args.counts.now a.args.sums.now (omega (arith, a.requires, i.loop-test.true)) (omega (arith, a.requires, i.loop-test.true)) l.loop.invariant.0 p.put-group.ensures.0,
       omega (arith, l.loop.invariant.1, p.put-group.ensures.1),
       search rules,
       as_long p.put-group.ensures.0 ∙ l.loop.invariant.3,
@@ -36,7 +36,7 @@ returns : tie.Need-returns invariant-loop decreases-loop
 returns c =
     let l = c.before in
     let a = l.before.before.before.before in
-    (sums-all l.loop.d a.args.counts.now a.args.sums.now (omega (arith, a.requires, c.loop-test.false)) l.loop.invariant.0, omega (arith, l.loop.invariant.1, l.loop.invariant.2))
+    (sums_all l.loop.d a.args.counts.now a.args.sums.now (omega (arith, a.requires, c.loop-test.false)) l.loop.invariant.0, omega (arith, l.loop.invariant.1, l.loop.invariant.2))
 
 pub put-groups-spec : {M : Type 1} → statement M
 put-groups-spec =

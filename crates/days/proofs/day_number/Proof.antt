@@ -1,10 +1,10 @@
 use borrow.Author.Rules.{rules}
-use Rattle.days.specs.Days.{dayNumber}
+use Rattle.days.specs.Days.{day_number}
 use Rattle.days.proofs.day_number.Statement.{statement}
 use Rattle.days.proofs.day_number.Tie as tie
 
 returns : tie.Need-returns
-unfolding dayNumber
+unfolding day_number
 returns c = rw (c.days-before.ensures.0, c.before.years-before.ensures.0, c.before.before.is-leap.ensures)
 
 pub day-number-spec : {M : Type 1} → statement M

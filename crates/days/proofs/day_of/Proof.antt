@@ -1,11 +1,11 @@
 use borrow.Author.Rules.{rules}
 use native.Mathlib.Omega.{arith}
-use Rattle.days.proofs.Reckoning.{before-first, after_last, made-of-rest}
+use Rattle.days.proofs.Reckoning.{before_first, after_last, made_of_rest}
 use Rattle.days.proofs.day_of.Statement.{statement}
 use Rattle.days.proofs.day_of.Tie as tie
 
 returns : tie.Need-returns
-returns c = before-first _ c.if1.true
+returns c = before_first _ c.if1.true
 
 returns-2 : tie.Need-returns-2
 returns-2 c = after_last _ c.if2.true
@@ -20,7 +20,7 @@ returns-3 c =
     let y = l.before.before.year-of.ensures in
     let e = l.before.years-before.ensures.0 in
     rw (c.days-before.ensures.0, l.is-leap.ensures, e)
-    (made-of-rest _ _ _ y (rw (l.is-leap.ensures, e) at m.month-of.ensures))
+    (made_of_rest _ _ _ y (rw (l.is-leap.ensures, e) at m.month-of.ensures))
 
 pub day-of-spec : {M : Type 1} → statement M
 day-of-spec =

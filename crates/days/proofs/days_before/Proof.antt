@@ -8,7 +8,7 @@ use borrow.Author.Tests.{lt-ltb, le-ltb, eq-eqb, ne_eqb}
 use borrow.Author.Rules.{rules}
 use Rattle.laws.specs.Lists.{sum}
 use Rattle.days.specs.Days.{row}
-use Rattle.days.proofs.Calendar.{starts, all-before}
+use Rattle.days.proofs.Calendar.{starts, all_before}
 use Rattle.days.proofs.days_before.Statement.{statement}
 use Rattle.days.proofs.days_before.Tie as tie
 
@@ -29,7 +29,7 @@ few c = ⊎_elim (λ w. omega (arith, w.1)) (λ w. omega (arith, w.1, w.0.left))
 by-fives : (c : tie.Joined3) → cond c.before.before.args.leap ((153 * c.if3.m - 162) / 5 + 1) ((153 * c.if3.m - 162) / 5) ≡ sum (take (c.before.before.args.month - 1) (row c.before.before.args.leap))
 by-fives c =
     rw (le-ltb c.if3.m 3 (few c).0) at (starts c.before.before.args.leap c.if3.m (omega (arith, few c)))
-    ∙ ⊎_elim (λ w. rw w.1 (all-before _ _ w.0.taken)) (λ w. rw w.1) c.if3.branch
+    ∙ ⊎_elim (λ w. rw w.1 (all_before _ _ w.0.taken)) (λ w. rw w.1) c.if3.branch
 
 mul-n : tie.Need-overflow-mul-n
 mul-n c = omega (arith, few c.before)

@@ -1,12 +1,12 @@
 use borrow.Author.Rules.{rules}
 use mathlib.Core.Path.{sym}
 use Rattle.days.proofs.Calendar.{years}
-use Rattle.days.proofs.Reckoning.{few-days}
+use Rattle.days.proofs.Reckoning.{few_days}
 use Rattle.days.proofs.years_before.Statement.{statement}
 use Rattle.days.proofs.years_before.Tie as tie
 
 returns : tie.Need-returns
-returns c = let y = c.args.year in (sym (years y), rw years at (few-days y c.requires))
+returns c = let y = c.args.year in (sym (years y), rw years at (few_days y c.requires))
 
 pub years-before-spec : {M : Type 1} → statement M
 years-before-spec =

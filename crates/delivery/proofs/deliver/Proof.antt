@@ -2,8 +2,8 @@ use mathlib.Core.Path.{◌≡◌, sym, ◌∙◌}
 use mathlib.Core.Bool.{true}
 use borrow.Author.Tests.{not-true, not-false}
 use Rattle.outgoing_lines.specs.Outgoing.{Orders}
-use Rattle.rules.specs.Terms.{isCode, isAccountingDay}
-use Rattle.delivery.proofs.Job.{bad-code, bad-day, no_items, counted, not-headed, headed, as_items}
+use Rattle.rules.specs.Terms.{is_code, is_accounting_day}
+use Rattle.delivery.proofs.Job.{bad_code, bad_day, no_items, counted, not_headed, headed, as_items}
 use borrow.Author.Rules.{rules}
 use Rattle.delivery.proofs.deliver.Statement.{statement}
 use Rattle.delivery.proofs.deliver.Tie as tie
@@ -12,21 +12,21 @@ use Rattle.delivery.proofs.deliver.Tie as tie
 abbrev orders : tie.Start → Orders
 orders s = record { outcomes = s.args.outcomes.now; standings = s.args.standings.now; start = s.args.start }
 
-code_is : (c : tie.Else1) → isCode c.before.before.before.before.before.before.args.certis ≡ true
+code_is : (c : tie.Else1) → is_code c.before.before.before.before.before.before.args.certis ≡ true
 code_is c = sym c.before.is_code.ensures ∙ not-false _ c.if1.false
 
-day-is : (c : tie.Else2) → isAccountingDay c.before.before.before.before.before.before.before.before.args.day ≡ true
+day-is : (c : tie.Else2) → is_accounting_day c.before.before.before.before.before.before.before.before.args.day ≡ true
 day-is c = sym c.before.is-accounting-day.ensures ∙ not-false _ c.if2.false
 
 returns : tie.Need-returns
 returns c =
     let s = c.before.before.before.before.before.before in
-    bad-code s.args.items.now (orders s) s.args.certis s.args.day s.args.target.now (sym c.before.is_code.ensures ∙ not-true _ c.if1.true)
+    bad_code s.args.items.now (orders s) s.args.certis s.args.day s.args.target.now (sym c.before.is_code.ensures ∙ not-true _ c.if1.true)
 
 returns-2 : tie.Need-returns-2
 returns-2 c =
     let s = c.before.before.before.before.before.before.before.before in
-    bad-day s.args.items.now (orders s) s.args.certis s.args.day s.args.target.now (code_is c.before.before) (sym c.before.is-accounting-day.ensures ∙ not-true _ c.if2.true)
+    bad_day s.args.items.now (orders s) s.args.certis s.args.day s.args.target.now (code_is c.before.before) (sym c.before.is-accounting-day.ensures ∙ not-true _ c.if2.true)
 
 returns-3 : tie.Need-returns-3
 returns-3 c =
@@ -41,7 +41,7 @@ returns-4 c =
     let n = e.before.before in
     let d = n.before in
     let s = d.before.before.before.before.before.before.before.before in
-    not-headed s.args.items.now (orders s) s.args.certis s.args.day s.args.target.now (code_is d.before.before) (day-is d) _ n.count-items.ensures (sym e.before.not-items.ensures ∙ e.if3.false) (sym c.before.starts.ensures ∙ not-true _ c.if4.true)
+    not_headed s.args.items.now (orders s) s.args.certis s.args.day s.args.target.now (code_is d.before.before) (day-is d) _ n.count-items.ensures (sym e.before.not-items.ensures ∙ e.if3.false) (sym c.before.starts.ensures ∙ not-true _ c.if4.true)
 
 deliver-items-requires : tie.Need-deliver-items-requires
 deliver-items-requires c κs =

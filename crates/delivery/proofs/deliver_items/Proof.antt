@@ -3,7 +3,7 @@ use mathlib.Core.Path.{sym}
 use Rattle.outgoing_lines.specs.Outgoing.{Orders}
 use Rattle.surveying.specs.Items.{items_of}
 use Rattle.surveying.specs.Model.{Leads}
-use Rattle.delivery.proofs.Items.{items-unsent, items-derived, items-mixed, items-sent}
+use Rattle.delivery.proofs.Items.{items_unsent, items_derived, items_mixed, items_sent}
 use borrow.Author.Rules.{rules}
 use Rattle.delivery.proofs.deliver_items.Statement.{statement}
 use Rattle.delivery.proofs.deliver_items.Tie as tie
@@ -22,20 +22,20 @@ returns c =
     let o = c.before.before in
     let v = o.before.before in
     let s = v.before.before.before.before.before.before.before.before.before.before in
-    items-mixed s.args.items.now (orders v) s.args.certis s.args.day s.args.target.now s.requires.0.1 s.requires.0.0 _ (leads v) _ _ _ v.survey-all.ensures _ o.other.given.1 c.if1.true
+    items_mixed s.args.items.now (orders v) s.args.certis s.args.day s.args.target.now s.requires.0.1 s.requires.0.0 _ (leads v) _ _ _ v.survey-all.ensures _ o.other.given.1 c.if1.true
 
 deliver-sent-requires : tie.Need-deliver-sent-requires
 deliver-sent-requires c κs =
     let o = c.before.before.before.before.before in
     let v = o.before.before in
     let s = v.before.before.before.before.before.before.before.before.before.before in
-    (items-derived s.args.items.now (orders v) s.args.certis s.args.day s.args.target.now s.requires.0.1 s.requires.0.0 _ (leads v) _ _ _ v.survey-all.ensures _ o.other.given.1, (s.requires.1.1, s.requires.1.2))
+    (items_derived s.args.items.now (orders v) s.args.certis s.args.day s.args.target.now s.requires.0.1 s.requires.0.0 _ (leads v) _ _ _ v.survey-all.ensures _ o.other.given.1, (s.requires.1.1, s.requires.1.2))
 
 returns-2 : tie.Need-returns-2
 returns-2 c =
     let v = c.before.before in
     let s = v.before.before.before.before.before.before.before.before.before.before in
-    items-unsent s.args.items.now (orders v) s.args.certis s.args.day s.args.target.now s.requires.0.1 s.requires.0.0 _ (leads v) _ _ _ v.survey-all.ensures c.enum_told.given.1
+    items_unsent s.args.items.now (orders v) s.args.certis s.args.day s.args.target.now s.requires.0.1 s.requires.0.0 _ (leads v) _ _ _ v.survey-all.ensures c.enum_told.given.1
 
 returns-3 : tie.Need-returns-3
 returns-3 c =
@@ -44,7 +44,7 @@ returns-3 c =
     let o = e.before.before in
     let v = o.before.before in
     let s = v.before.before.before.before.before.before.before.before.before.before in
-    items-sent s.args.items.now (orders v) s.args.certis s.args.day s.args.target.now s.requires.0.1 s.requires.0.0 _ (leads v) _ _ _ v.survey-all.ensures _ o.other.given.1 e.if1.false s.args.n s.requires.1.0 s.requires.1.1 s.requires.1.2 f.deliver-sent.ensures
+    items_sent s.args.items.now (orders v) s.args.certis s.args.day s.args.target.now s.requires.0.1 s.requires.0.0 _ (leads v) _ _ _ v.survey-all.ensures _ o.other.given.1 e.if1.false s.args.n s.requires.1.0 s.requires.1.1 s.requires.1.2 f.deliver-sent.ensures
 
 pub deliver-items-spec : {M : Type 1} → statement M
 deliver-items-spec =

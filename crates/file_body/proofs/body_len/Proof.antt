@@ -4,8 +4,8 @@ use Prim.Native.Nat.{◌-◌}
 use native.Mathlib.Omega.{arith}
 use lib.ListN.{length}
 use Rattle.file_body.specs.Blocks.{clear}
-use Rattle.file_body.proofs.Blocks.{clear-fits, clear_none}
-use Rattle.file_body.proofs.Body.{Passed, pass-start, pass-block, pass_all}
+use Rattle.file_body.proofs.Blocks.{clear_fits, clear_none}
+use Rattle.file_body.proofs.Body.{Passed, pass_start, pass_block, pass_all}
 use borrow.Author.Rules.{rules}
 use Rattle.file_body.proofs.body_len.Statement.{statement}
 use Rattle.file_body.proofs.body_len.Tie as tie
@@ -21,16 +21,16 @@ at_clear : (c : tie.Then1 invariant-loop decreases-loop) → clear c.before.befo
 at_clear c = sym c.before.Clear-of.ensures ∙ c.if1.true
 
 loop-holds : tie.Need-loop-init invariant-loop decreases-loop
-loop-holds c = pass-start _ _
+loop-holds c = pass_start _ _
 
 add-i : tie.Need-overflow-add-i invariant-loop decreases-loop
-add-i c = omega (arith, clear-fits _ _ _ _ (at_clear c))
+add-i c = omega (arith, clear_fits _ _ _ _ (at_clear c))
 
 loop-less : tie.Need-loop-smaller invariant-loop decreases-loop
-loop-less c = omega (arith, clear-fits _ _ _ _ (at_clear c))
+loop-less c = omega (arith, clear_fits _ _ _ _ (at_clear c))
 
 loop-again : tie.Need-loop-preserved invariant-loop decreases-loop
-loop-again c = pass-block _ _ _ _ c.before.before.loop.invariant (clear-fits _ _ _ _ (at_clear c)) (clear_none _ _ _ _ (at_clear c))
+loop-again c = pass_block _ _ _ _ c.before.before.loop.invariant (clear_fits _ _ _ _ (at_clear c)) (clear_none _ _ _ _ (at_clear c))
 
 returns : tie.Need-returns invariant-loop decreases-loop
 returns c = pass_all _ _ _ c.before.before.before.loop.invariant c.mark-from.ensures

@@ -6,7 +6,7 @@ use lib.ListN.{length, get_or, drop}
 use borrow.Author.Tests.{eq-eqb, ne_eqb}
 use Rattle.laws.specs.Lists.{any_of}
 use Rattle.laws.specs.Tests.{is_byte}
-use Rattle.laws.proofs.Any.{flag-set, flag-kept, flag_is}
+use Rattle.laws.proofs.Any.{flag_set, flag_kept, flag_is}
 use borrow.Author.Rules.{rules}
 use Rattle.file_body.proofs.holds.Statement.{statement}
 use Rattle.file_body.proofs.holds.Tie as tie
@@ -29,8 +29,8 @@ loop-again c =
     let inside = c.before.before.loop-test.true in
     let with-flag : Bool → Bool = λ (t : Bool). t || any_of (is_byte b) (drop (i + 1) s) in
     ⊎_elim
-    (λ w. ap with-flag w.1 ∙ flag-set (is_byte b) s i at-loop.loop.found at-loop.loop.invariant inside (eq-eqb (get_or s i 0) b w.0.taken))
-    (λ w. ap with-flag w.1 ∙ flag-kept (is_byte b) s i at-loop.loop.found at-loop.loop.invariant inside (ne_eqb (get_or s i 0) b w.0.left))
+    (λ w. ap with-flag w.1 ∙ flag_set (is_byte b) s i at-loop.loop.found at-loop.loop.invariant inside (eq-eqb (get_or s i 0) b w.0.taken))
+    (λ w. ap with-flag w.1 ∙ flag_kept (is_byte b) s i at-loop.loop.found at-loop.loop.invariant inside (ne_eqb (get_or s i 0) b w.0.left))
     c.if1.branch
 
 returns : tie.Need-returns invariant-loop decreases-loop

@@ -2,7 +2,7 @@ use Prim.Native.Nat.{◌-◌}
 use mathlib.Core.Bool.{false≢true}
 use lib.ListN.{length, drop}
 use Rattle.sorting.specs.Sorting.{Rises}
-use Rattle.gathering.proofs.Items.{rises-more, rises-end}
+use Rattle.gathering.proofs.Items.{rises_more, rises_end}
 use borrow.Author.Rules.{rules}
 use Rattle.gathering.proofs.ascends.Statement.{statement}
 use Rattle.gathering.proofs.ascends.Tie as tie
@@ -22,10 +22,10 @@ returns c = λ e. absurd (false≢true e)
 loop-again : tie.Need-loop-preserved invariant-loop decreases-loop
 loop-again c =
     let l = c.before.before.before.before in
-    rises-more l.before.args.keys.now l.loop.i l.loop.last c.before.before.before.loop-test.true c.before.if1.false l.loop.invariant
+    rises_more l.before.args.keys.now l.loop.i l.loop.last c.before.before.before.loop-test.true c.before.if1.false l.loop.invariant
 
 returns-2 : tie.Need-returns-2 invariant-loop decreases-loop
-returns-2 c = λ e. rises-end c.before.before.args.keys.now c.before.loop.i c.before.loop.last c.loop-test.false c.before.loop.invariant
+returns-2 c = λ e. rises_end c.before.before.args.keys.now c.before.loop.i c.before.loop.last c.loop-test.false c.before.loop.invariant
 
 pub ascends-spec : {M : Type 1} → statement M
 ascends-spec =

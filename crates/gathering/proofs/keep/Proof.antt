@@ -2,7 +2,7 @@ use native.Mathlib.Omega.{arith}
 use mathlib.Core.Path.{◌≡◌, refl, ◌∙◌}
 use lib.ListN.{length, length-set}
 use borrow.Author.Tests.{not-true, not-false}
-use Rattle.gathering.proofs.Items.{Keeping, keep-start, keep-take, keep-drop, keep-end}
+use Rattle.gathering.proofs.Items.{Keeping, keep_start, keep_take, keep_drop, keep_end}
 use borrow.Author.Rules.{rules}
 use Rattle.gathering.proofs.keep.Statement.{statement}
 use Rattle.gathering.proofs.keep.Tie as tie
@@ -14,7 +14,7 @@ abbrev decreases-loop : tie.decreases-loop
 decreases-loop register day n starts₀ ends₀ k₀ at₀ left₀ starts ends k at left = left
 
 loop-holds : tie.Need-loop-init invariant-loop decreases-loop
-loop-holds c = (keep-start _ _ _ _ _, refl, refl)
+loop-holds c = (keep_start _ _ _ _ _, refl, refl)
 
 slice-write-starts : tie.Need-slice-write-starts invariant-loop decreases-loop
 slice-write-starts c =
@@ -30,7 +30,7 @@ loop-again : tie.Need-loop-preserved invariant-loop decreases-loop
 loop-again c =
     let l = c.before.before.before.before.before.before.before.before in
     let p = l.before.before.before.before.requires in (
-      keep-take l.loop.invariant.0 c.before.before.before.before.before.before.before.loop-test.true c.before.before.before.before.before.before.read.ensures c.before.before.before.before.before.read2.ensures c.before.before.before.before.read3.ensures c.before.before.before.later.ensures (not-true _ c.before.before.if1.true) (omega (arith, l.loop.invariant.0.few, l.loop.invariant.1, c.before.before.before.before.before.before.before.loop-test.true, p.1)) (omega (arith, l.loop.invariant.0.few, l.loop.invariant.2, c.before.before.before.before.before.before.before.loop-test.true, p.2)) c.before.day-key.ensures c.day-key2.ensures,
+      keep_take l.loop.invariant.0 c.before.before.before.before.before.before.before.loop-test.true c.before.before.before.before.before.before.read.ensures c.before.before.before.before.before.read2.ensures c.before.before.before.before.read3.ensures c.before.before.before.later.ensures (not-true _ c.before.before.if1.true) (omega (arith, l.loop.invariant.0.few, l.loop.invariant.1, c.before.before.before.before.before.before.before.loop-test.true, p.1)) (omega (arith, l.loop.invariant.0.few, l.loop.invariant.2, c.before.before.before.before.before.before.before.loop-test.true, p.2)) c.before.day-key.ensures c.day-key2.ensures,
       length-set l.loop.starts l.loop.k c.before.day-key.result ∙ l.loop.invariant.1,
       length-set l.loop.ends l.loop.k c.day-key2.result ∙ l.loop.invariant.2,
     )
@@ -38,7 +38,7 @@ loop-again c =
 loop-again-2 : tie.Need-loop-preserved-2 invariant-loop decreases-loop
 loop-again-2 c =
     let l = c.before.before.before.before.before.before in
-    (keep-drop l.loop.invariant.0 c.before.before.before.before.before.loop-test.true c.before.before.before.before.read.ensures c.before.before.before.read2.ensures c.before.before.read3.ensures c.before.later.ensures (not-false _ c.if1.false), l.loop.invariant.1, l.loop.invariant.2)
+    (keep_drop l.loop.invariant.0 c.before.before.before.before.before.loop-test.true c.before.before.before.before.read.ensures c.before.before.before.read2.ensures c.before.before.read3.ensures c.before.later.ensures (not-false _ c.if1.false), l.loop.invariant.1, l.loop.invariant.2)
 
 same_length : tie.Need-same-length invariant-loop decreases-loop
 same_length c = c.before.loop.invariant.1
@@ -47,7 +47,7 @@ same-length-2 : tie.Need-same-length-2 invariant-loop decreases-loop
 same-length-2 c = c.before.loop.invariant.2
 
 returns : tie.Need-returns invariant-loop decreases-loop
-returns c = keep-end c.before.loop.invariant.0 c.loop-test.false (omega (arith, c.before.loop.invariant.1, c.before.before.before.before.before.requires.1)) (omega (arith, c.before.loop.invariant.2, c.before.before.before.before.before.requires.2))
+returns c = keep_end c.before.loop.invariant.0 c.loop-test.false (omega (arith, c.before.loop.invariant.1, c.before.before.before.before.before.requires.1)) (omega (arith, c.before.loop.invariant.2, c.before.before.before.before.before.requires.2))
 
 pub keep_spec : {M : Type 1} → statement M
 keep_spec =

@@ -2,14 +2,14 @@ use mathlib.Core.Path.{refl, ap, ◌∙◌}
 use native.Mathlib.Omega.{arith}
 use lib.ListN.{length, length-drop}
 use borrow.Author.Tests.{not-true, not-false}
-use Rattle.pass.proofs.Feeding.{bounded-more}
-use Rattle.going.proofs.Reached.{behind, nothing, gone_whole, join-next, open-sound, gone-open, ended-room, gone-ended}
+use Rattle.pass.proofs.Feeding.{bounded_more}
+use Rattle.going.proofs.Reached.{behind, nothing, gone_whole, join_next, open_sound, gone_open, ended_room, gone_ended}
 use borrow.Author.Rules.{rules}
 use Rattle.going.proofs.go_on.Statement.{statement}
 use Rattle.going.proofs.go_on.Tie as tie
 
 judge-whole-requires : tie.Need-judge-whole-requires
-judge-whole-requires c κs = let a = c.before.before.before.before.before.before.before.before.before.before.before.before.before in (a.requires.0, bounded-more (omega (arith, a.requires.1.came)) a.requires.1.bounded)
+judge-whole-requires c κs = let a = c.before.before.before.before.before.before.before.before.before.before.before.before.before in (a.requires.0, bounded_more (omega (arith, a.requires.1.came)) a.requires.1.bounded)
 
 same_length : tie.Need-same-length
 same_length c = c.before.before.before.before.before.before.judge-whole.auto.1.1.1.0
@@ -35,25 +35,25 @@ returns-2 : tie.Need-returns-2
 returns-2 c =
     let j = c.before.before.before.before in
     let a = j.before.before.before.before.before.before.before.before.before.before in
-    (refl, (open-sound a.args.g a.args.s.now j.join.ensures a.requires.1, gone-open a.args.g a.args.s.now j.join.ensures (not-true _ c.before.if2.true)))
+    (refl, (open_sound a.args.g a.args.s.now j.join.ensures a.requires.1, gone_open a.args.g a.args.s.now j.join.ensures (not-true _ c.before.if2.true)))
 
 judge-kept-requires : tie.Need-judge-kept-requires
 judge-kept-requires c κs =
     let j = c.before.before.before.before.before.before.before in
     let a = j.before.before.before.before.before.before.before.before.before.before in
-    (omega (arith, a.requires.0, join-next a.args.g a.args.s.now j.join.ensures, ended-room a.args.g a.args.s.now j.join.ensures (not-false _ c.before.before.before.before.if2.false) a.requires.1), a.requires.1.bounded)
+    (omega (arith, a.requires.0, join_next a.args.g a.args.s.now j.join.ensures, ended_room a.args.g a.args.s.now j.join.ensures (not-false _ c.before.before.before.before.if2.false) a.requires.1), a.requires.1.bounded)
 
 sub-judge-whole : tie.Need-overflow-sub-judge-whole
 sub-judge-whole c =
     let j = c.before.before.before.before.before.before.before.before.before.before.before.before.before.before in
     let a = j.before.before.before.before.before.before.before.before.before.before in
-    join-next a.args.g a.args.s.now j.join.ensures
+    join_next a.args.g a.args.s.now j.join.ensures
 
 part-judge-whole-start : tie.Need-slice-bounds-judge-whole-start
 part-judge-whole-start c =
     let j = c.before.before.before.before.before.before.before.before.before.before.before.before.before.before in
     let a = j.before.before.before.before.before.before.before.before.before.before in
-    join-next a.args.g a.args.s.now j.join.ensures
+    join_next a.args.g a.args.s.now j.join.ensures
 
 part-judge-whole-end : tie.Need-slice-bounds-judge-whole-end
 part-judge-whole-end c = omega arith
@@ -62,13 +62,13 @@ cast-judge-whole : tie.Need-overflow-cast-judge-whole
 cast-judge-whole c =
     let j = c.before.before.before.before.before.before.before.before.before.before.before.before.before.before.before in
     let a = j.before.before.before.before.before.before.before.before.before.before in
-    omega (arith, a.requires.0, join-next a.args.g a.args.s.now j.join.ensures)
+    omega (arith, a.requires.0, join_next a.args.g a.args.s.now j.join.ensures)
 
 add-judge-whole : tie.Need-overflow-add-judge-whole
 add-judge-whole c =
     let j = c.before.before.before.before.before.before.before.before.before.before.before.before.before.before.before.before in
     let a = j.before.before.before.before.before.before.before.before.before.before in
-    omega (arith, a.requires.0, join-next a.args.g a.args.s.now j.join.ensures)
+    omega (arith, a.requires.0, join_next a.args.g a.args.s.now j.join.ensures)
 
 judge-whole-requires-2 : tie.Need-judge-whole-requires-2
 judge-whole-requires-2 c κs =
@@ -76,8 +76,8 @@ judge-whole-requires-2 c κs =
     let a = j.before.before.before.before.before.before.before.before.before.before in
     let s = a.args.s.now in
     let n = j.join.result.next in (
-      omega (arith, a.requires.0, join-next a.args.g a.args.s.now j.join.ensures, ap length (behind s n), length-drop n s),
-      bounded-more (ended-room a.args.g s j.join.ensures (not-false _ c.before.before.before.before.before.before.before.before.before.before.before.before.before.before.before.before.before.if2.false) a.requires.1) c.before.before.before.before.before.before.before.before.before.before.before.before.judge-kept.ensures.0,
+      omega (arith, a.requires.0, join_next a.args.g a.args.s.now j.join.ensures, ap length (behind s n), length-drop n s),
+      bounded_more (ended_room a.args.g s j.join.ensures (not-false _ c.before.before.before.before.before.before.before.before.before.before.before.before.before.before.before.before.before.if2.false) a.requires.1) c.before.before.before.before.before.before.before.before.before.before.before.before.judge-kept.ensures.0,
     )
 
 same-length-4 : tie.Need-same-length-4
@@ -96,8 +96,8 @@ returns-3 c =
     let s = a.args.s.now in
     let n = j.join.result.next in
     let J = c.before.before.before.before.before.before.judge-whole2.ensures in (
-      omega (arith, J.1.came, join-next a.args.g a.args.s.now j.join.ensures, ap length (behind s n), length-drop n s),
-      (J.0, gone-ended a.args.g s j.join.ensures (not-false _ c.before.before.before.before.before.before.before.before.before.before.before.before.before.before.before.before.before.before.before.before.before.before.before.before.if2.false) c.before.before.before.before.before.before.before.before.before.before.before.before.before.before.before.before.before.before.before.judge-kept.ensures.1 J.1),
+      omega (arith, J.1.came, join_next a.args.g a.args.s.now j.join.ensures, ap length (behind s n), length-drop n s),
+      (J.0, gone_ended a.args.g s j.join.ensures (not-false _ c.before.before.before.before.before.before.before.before.before.before.before.before.before.before.before.before.before.before.before.before.before.before.before.before.if2.false) c.before.before.before.before.before.before.before.before.before.before.before.before.before.before.before.before.before.before.before.judge-kept.ensures.1 J.1),
     )
 
 pub go-on-spec : {M : Type 1} → statement M

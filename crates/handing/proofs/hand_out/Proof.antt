@@ -1,6 +1,6 @@
 use Prim.Native.Nat.{◌-◌}
 use borrow.Author.Rules.{rules}
-use Rattle.handing.proofs.Handed.{Handing, hand-start, hand-more, hand_end}
+use Rattle.handing.proofs.Handed.{Handing, hand_start, hand_more, hand_end}
 use Rattle.handing.proofs.hand_out.Statement.{statement}
 use Rattle.handing.proofs.hand_out.Tie as tie
 
@@ -11,10 +11,10 @@ abbrev decreases-loop : tie.decreases-loop
 decreases-loop from n to₀ i₀ to i = n - i
 
 loop-holds : tie.Need-loop-init invariant-loop decreases-loop
-loop-holds c = hand-start (search rules) (search rules)
+loop-holds c = hand_start (search rules) (search rules)
 
 loop-again : tie.Need-loop-preserved invariant-loop decreases-loop
-loop-again c = hand-more c.before.before.loop.invariant (search rules)
+loop-again c = hand_more c.before.before.loop.invariant (search rules)
 
 returns : tie.Need-returns invariant-loop decreases-loop
 returns c = hand_end c.before.loop.invariant (search rules)

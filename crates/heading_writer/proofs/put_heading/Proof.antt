@@ -1,13 +1,13 @@
-use Rattle.text.specs.Forms.{formText}
+use Rattle.text.specs.Forms.{form_text}
 use Rattle.text.specs.Digits.{digits}
 use Rattle.text.proofs.Wrote.{then}
-use Rattle.heading_writer.specs.Writing.{headingText, sevensText}
+use Rattle.heading_writer.specs.Writing.{heading_text, sevens_text}
 use borrow.Author.Rules.{rules}
 use Rattle.heading_writer.proofs.put_heading.Statement.{statement}
 use Rattle.heading_writer.proofs.put_heading.Tie as tie
 
 returns : tie.Need-returns
-unfolding headingText sevensText formText digits
+unfolding heading_text sevens_text form_text digits
 returns c =
     let d = c.before.before in
     let o = d.before.before.before.before in

@@ -1,7 +1,7 @@
 use native.Mathlib.Omega.{arith}
-use Rattle.text.specs.Forms.{formText}
+use Rattle.text.specs.Forms.{form_text}
 use Rattle.text.proofs.Wrote.{then}
-use Rattle.heading_writer.specs.Writing.{sevensText}
+use Rattle.heading_writer.specs.Writing.{sevens_text}
 use Rattle.text.specs.Digits.{digits}
 use borrow.Author.Rules.{rules}
 use Rattle.heading_writer.proofs.put_sevens.Statement.{statement}
@@ -14,7 +14,7 @@ same_length : tie.Need-same-length
 same_length c = omega (arith, c.before.before.before.before.before.before.before.before.before.before.before.before)
 
 returns : tie.Need-returns
-unfolding sevensText formText digits
+unfolding sevens_text form_text digits
 returns c =
     let e = c.before.before in
     let d = e.before.before.before.before.before in

@@ -2,15 +2,15 @@ use mathlib.Core.Path.{◌≡◌, sym, ◌∙◌}
 use mathlib.Core.Bool.{true}
 use borrow.Author.Rules.{rules}
 use borrow.Author.Tests.{not-true, not-false}
-use Rattle.heading_writer.specs.Writing.{fitsHeading}
-use Rattle.heading_writer.proofs.Answers.{at-start, too_large, too_short, done}
+use Rattle.heading_writer.specs.Writing.{fits_heading}
+use Rattle.heading_writer.proofs.Answers.{at_start, too_large, too_short, done}
 use Rattle.heading_writer.proofs.write.Statement.{statement}
 use Rattle.heading_writer.proofs.write.Tie as tie
 
 abbrev from : tie.Else1 → tie.Start
 from c = c.before.before.before
 
-well : (c : tie.Else1) → fitsHeading (from c).args.h ≡ true
+well : (c : tie.Else1) → fits_heading (from c).args.h ≡ true
 well c = sym c.before.fits2.ensures ∙ not-false c.before.fits2.result c.if1.false
 
 returns : tie.Need-returns
@@ -27,7 +27,7 @@ returns-3 c =
     let e = p.before.before in
     let a = (from e.before).args in
     let r = done a.h a.target.now (well e.before) e.if2.false in
-    (r.0, at-start a.h p.put-heading.ensures.0 ∙ r.1)
+    (r.0, at_start a.h p.put-heading.ensures.0 ∙ r.1)
 
 pub write_spec : {M : Type 1} → statement M
 write_spec =

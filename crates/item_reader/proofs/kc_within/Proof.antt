@@ -5,8 +5,8 @@ use mathlib.Core.List.{List}
 use lib.ListN.{drop}
 use Rattle.laws.specs.Ascii.{ascii}
 use Rattle.text.specs.Strings.{begins}
-use Rattle.sign_finder.proofs.Signs.{rest_all, sign-size}
-use Rattle.item_reader.proofs.Slips.{full, gap_ends, kc-line, kc-sign, kc-nowhere}
+use Rattle.sign_finder.proofs.Signs.{rest_all, sign_size}
+use Rattle.item_reader.proofs.Slips.{full, gap_ends, kc_line_lem, kc_sign, kc_nowhere}
 use borrow.Author.Rules.{rules}
 use Rattle.item_reader.proofs.kc_within.Statement.{statement}
 use Rattle.item_reader.proofs.kc_within.Tie as tie
@@ -27,7 +27,7 @@ returns c =
     let asked = c.before.before in
     let x = asked.before.before.before.before.args in
     let e = starts-there asked ∙ c.before.if1.true in
-    λ n. kc-line x.s.now x.at (full x.s.now x.at (ascii "KC:") (omega arith) e) e n ∙ sym c.kc-at.ensures
+    λ n. kc_line_lem x.s.now x.at (full x.s.now x.at (ascii "KC:") (omega arith) e) e n ∙ sym c.kc-at.ensures
 
 sign-from-requires : tie.Need-sign-from-requires
 sign-from-requires c κs =
@@ -37,26 +37,26 @@ sign-from-requires c κs =
 add-kc-at : tie.Need-overflow-add-kc-at
 add-kc-at c =
     let p = c.before.before.before.before.before.before.before in
-    record { fits = omega (arith, sign-size p.args.s.now 0x4b 0x43 c.before.sign-from.result (c.before.sign-from.ensures.there c.if2.true), p.well-formed.0.0) }
+    record { fits = omega (arith, sign_size p.args.s.now 0x4b 0x43 c.before.sign-from.result (c.before.sign-from.ensures.there c.if2.true), p.well-formed.0.0) }
 
 kc-at-requires-2 : tie.Need-kc-at-requires-2
 kc-at-requires-2 c κs =
     let p = c.before.before.before.before.before.before.before in
-    omega (arith, sign-size p.args.s.now 0x4b 0x43 c.before.sign-from.result (c.before.sign-from.ensures.there c.if2.true))
+    omega (arith, sign_size p.args.s.now 0x4b 0x43 c.before.sign-from.result (c.before.sign-from.ensures.there c.if2.true))
 
 returns-2 : tie.Need-returns-2
 returns-2 c =
     let found = c.before.before in
     let p = found.before.before.before.before.before.before in
     λ n.
-    kc-sign p.args.s.now p.args.at p.requires.0 p.requires.1 found.sign-from.ensures (starts-there found.before.before ∙ found.before.if1.false) c.before.if2.true n
+    kc_sign p.args.s.now p.args.at p.requires.0 p.requires.1 found.sign-from.ensures (starts-there found.before.before ∙ found.before.if1.false) c.before.if2.true n
     ∙ sym c.kc-at2.ensures
 
 returns-3 : tie.Need-returns-3
 returns-3 c =
     let found = c.before in
     let p = found.before.before.before.before.before.before in
-    kc-nowhere p.args.s.now p.args.at p.requires.0 p.requires.1 found.sign-from.ensures (starts-there found.before.before ∙ found.before.if1.false) c.if2.false
+    kc_nowhere p.args.s.now p.args.at p.requires.0 p.requires.1 found.sign-from.ensures (starts-there found.before.before ∙ found.before.if1.false) c.if2.false
 
 pub kc-within-spec : {M : Type 1} → statement M
 kc-within-spec =

@@ -1,7 +1,7 @@
 use native.Mathlib.Omega.{arith}
 use mathlib.Core.Path.{refl}
 use Rattle.text.specs.Forms.{template}
-use Rattle.item_reader.proofs.Known.{room, past-within, digits-at, numbered}
+use Rattle.item_reader.proofs.Known.{room, past_within, digits_at, numbered}
 use borrow.Author.Rules.{rules}
 use Rattle.item_reader.proofs.number_at.Statement.{statement}
 use Rattle.item_reader.proofs.number_at.Tie as tie
@@ -10,7 +10,7 @@ line-past-requires : tie.Need-line-past-requires
 line-past-requires c κs = let s = c.before in room _ _ s.requires.0 s.requires.1 s.requires.2
 
 heading-from-requires : tie.Need-heading-from-requires
-heading-from-requires c κs = let s = c.before.before in past-within _ _ s.requires.0 s.requires.1 s.requires.2 c.line-past.ensures
+heading-from-requires c κs = let s = c.before.before in past_within _ _ s.requires.0 s.requires.1 s.requires.2 c.line-past.ensures
 
 word-requires : tie.Need-word-requires
 word-requires c κs = let s = c.before.before.before in omega (arith, room _ _ s.requires.0 s.requires.1 s.requires.2)
@@ -19,13 +19,13 @@ day-by-requires : tie.Need-day-by-requires
 unfolding template
 day-by-requires c κs =
     let s = c.before.before.before.before in
-    (digits-at _ _ s.requires.0 s.requires.1 s.requires.2 _ 8 refl refl (omega arith) (omega arith), c.word.ensures, s.requires.3)
+    (digits_at _ _ s.requires.0 s.requires.1 s.requires.2 _ 8 refl refl (omega arith) (omega arith), c.word.ensures, s.requires.3)
 
 part-requires : tie.Need-part-requires
 unfolding template
 part-requires c κs =
     let s = c.before.before.before.before.before in
-    digits-at _ _ s.requires.0 s.requires.1 s.requires.2 _ 7 refl refl (omega arith) (omega arith)
+    digits_at _ _ s.requires.0 s.requires.1 s.requires.2 _ 7 refl refl (omega arith) (omega arith)
 
 returns : tie.Need-returns
 returns c =

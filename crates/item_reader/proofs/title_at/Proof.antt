@@ -5,7 +5,7 @@ use Prim.Native.Nat.{ℕ, ◌+◌}
 use Rattle.laws.proofs.Truth.{both_left, both_right}
 use Rattle.text.specs.Strings.{begins}
 use Rattle.sign_finder.proofs.Signs.{rest_all}
-use Rattle.item_reader.proofs.Slips.{title-short}
+use Rattle.item_reader.proofs.Slips.{title_short}
 use borrow.Author.Rules.{rules}
 use Rattle.item_reader.proofs.title_at.Statement.{statement}
 use Rattle.item_reader.proofs.title_at.Tie as tie
@@ -15,7 +15,7 @@ returns-2 c =
     let told = c.before.before.before.before in
     let read = told.before in
     let start = read.before.before.before.before in
-    title-short start.args.s.now start.args.at (omega (arith, read.before.before.if1.false)) read.read.ensures.1 (sym told.reads.ensures ∙ both_left told.reads.result c.before.starts.result c.if2.true)
+    title_short start.args.s.now start.args.at (omega (arith, read.before.before.if1.false)) read.read.ensures.1 (sym told.reads.ensures ∙ both_left told.reads.result c.before.starts.result c.if2.true)
     (ap (λ (x : List ℕ). begins x (0x0d ∷ 0x0a ∷ [])) (sym (rest_all start.args.s.now 0 0 (start.args.at + 54))) ∙ sym c.before.starts.ensures ∙ both_right told.reads.result c.before.starts.result c.if2.true)
 
 pub title-at-spec : {M : Type 1} → statement M

@@ -2,14 +2,14 @@ use native.Mathlib.Omega.{arith}
 use mathlib.Core.Path.{ap, ◌∙◌}
 use Rattle.lines.specs.Reading.{span, IsNext}
 use Rattle.lines.specs.declared.Found.{Found}
-use Rattle.lines.proofs.Reading.{is-next}
-use Rattle.headings.specs.Reading.{headingOf}
+use Rattle.lines.proofs.Reading.{is_next}
+use Rattle.headings.specs.Reading.{heading_of}
 use borrow.Author.Rules.{rules}
 use Rattle.item_reader.proofs.title_by_end.Statement.{statement}
 use Rattle.item_reader.proofs.title_by_end.Tie as tie
 
 next : (c : tie.After-line-near) → IsNext c.before.before.args.s.now c.before.before.args.at c.line-near.result
-next c = is-next _ _ _ c.line-near.ensures c.before.before.requires
+next c = is_next _ _ _ c.line-near.ensures c.before.before.requires
 
 sub_read : tie.Need-overflow-sub-read
 sub_read c = omega (arith, (next c).starts, (next c).closes, (next c).within)
@@ -25,7 +25,7 @@ returns c =
     let found = c.before.before in
     let start = found.before.before in
     record {
-      head = c.read.ensures.1 ∙ ap (λ (f : Found). headingOf (span start.args.at f.end start.args.s.now)) found.line-near.ensures;
+      head = c.read.ensures.1 ∙ ap (λ (f : Found). heading_of (span start.args.at f.end start.args.s.now)) found.line-near.ensures;
       next = ap (λ (f : Found). f.next) found.line-near.ensures;
     }
 

@@ -1,4 +1,4 @@
-use Rattle.joining.proofs.Padded.{add-fits, add_is, bare-fits}
+use Rattle.joining.proofs.Padded.{add_fits, add_is, bare_fits}
 use mathlib.Core.Path.{◌≡◌}
 use Prim.Native.Nat.{ℕ, ◌≤◌}
 use mathlib.Core.List.{List}
@@ -11,7 +11,7 @@ abbrev s-of : tie.After-with-cr → List ℕ
 s-of l = l.before.before.before.before.args.s.now
 
 kept-fits : (l : tie.After-with-cr) → (l.with-cr.result.len ≤ length l.with-cr.result.text) × (l.with-cr.result.len ≡ length (take l.with-cr.result.len l.with-cr.result.text))
-kept-fits l = add-fits l.before.before.before.before.args.h (s-of l) _ _ l.with-cr.result l.before.before.bare-len.ensures l.with-cr.ensures
+kept-fits l = add_fits l.before.before.before.before.args.h (s-of l) _ _ l.with-cr.result l.before.before.bare-len.ensures l.with-cr.ensures
 
 array-share-prefix-from : tie.Need-array-share-prefix-from
 array-share-prefix-from c = (kept-fits c.before).0
@@ -20,7 +20,7 @@ slice-aggregate-shortened : tie.Need-slice-aggregate-shortened
 slice-aggregate-shortened c = (kept-fits c.before.before).1
 
 slice-aggregate-shortened-2 : tie.Need-slice-aggregate-shortened-2
-slice-aggregate-shortened-2 c = let l = c.before.before.before in bare-fits (s-of l) _ l.before.before.bare-len.ensures
+slice-aggregate-shortened-2 c = let l = c.before.before.before in bare_fits (s-of l) _ l.before.before.bare-len.ensures
 
 returns : tie.Need-returns
 returns c =

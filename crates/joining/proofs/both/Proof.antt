@@ -1,11 +1,11 @@
-use Rattle.joining.proofs.Padded.{text-start}
+use Rattle.joining.proofs.Padded.{text_start}
 use Rattle.text.proofs.Wrote.{then}
 use borrow.Author.Rules.{rules}
 use Rattle.joining.proofs.both.Statement.{statement}
 use Rattle.joining.proofs.both.Tie as tie
 
 returns : tie.Need-returns
-returns c = text-start (then c.before.before.before.before.put.ensures c.before.put2.ensures)
+returns c = text_start (then c.before.before.before.before.put.ensures c.before.put2.ensures)
 
 pub both-spec : {M : Type 1} → statement M
 both-spec =

@@ -1,4 +1,4 @@
-use Rattle.joining.proofs.Joins.{found_part, joined-lf, joined_by}
+use Rattle.joining.proofs.Joins.{found_part, joined_lf, joined_by}
 use borrow.Author.Rules.{rules}
 use Rattle.joining.proofs.join.Statement.{statement}
 use Rattle.joining.proofs.join.Tie as tie
@@ -7,7 +7,7 @@ returns : tie.Need-returns
 returns c =
     let l = c.before.before.before.before in
     let a = l.before.before.before.args in
-    joined-lf a.h a.s.now _ l.starts.ensures c.before.with-cr.result c.before.before.if1.true c.before.with-cr.ensures
+    joined_lf a.h a.s.now _ l.starts.ensures c.before.with-cr.result c.before.before.if1.true c.before.with-cr.ensures
 
 slice-aggregate-add : tie.Need-slice-aggregate-add
 slice-aggregate-add c = found_part c.before.before.before.before.before.before.before.args.s.now c.before.line-near.result c.before.line-near.ensures

@@ -3,12 +3,12 @@ use mathlib.Core.Bool.{false}
 use mathlib.Core.List.{List}
 use Prim.Native.Nat.{ℕ}
 use Rattle.joining.specs.declared.Held.{Held}
-use Rattle.joining.proofs.Padded.{padded-none}
+use Rattle.joining.proofs.Padded.{padded_none}
 use Rattle.joining.proofs.none.Statement.{statement}
 use Rattle.joining.proofs.none.Tie as tie
 
 returns : tie.Need-returns
-returns c = ap {B = Held} (λ (l : List ℕ). record { text = l; len = 0; cr = false }) padded-none
+returns c = ap {B = Held} (λ (l : List ℕ). record { text = l; len = 0; cr = false }) padded_none
 
 pub none_spec : {M : Type 1} → statement M
 none_spec = tie.close (tie.spec returns)

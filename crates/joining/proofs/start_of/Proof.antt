@@ -1,10 +1,10 @@
 use Rattle.laws.proofs.Parts.{take_min}
-use Rattle.joining.proofs.Padded.{text-start, fits}
+use Rattle.joining.proofs.Padded.{text_start, fits}
 use mathlib.Core.Path.{ap, ◌∙◌}
 use Prim.Native.Nat.{ℕ, min}
 use native.Mathlib.Omega.{arith}
 use lib.ListN.{length, take, length-take}
-use Rattle.joining.specs.Held.{asText}
+use Rattle.joining.specs.Held.{as_text}
 use borrow.Author.Rules.{rules}
 use Rattle.joining.proofs.start_of.Statement.{statement}
 use Rattle.joining.proofs.start_of.Tie as tie
@@ -20,7 +20,7 @@ returns c =
     let l = c.before.before.before.before in
     let a = l.before.before.before.args in
     let n = l.least2.ensures ∙ ap (λ (k : ℕ). min k (length a.s.now)) l.before.least.ensures in
-    text-start c.before.put.ensures ∙ ap asText (ap (λ (k : ℕ). take k a.s.now) n ∙ take_min (min 65 a.len) a.s.now)
+    text_start c.before.put.ensures ∙ ap as_text (ap (λ (k : ℕ). take k a.s.now) n ∙ take_min (min 65 a.len) a.s.now)
 
 pub start-of-spec : {M : Type 1} → statement M
 start-of-spec =

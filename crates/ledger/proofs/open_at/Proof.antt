@@ -1,5 +1,5 @@
 use borrow.Author.Rules.{rules}
-use Rattle.ledger.proofs.Opening.{Shifting, shift-start, shift-more, shift-end}
+use Rattle.ledger.proofs.Opening.{Shifting, shift_start, shift_more, shift_end}
 use Rattle.ledger.proofs.open_at.Statement.{statement}
 use Rattle.ledger.proofs.open_at.Tie as tie
 
@@ -10,13 +10,13 @@ abbrev decreases-loop : tie.decreases-loop
 decreases-loop s₀ p n v j₀ s j = j
 
 loop-holds : tie.Need-loop-init invariant-loop decreases-loop
-loop-holds c = shift-start (search rules) (search rules)
+loop-holds c = shift_start (search rules) (search rules)
 
 loop-again : tie.Need-loop-preserved invariant-loop decreases-loop
-loop-again c = shift-more c.before.before.loop.invariant (search rules)
+loop-again c = shift_more c.before.before.loop.invariant (search rules)
 
 returns : tie.Need-returns invariant-loop decreases-loop
-returns c = shift-end _ c.before.loop.invariant (search rules)
+returns c = shift_end _ c.before.loop.invariant (search rules)
 
 pub open-at-spec : {M : Type 1} → statement M
 open-at-spec =

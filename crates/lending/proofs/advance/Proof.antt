@@ -43,8 +43,8 @@ use Rattle.account.specs.declared.Outline.{Outline}
 use Rattle.blocks.specs.declared.Course.{Course}
 use Rattle.own_rules.specs.declared.Basis.{Basis}
 use Rattle.account.specs.declared.Accounted.{Accounted}
-use Rattle.account.specs.Model.{courseModel}
-use Rattle.lending.proofs.Values.{machB, machI, machJ, machC}
+use Rattle.account.specs.Model.{course_model}
+use Rattle.lending.proofs.Values.{mach_b, mach_i, mach_j, mach_c}
 use Rattle.lending.proofs.step.Symbol.{name as #step}
 use Rattle.lending.specs.contracts.advance.Key.{name as #advance}
 use Rattle.blocks.specs.contracts.Course as TB
@@ -67,20 +67,20 @@ stayed = (stay_none (λ _. TB.the_row) yes, (stay_none (λ _. TI.the_row) yes, (
 
 -- what `step` ensures, at the record z that it leaves and the marks r
 abbrev Ensures : Course → Outline → Basis → Course → ℕ → Type 0
-Ensures h i j z r = (z ≡ (courseModel j h i).course) × (r ≡ (courseModel j h i).marks) × (r < 2 ^ 23)
+Ensures h i j z r = (z ≡ (course_model j h i).course) × (r ≡ (course_model j h i).marks) × (r < 2 ^ 23)
 
 module _ {M : Type 1} {𝓤 : Ura M} (𝓛 : Logic 𝓤) (at_mem : Memory → SProp 𝓤) (run : Routine → Fun 𝓤) where
   abbrev Step : Contract 𝓤
   Step = triple_of 𝓛 stp.signature (stp.spec 𝓛 at_mem run)
 
-module _ {M : Type 1} {𝓤 : Ura M} (𝓛 : Logic 𝓤) (at_mem : Memory → SProp 𝓤) (run : Routine → Fun 𝓤) (h : Course) (i : Outline) (j : Basis) (h-is : Is TB.the_row h (machB h ∷ [])) (i-is : Is TI.the_row i (machI i ∷ [])) (j-is : Is TJ.the_row j (machJ j ∷ [])) where
+module _ {M : Type 1} {𝓤 : Ura M} (𝓛 : Logic 𝓤) (at_mem : Memory → SProp 𝓤) (run : Routine → Fun 𝓤) (h : Course) (i : Outline) (j : Basis) (h-is : Is TB.the_row h (mach_b h ∷ [])) (i-is : Is TI.the_row i (mach_i i ∷ [])) (j-is : Is TJ.the_row j (mach_j j ∷ [])) where
   open 𝓛 use {H, A}
 
   abbrev x : Course × (Outline × (Basis × Unit {0}))
   x = (h, (i, (j, tt)))
 
   abbrev at : List Val × (List Val × (List Val × Unit {0}))
-  at = (machB h ∷ [], (machI i ∷ [], (machJ j ∷ [], tt)))
+  at = (mach_b h ∷ [], (mach_i i ∷ [], (mach_j j ∷ [], tt)))
 
   abbrev Post : Val → SProp 𝓤
   Post = (walk_of 𝓛 adv.ended stayed (adv.clauses 𝓛 at_mem run)).post ((tt, tt, tt, x, at), tt)
@@ -88,32 +88,32 @@ module _ {M : Type 1} {𝓤 : Ura M} (𝓛 : Logic 𝓤) (at_mem : Memory → SP
   abbrev made : Course → ℕ → Accounted
   made z r = record { course = z; marks = r }
 
-  made-is : (z : Course) (r : ℕ) → Is TB.the_row z (machB z ∷ []) → r < 2 ^ 64 → Is TC.the_row (made z r) (machC (made z r) ∷ [])
+  made-is : (z : Course) (r : ℕ) → Is TB.the_row z (mach_b z ∷ []) → r < 2 ^ 64 → Is TC.the_row (made z r) (mach_c (made z r) ∷ [])
   made-is z r z-is fits = LL.owes TC.the_type TC'.the_laws (made z r) (z-is, ((refl, fits), tt))
 
-  exits : (z : Course) (r : ℕ) → Is TC.the_row (made z r) (machC (made z r) ∷ []) → Ensures h i j z r → ent 𝓤 (emp 𝓤) (Post (machC (made z r)))
+  exits : (z : Course) (r : ℕ) → Is TC.the_row (made z r) (mach_c (made z r) ∷ []) → Ensures h i j z r → ent 𝓤 (emp 𝓤) (Post (mach_c (made z r)))
   exits z r c-is e =
       qed 𝓛 [] ∵
-      suffices ! _ (ends_at 𝓛 adv.ended stayed (adv.clauses 𝓛 at_mem run) ((tt, tt, tt, x, at), tt) (machC (made z r)) (made z r) (tt, (tt, (tt, tt))) (tt, (tt, (tt, tt)))) $ says ! ((λ k. record { course = e.0 k; marks = e.1 k }), e.2) $
+      suffices ! _ (ends_at 𝓛 adv.ended stayed (adv.clauses 𝓛 at_mem run) ((tt, tt, tt, x, at), tt) (mach_c (made z r)) (made z r) (tt, (tt, (tt, tt))) (tt, (tt, (tt, tt)))) $ says ! ((λ k. record { course = e.0 k; marks = e.1 k }), e.2) $
       owned ! TC.the_row (Is TC.the_row) (LL.makes TC.the_type TC'.the_plain 𝓛) (made z r) _ c-is $ nothing ! $
       owned ! TJ.the_row (Is TJ.the_row) (LL.makes TJ.the_type TJ'.the_plain 𝓛) j _ j-is $ fjoin ! $
       owned ! TI.the_row (Is TI.the_row) (LL.makes TI.the_type TI'.the_plain 𝓛) i _ i-is $ fjoin ! $
       owned ! TB.the_row (Is TB.the_row) (LL.makes TB.the_type TB'.the_plain 𝓛) h _ h-is $ fjoin ! $ nothing ! $ done !
 
   -- the local, as what can be lent
-  lies_in : (l : ℕ) → ent 𝓤 (sem 𝓛 (fat full_share TB'.mir l 0 (machB h))) (sem 𝓛 (part_at TB.the_row full_share h l 0))
+  lies_in : (l : ℕ) → ent 𝓤 (sem 𝓛 (fat full_share TB'.mir l 0 (mach_b h))) (sem 𝓛 (part_at TB.the_row full_share h l 0))
   unfolding part_of
   lies_in l =
-      qed 𝓛 (‵ (fat full_share TB'.mir l 0 (machB h)) ∷ []) ∵ use1 𝓛 (‵ (cell_at full_share (TB.the_row).mir (machB h ∷ []) l 0)) (𝓛.laws.at_raw full_share TB'.mir l 0 (machB h)) $
+      qed 𝓛 (‵ (fat full_share TB'.mir l 0 (mach_b h)) ∷ []) ∵ use1 𝓛 (‵ (cell_at full_share (TB.the_row).mir (mach_b h ∷ []) l 0)) (𝓛.laws.at_raw full_share TB'.mir l 0 (mach_b h)) $
       owned ! TB.the_row (Is TB.the_row) (LL.makes TB.the_type TB'.the_plain 𝓛) h _ h-is $ move ! (1 ∷ 0 ∷ []) $ fjoin ! $
-      fpack ! (List Val) (λ us. fsep (cell_at full_share (TB.the_row).mir us l 0) ((TB.the_row).own_val h us)) (machB h ∷ []) $ done !
+      fpack ! (List Val) (λ us. fsep (cell_at full_share (TB.the_row).mir us l 0) ((TB.the_row).own_val h us)) (mach_b h ∷ []) $ done !
 
   -- the reference that is passed: to the local at l, for the lifetime ν, under the name δ
   abbrev lent : ℕ → GName → MutBor Course
   lent l δ = record { ref_ptr = (l, 0); ghost_name = δ; now = h }
 
   abbrev to_step : ℕ → ℕ → GName → (Step 𝓛 at_mem run).Ghost
-  to_step l ν δ = (((ν ∷ [], tt), (full_share, tt), tt, (lent l δ, (i, (j, tt))), (vptr l 0 ∷ [], (machI i ∷ [], (machJ j ∷ [], tt)))), tt)
+  to_step l ν δ = (((ν ∷ [], tt), (full_share, tt), tt, (lent l δ, (i, (j, tt))), (vptr l 0 ∷ [], (mach_i i ∷ [], (mach_j j ∷ [], tt)))), tt)
 
   goes_step : (l ν : ℕ) (δ : GName) → ent 𝓤 (sep 𝓤 (A.lft (ν ∷ []) full_share) (sem 𝓛 ((MutRef (named 0) (ν ∷ []) TB.the_row).own_val (lent l δ) (vptr l 0 ∷ [])))) ((Step 𝓛 at_mem run).pre (to_step l ν δ))
   goes_step l ν δ =
@@ -123,10 +123,10 @@ module _ {M : Type 1} {𝓤 : Ura M} (𝓛 : Logic 𝓤) (at_mem : Memory → SP
       nothing ! $ move ! (2 ∷ 0 ∷ []) $ join ! $ join ! $ frame ! $ done !
 
   module _ (C : Calls 𝓤 H) (Λ : Loops 𝓤 H) (fm : FmC 𝓤 H 𝓛.laws C) (known : Triple 𝓤 (C #step) (Step 𝓛 at_mem run)) where
-    walk : ent 𝓤 (on_entry 𝓛 adv.signature tt tt x at) (WpFn 𝓤 H C Λ code.function (machB h ∷ machI i ∷ machJ j ∷ []) Post)
+    walk : ent 𝓤 (on_entry 𝓛 adv.signature tt tt x at) (WpFn 𝓤 H C Λ code.function (mach_b h ∷ mach_i i ∷ mach_j j ∷ []) Post)
     unfolding part_of
     walk =
-        qed 𝓛 (‵ ftrue ∷ ‵ (owns (TB.the_row ∷ TI.the_row ∷ TJ.the_row ∷ []) x at) ∷ []) ∵ enter ! C Λ code.function (machB h ∷ machI i ∷ machJ j ∷ []) _ $
+        qed 𝓛 (‵ ftrue ∷ ‵ (owns (TB.the_row ∷ TI.the_row ∷ TJ.the_row ∷ []) x at) ∷ []) ∵ enter ! C Λ code.function (mach_b h ∷ mach_i i ∷ mach_j j ∷ []) _ $
         alloc1 ! (λ l₀. alloc1 ! (λ l₁. alloc1 ! (λ l₂. alloc1 ! (λ l₃. alloc1 ! (λ l₄. alloc1 ! (λ l₅. alloc1 ! (λ l₆. alloc1 ! (λ l₇. alloc0 ! $ params1 ! $
         pass1 ! (init ! 12 refl ((LL.lawful TB.the_type TB'.the_laws 𝓛).typed h _ h-is).0) $ pass1 ! (init ! 10 refl ((LL.lawful TI.the_type TI'.the_laws 𝓛).typed i _ i-is).0) $
         pass1 ! (init ! 8 refl ((LL.lawful TJ.the_type TJ'.the_laws 𝓛).typed j _ j-is).0) $ pass0 ! $
@@ -148,8 +148,8 @@ module _ {M : Type 1} {𝓤 : Ura M} (𝓛 : Logic 𝓤) (at_mem : Memory → SP
         -- the lifetime is ended, and the local comes back at its last value
         move ! (1 ∷ []) $ split ! $ lft_end ! tt $ move ! (0 ∷ 5 ∷ 3 ∷ []) $ use3 𝓛 (later (‵ (part_at TB.the_row full_share zs.0 l₄ 0))) (ref_back 𝓛 TB.the_row (ν ∷ []) δ zs.0 l₄ 0) $ await ! tt $
         fpick ! (λ vs. fsplit ! $ spelt ! TB.the_row (Is TB.the_row) (shows 𝓛 TB.the_row) (LL.vals TB.the_type TB'.the_laws) (LL.tells TB.the_type TB'.the_laws) full_share zs.0 vs l₄ 0 $
-        move ! (1 ∷ []) $ peeks ! TB.the_row (Is TB.the_row) (shows 𝓛 TB.the_row) zs.0 (machB zs.0 ∷ []) (λ z-is. move ! (1 ∷ 0 ∷ []) $
-        use1 𝓛 (‵ (fat full_share TB'.mir l₄ 0 (machB zs.0))) (𝓛.laws.raw_at full_share TB'.mir l₄ 0 (machB zs.0)) $
+        move ! (1 ∷ []) $ peeks ! TB.the_row (Is TB.the_row) (shows 𝓛 TB.the_row) zs.0 (mach_b zs.0 ∷ []) (λ z-is. move ! (1 ∷ 0 ∷ []) $
+        use1 𝓛 (‵ (fat full_share TB'.mir l₄ 0 (mach_b zs.0))) (𝓛.laws.raw_at full_share TB'.mir l₄ 0 (mach_b zs.0)) $
         -- [_4; what it owns; true; what r owns; true; _7 (5); …; _6 (7); …; _5 (9); …; _4's end (11); _3 (12); …; _2 (14); …; _1 (16); …; room for _0 (18); …]
         assigns ! (of_opd ! (load ! (from ! (stop !)) (look ! 0 refl))) (from ! (stop !)) (init ! 5 refl ((LL.lawful TB.the_type TB'.the_laws 𝓛).typed zs.0 _ z-is).0) $
         assigns ! (agg ! (and_then ! (load ! (from ! (stop !)) (look ! 5 refl)) (and_then ! (load ! (from ! (stop !)) (look ! 9 refl)) (no_more !)))) (from ! (stop !)) (init ! 18 refl ((LL.lawful TC.the_type TC'.the_laws 𝓛).typed (made zs.0 r) _ (made-is zs.0 r z-is is.1)).0) $

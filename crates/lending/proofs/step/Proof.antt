@@ -43,9 +43,9 @@ use Rattle.account.specs.declared.Outline.{Outline}
 use Rattle.blocks.specs.declared.Course.{Course}
 use Rattle.own_rules.specs.declared.Basis.{Basis}
 use Rattle.account.specs.declared.Accounted.{Accounted}
-use Rattle.account.specs.Model.{courseModel}
+use Rattle.account.specs.Model.{course_model}
 use Rattle.account.proofs.close_item.Symbol.{name as #close-item}
-use Rattle.lending.proofs.Values.{machB, machI, machJ}
+use Rattle.lending.proofs.Values.{mach_b, mach_i, mach_j}
 use Rattle.lending.specs.contracts.step.Key.{name as #step}
 use Rattle.blocks.specs.contracts.Course as TB
 use Rattle.blocks.proofs.Course.TheLaws as TB'
@@ -66,7 +66,7 @@ abbrev stayed : Stays (stp.ended).signature.params (stp.ended).kept
 stayed = (stay_ref (0 ∷ []) tt (plain (λ _. TB.the_row)), (stay_none (λ _. TI.the_row) yes, (stay_none (λ _. TJ.the_row) yes, tt)))
 
 -- what a `Accounted` tells of its parts
-course-is : (r : Accounted) {vs : List Val} → Is TC.the_row r vs → Is TB.the_row r.course (machB r.course ∷ [])
+course-is : (r : Accounted) {vs : List Val} → Is TC.the_row r vs → Is TB.the_row r.course (mach_b r.course ∷ [])
 course-is r is = (LL.owed TC.the_type TC'.the_laws r _ is).0
 
 marks-fit : (r : Accounted) {vs : List Val} → Is TC.the_row r vs → r.marks < 2 ^ 64
@@ -74,7 +74,7 @@ marks-fit r is = (LL.owed TC.the_type TC'.the_laws r _ is).1.0.1
 
 -- what `close_item` ensures
 abbrev Closes : Course → Outline → Basis → Accounted → Type 0
-Closes h i j r = (r ≡ courseModel j h i) × (r.marks < 2 ^ 23)
+Closes h i j r = (r ≡ course_model j h i) × (r.marks < 2 ^ 23)
 
 module _ {M : Type 1} {𝓤 : Ura M} (𝓛 : Logic 𝓤) (at_mem : Memory → SProp 𝓤) (run : Routine → Fun 𝓤) where
   -- the contract that the proof cites
@@ -84,14 +84,14 @@ module _ {M : Type 1} {𝓤 : Ura M} (𝓛 : Logic 𝓤) (at_mem : Memory → SP
   closed_of : (h : Course) (i : Outline) (j : Basis) (r : Accounted) → ent 𝓤 (ensured 𝓛 close.ended (close.clauses 𝓛 at_mem run) tt (h, (i, (j, tt))) tt r) (fact 𝓤 (Closes h i j r))
   closed_of h i j r = ex_e 𝓤 _ (λ ws. snd∗ 𝓤 (sem 𝓛 (lasts close.ended tt (h, (i, (j, tt))) ws)) (fact 𝓤 (Closes h i j r)))
 
-module _ {M : Type 1} {𝓤 : Ura M} (𝓛 : Logic 𝓤) (at_mem : Memory → SProp 𝓤) (run : Routine → Fun 𝓤) (κ : Lft) (q : Share) (b o : ℕ) (γ : GName) (h : Course) (i : Outline) (j : Basis) (i-is : Is TI.the_row i (machI i ∷ [])) (j-is : Is TJ.the_row j (machJ j ∷ [])) where
+module _ {M : Type 1} {𝓤 : Ura M} (𝓛 : Logic 𝓤) (at_mem : Memory → SProp 𝓤) (run : Routine → Fun 𝓤) (κ : Lft) (q : Share) (b o : ℕ) (γ : GName) (h : Course) (i : Outline) (j : Basis) (i-is : Is TI.the_row i (mach_i i ∷ [])) (j-is : Is TJ.the_row j (mach_j j ∷ [])) where
   open 𝓛 use {H, A}
 
   abbrev x : MutBor Course × (Outline × (Basis × Unit {0}))
   x = (record { ref_ptr = (b, o); ghost_name = γ; now = h }, (i, (j, tt)))
 
   abbrev at : List Val × (List Val × (List Val × Unit {0}))
-  at = (vptr b o ∷ [], (machI i ∷ [], (machJ j ∷ [], tt)))
+  at = (vptr b o ∷ [], (mach_i i ∷ [], (mach_j j ∷ [], tt)))
 
   abbrev Post : Val → SProp 𝓤
   Post = (walk_of 𝓛 stp.ended stayed (stp.clauses 𝓛 at_mem run)).post (((κ, tt), (q, tt), tt, x, at), tt)
@@ -107,24 +107,24 @@ module _ {M : Type 1} {𝓤 : Ura M} (𝓛 : Logic 𝓤) (at_mem : Memory → SP
       owned ! u64 (Is u64) (uint_Makes 𝓛 w64) r.marks _ (refl, fits) $ move ! (1 ∷ 0 ∷ []) $ done !
 
   abbrev to-close : (Close 𝓛 at_mem run).Ghost
-  to-close = ((tt, tt, tt, (h, (i, (j, tt))), (machB h ∷ [], (machI i ∷ [], (machJ j ∷ [], tt)))), tt)
+  to-close = ((tt, tt, tt, (h, (i, (j, tt))), (mach_b h ∷ [], (mach_i i ∷ [], (mach_j j ∷ [], tt)))), tt)
 
-  goes_close : Is TB.the_row h (machB h ∷ []) → ent 𝓤 (sep 𝓤 (sem 𝓛 ((TI.the_row).own_val i (machI i ∷ []))) (sem 𝓛 ((TJ.the_row).own_val j (machJ j ∷ [])))) ((Close 𝓛 at_mem run).pre to-close)
+  goes_close : Is TB.the_row h (mach_b h ∷ []) → ent 𝓤 (sep 𝓤 (sem 𝓛 ((TI.the_row).own_val i (mach_i i ∷ []))) (sem 𝓛 ((TJ.the_row).own_val j (mach_j j ∷ [])))) ((Close 𝓛 at_mem run).pre to-close)
   goes_close h-is =
-      qed 𝓛 (‵ ((TI.the_row).own_val i (machI i ∷ [])) ∷ ‵ ((TJ.the_row).own_val j (machJ j ∷ [])) ∷ []) ∵ nothing ! $ move ! (2 ∷ 0 ∷ []) $ fjoin ! $ move ! (1 ∷ 0 ∷ []) $ fjoin ! $
+      qed 𝓛 (‵ ((TI.the_row).own_val i (mach_i i ∷ [])) ∷ ‵ ((TJ.the_row).own_val j (mach_j j ∷ [])) ∷ []) ∵ nothing ! $ move ! (2 ∷ 0 ∷ []) $ fjoin ! $ move ! (1 ∷ 0 ∷ []) $ fjoin ! $
       owned ! TB.the_row (Is TB.the_row) (LL.makes TB.the_type TB'.the_plain 𝓛) h _ h-is $ fjoin ! $ nothing ! $ join ! $ frame ! $ done !
 
   module _ (C : Calls 𝓤 H) (Λ : Loops 𝓤 H) (fm : FmC 𝓤 H 𝓛.laws C) (known : Triple 𝓤 (C #close-item) (Close 𝓛 at_mem run)) where
-    walk : ent 𝓤 (on_entry 𝓛 stp.signature (κ, tt) (q, tt) x at) (WpFn 𝓤 H C Λ code.function (vptr b o ∷ machI i ∷ machJ j ∷ []) Post)
+    walk : ent 𝓤 (on_entry 𝓛 stp.signature (κ, tt) (q, tt) x at) (WpFn 𝓤 H C Λ code.function (vptr b o ∷ mach_i i ∷ mach_j j ∷ []) Post)
     walk =
         qed 𝓛 ((‵ (flft κ q) ⊛ ‵ ftrue) ∷ ‵ (owns (MutRef (named 0) κ TB.the_row ∷ TI.the_row ∷ TJ.the_row ∷ []) x at) ∷ []) ∵ split ! $ move ! (2 ∷ []) $ fsplit ! $ move ! (1 ∷ []) $ fsplit ! $
         move ! (1 ∷ []) $ fsplit ! $ move ! (3 ∷ []) $ fsplit3 ! $ drop ! $ move ! (0 ∷ 1 ∷ 5 ∷ 4 ∷ 2 ∷ []) $
         -- [obs; the borrow; the token; what the item owns; what the basis owns; true; true]
-        enter ! C Λ code.function (vptr b o ∷ machI i ∷ machJ j ∷ []) _ $
+        enter ! C Λ code.function (vptr b o ∷ mach_i i ∷ mach_j j ∷ []) _ $
         alloc1 ! (λ l₀. alloc1 ! (λ l₁. alloc1 ! (λ l₂. alloc1 ! (λ l₃. alloc1 ! (λ l₄. alloc1 ! (λ l₅. alloc0 ! $ params1 ! $ pass1 ! (init ! 8 refl (tt, tt)) $
         pass1 ! (init ! 6 refl ((LL.lawful TI.the_type TI'.the_laws 𝓛).typed i _ i-is).0) $ pass1 ! (init ! 4 refl ((LL.lawful TJ.the_type TJ'.the_laws 𝓛).typed j _ j-is).0) $ pass0 ! $
         move ! (12 ∷ 13 ∷ 14 ∷ []) $ opens ! tt TB.the_row {h = h} b o (λ vs. spelt ! TB.the_row (Is TB.the_row) (shows 𝓛 TB.the_row) (LL.vals TB.the_type TB'.the_laws) (LL.tells TB.the_type TB'.the_laws) full_share h vs b o $
-        move ! (1 ∷ []) $ peeks ! TB.the_row (Is TB.the_row) (shows 𝓛 TB.the_row) h (machB h ∷ []) (λ h-is. move ! (1 ∷ 0 ∷ []) $
+        move ! (1 ∷ []) $ peeks ! TB.the_row (Is TB.the_row) (shows 𝓛 TB.the_row) h (mach_b h ∷ []) (λ h-is. move ! (1 ∷ 0 ∷ []) $
         -- [the record's cell; what it owns; the open borrow; obs; auth; _5 (5); …; _4 (7); …; _3 (9); …; _2 (11); …; _1 (13); …; room for _0 (15); …; what the item owns (17); what the basis owns; true; true]
         assigns ! (of_opd ! (load ! (from ! (hop ! (look ! 13 refl) (stop !))) (look_raw ! 0 refl))) (from ! (stop !)) (init ! 5 refl ((LL.lawful TB.the_type TB'.the_laws 𝓛).typed h _ h-is).0) $
         move ! (17 ∷ 18 ∷ []) $ use2 𝓛 (raw ((Close 𝓛 at_mem run).pre to-close)) (goes_close h-is) $
@@ -137,7 +137,7 @@ module _ {M : Type 1} {𝓤 : Ura M} (𝓛 : Logic 𝓤) (at_mem : Memory → SP
         -- [what the result owns; the record's cell; what it owned; the open borrow; obs; auth; _5 (6); …; _4 (8); …; _3 (10); …; _2 (12); …; _1 (14); …; room for _0 (16); …]
         assigns ! (of_opd ! (load ! (from ! (fld ! refl (stop !))) (look_in ! 8 (sub ! 0 refl (whole !))))) (from ! (hop ! (look ! 14 refl) (stop !))) (store_raw ! 1 refl ((LL.lawful TB.the_type TB'.the_laws 𝓛).typed r.course _ (course-is r is)).0) $
         assigns ! (of_opd ! (load ! (from ! (fld ! refl (stop !))) (look_in ! 8 (sub ! 1 refl (whole !))))) (from ! (stop !)) (init ! 16 refl (tt, record { fits = marks-fit r is })) $
-        drop ! $ move ! (1 ∷ []) $ drop ! $ owned ! TB.the_row (Is TB.the_row) (LL.makes TB.the_type TB'.the_plain 𝓛) r.course _ (course-is r is) $ move ! (1 ∷ 0 ∷ []) $ closes ! tt TB.the_row r.course (machB r.course ∷ []) b o $
+        drop ! $ move ! (1 ∷ []) $ drop ! $ owned ! TB.the_row (Is TB.the_row) (LL.makes TB.the_type TB'.the_plain 𝓛) r.course _ (course-is r is) $ move ! (1 ∷ 0 ∷ []) $ closes ! tt TB.the_row r.course (mach_b r.course ∷ []) b o $
         returns ! (look ! 13 refl) $ forget ! 3 refl $ forget ! 5 refl $ forget ! 7 refl $ forget ! 9 refl $ forget ! 11 refl $ forget ! 13 refl $
         move ! (13 ∷ 14 ∷ []) $ free1 ! $ move ! (11 ∷ 12 ∷ []) $ free1 ! $ move ! (9 ∷ 10 ∷ []) $ free1 ! $ move ! (7 ∷ 8 ∷ []) $ free1 ! $ move ! (5 ∷ 6 ∷ []) $ free1 ! $ move ! (3 ∷ 4 ∷ []) $ free1 ! $ free0 ! $
         keep ! (0 ∷ 1 ∷ 2 ∷ []) $ by ! (exits r e (marks-fit r is))))))))))))))

@@ -6,9 +6,9 @@ use lib.Bits.{bit_and, bit_or, bit_xor}
 use lib.Count.{count_trailing_zeros}
 use lib.ListN.{length, get_or}
 use Rattle.lines.specs.Reading.{after, line_at}
-use Rattle.words.specs.Words.{isControl, flagged}
-use Rattle.lines.proofs.Reading.{line-cut}
-use Rattle.lines.proofs.Searching.{all-clear, hit-inside, hit-here, hit-passed, control-alone}
+use Rattle.words.specs.Words.{is_control, flagged}
+use Rattle.lines.proofs.Reading.{line_cut}
+use Rattle.lines.proofs.Searching.{all_clear, hit_inside, hit_here, hit_passed, control_alone}
 use borrow.Author.Rules.{rules}
 use Rattle.lines.proofs.line_at.Statement.{statement}
 use Rattle.lines.proofs.line_at.Tie as tie
@@ -41,13 +41,13 @@ module _ (e : tie.Else1 invariant-loop decreases-loop) where
   odd = bit_or l.loop.odd (bit_and a.odds.result (bit_xor z (z - 1) / 2))
 
   inside : k < 8
-  inside = hit-inside _ _ _ _ _ l.loop.odd (fits a) a.before.before.word.ensures a.before.controls.ensures a.odds.ensures e.if1.left
+  inside = hit_inside _ _ _ _ _ l.loop.odd (fits a) a.before.before.word.ensures a.before.controls.ensures a.odds.ensures e.if1.left
 
-  here : isControl (get_or l.before.before.before.args.s.now (l.loop.i + k) 0) ≡ true
-  here = hit-here _ _ _ _ _ l.loop.odd (fits a) a.before.before.word.ensures a.before.controls.ensures a.odds.ensures e.if1.left
+  here : is_control (get_or l.before.before.before.args.s.now (l.loop.i + k) 0) ≡ true
+  here = hit_here _ _ _ _ _ l.loop.odd (fits a) a.before.before.word.ensures a.before.controls.ensures a.odds.ensures e.if1.left
 
   passed : line_at l.before.before.before.args.s.now l.before.before.before.args.at ≡ after (flagged odd) (line_at l.before.before.before.args.s.now (l.loop.i + k))
-  passed = l.loop.inv ∙ hit-passed _ _ _ _ _ l.loop.odd (fits a) a.before.before.word.ensures a.before.controls.ensures a.odds.ensures e.if1.left
+  passed = l.loop.inv ∙ hit_passed _ _ _ _ _ l.loop.odd (fits a) a.before.before.word.ensures a.before.controls.ensures a.odds.ensures e.if1.left
 
 loop-holds : tie.Need-loop-init invariant-loop decreases-loop
 unfolding flagged
@@ -66,7 +66,7 @@ loop-again : tie.Need-loop-preserved invariant-loop decreases-loop
 loop-again c =
     let a = c.before in
     let l = a.before.before.before.before in
-    l.loop.invariant ∙ all-clear _ _ _ _ _ l.loop.odd (fits a) a.before.before.word.ensures a.before.controls.ensures a.odds.ensures c.if1.true
+    l.loop.invariant ∙ all_clear _ _ _ _ _ l.loop.odd (fits a) a.before.before.word.ensures a.before.controls.ensures a.odds.ensures c.if1.true
 
 cast-k : tie.Need-overflow-cast-k invariant-loop decreases-loop
 cast-k c = omega (arith, inside c)
@@ -87,7 +87,7 @@ returns : tie.Need-returns invariant-loop decreases-loop
 returns c =
     let e = c.before.before.before in
     ap (λ (t : Bool). record { end = (l e).loop.i + k e; next = (l e).loop.i + k e + 2; ended = true; odd = t }) c.has-high.ensures
-    ∙ sym (passed e ∙ line-cut _ _ _ (sym c.before.before.ends_at.ensures ∙ c.before.if2.true))
+    ∙ sym (passed e ∙ line_cut _ _ _ (sym c.before.before.ends_at.ensures ∙ c.before.if2.true))
 
 add-i-2 : tie.Need-overflow-add-i-2 invariant-loop decreases-loop
 add-i-2 c = omega (arith, inside c.before.before, fits c.before.before.before)
@@ -98,7 +98,7 @@ loop-less-2 c = omega (arith, inside c.before.before, fits c.before.before.befor
 loop-again-2 : tie.Need-loop-preserved-2 invariant-loop decreases-loop
 loop-again-2 c =
     let e = c.before.before in
-    passed e ∙ control-alone (l e).before.before.before.args.s.now ((l e).loop.i + k e) (odd e) (omega (arith, inside e, fits e.before)) (here e) (sym c.before.ends_at.ensures ∙ c.if2.false)
+    passed e ∙ control_alone (l e).before.before.before.args.s.now ((l e).loop.i + k e) (odd e) (omega (arith, inside e, fits e.before)) (here e) (sym c.before.ends_at.ensures ∙ c.if2.false)
 
 returns-2 : tie.Need-returns-2 invariant-loop decreases-loop
 returns-2 c =

@@ -2,7 +2,7 @@ use mathlib.Core.Path.{◌≡◌, refl, sym, ◌∙◌}
 use Prim.Native.Nat.{◌<◌, ◌-◌}
 use lib.ListN.{length}
 use Rattle.lines.specs.Reading.{after, line_at}
-use Rattle.lines.proofs.Reading.{line-more, line-cut, line-end, line-last}
+use Rattle.lines.proofs.Reading.{line_more, line_cut, line_end, line_last}
 use borrow.Author.Rules.{rules}
 use Rattle.lines.proofs.line_by_bytes.Statement.{statement}
 use Rattle.lines.proofs.line_by_bytes.Tie as tie
@@ -14,23 +14,23 @@ abbrev decreases-loop : tie.decreases-loop
 decreases-loop s at before n last odd₀ i₀ odd i = length s - i
 
 returns : tie.Need-returns invariant-loop decreases-loop
-returns c = c.rest-to.ensures ∙ sym (line-end _ _ _ c.before.if1.true)
+returns c = c.rest-to.ensures ∙ sym (line_end _ _ _ c.before.if1.true)
 
 loop-holds : tie.Need-loop-init invariant-loop decreases-loop
 loop-holds c = (search rules, refl)
 
 returns-2 : tie.Need-returns-2 invariant-loop decreases-loop
-returns-2 c = sym (c.before.before.before.loop.invariant.1 ∙ line-cut _ _ _ (sym c.before.crlf-at.ensures ∙ c.if2.true))
+returns-2 c = sym (c.before.before.before.loop.invariant.1 ∙ line_cut _ _ _ (sym c.before.crlf-at.ensures ∙ c.if2.true))
 
 loop-again : tie.Need-loop-preserved invariant-loop decreases-loop
 loop-again c =
     let at-loop = c.before.before.before.before.before in
-    (search rules, at-loop.loop.invariant.1 ∙ line-more _ _ at-loop.loop.odd _ at-loop.loop.invariant.0 (sym c.before.before.before.crlf-at.ensures ∙ c.before.before.if2.false) c.is_plain.ensures)
+    (search rules, at-loop.loop.invariant.1 ∙ line_more _ _ at-loop.loop.odd _ at-loop.loop.invariant.0 (sym c.before.before.before.crlf-at.ensures ∙ c.before.before.if2.false) c.is_plain.ensures)
 
 returns-3 : tie.Need-returns-3 invariant-loop decreases-loop
 returns-3 c =
     let at-loop = c.before.before.before.before in
-    c.rest-to2.ensures ∙ sym (at-loop.loop.invariant.1 ∙ line-last _ _ at-loop.loop.odd _ at-loop.loop.invariant.0 (search rules) c.before.is-plain2.ensures)
+    c.rest-to2.ensures ∙ sym (at-loop.loop.invariant.1 ∙ line_last _ _ at-loop.loop.odd _ at-loop.loop.invariant.0 (search rules) c.before.is-plain2.ensures)
 
 pub line-by-bytes-spec : {M : Type 1} → statement M
 line-by-bytes-spec =

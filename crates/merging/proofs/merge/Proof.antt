@@ -1,7 +1,7 @@
 use native.Mathlib.Omega.{arith}
 use mathlib.Core.Path.{◌≡◌, refl, ◌∙◌}
 use lib.ListN.{length}
-use Rattle.merging.proofs.Turns.{Going, going_start, going-hit, going-gap, going-touch, going_end, hit-merges}
+use Rattle.merging.proofs.Turns.{Going, going_start, going_hit, going_gap, going_touch, going_end, hit_merges}
 use borrow.Author.Rules.{rules}
 use Rattle.merging.proofs.merge.Statement.{statement}
 use Rattle.merging.proofs.merge.Tie as tie
@@ -16,7 +16,7 @@ loop-holds : tie.Need-loop-init invariant-loop decreases-loop
 loop-holds c = (going_start _ _, refl, refl)
 
 next-requires : tie.Need-next-requires invariant-loop decreases-loop
-next-requires c κs = (omega (arith, c.before.loop.invariant.0.rest, c.loop-test.true), c.before.loop.invariant.0.keys_in, c.before.loop.invariant.0.spans-in, c.before.before.before.before.before.before.before.requires.1)
+next-requires c κs = (omega (arith, c.before.loop.invariant.0.rest, c.loop-test.true), c.before.loop.invariant.0.keys_in, c.before.loop.invariant.0.spans_in, c.before.before.before.before.before.before.before.requires.1)
 
 same_length : tie.Need-same-length invariant-loop decreases-loop
 same_length c = c.before.before.before.before.loop.invariant.1
@@ -25,7 +25,7 @@ same-length-2 : tie.Need-same-length-2 invariant-loop decreases-loop
 same-length-2 c = c.before.before.before.before.loop.invariant.2
 
 returns : tie.Need-returns invariant-loop decreases-loop
-returns c = hit-merges (going-hit c.before.before.before.before.loop.invariant.0 c.before.before.next.ensures c.if1.true)
+returns c = hit_merges (going_hit c.before.before.before.before.loop.invariant.0 c.before.before.next.ensures c.if1.true)
 
 sub-if2 : tie.Need-overflow-sub-if2 invariant-loop decreases-loop
 sub-if2 c = omega (arith, c.before.if1.false)
@@ -41,7 +41,7 @@ loop-less c = omega (arith, c.before.before.before.before.before.before.before.b
 loop-again : tie.Need-loop-preserved invariant-loop decreases-loop
 loop-again c =
     let l = c.before.before.before.before.before.before.before.before.before.before.before.before.before.before in (
-      going-gap l.loop.invariant.0 c.before.before.before.before.before.before.before.before.before.before.before.before.next.ensures c.before.before.before.before.before.before.before.before.before.before.before.before.before.loop-test.true c.before.before.before.before.before.before.before.before.if2.true c.before.before.before.before.before.before.store.ensures c.before.before.store2.ensures,
+      going_gap l.loop.invariant.0 c.before.before.before.before.before.before.before.before.before.before.before.before.next.ensures c.before.before.before.before.before.before.before.before.before.before.before.before.before.loop-test.true c.before.before.before.before.before.before.before.before.if2.true c.before.before.before.before.before.before.store.ensures c.before.before.store2.ensures,
       c.before.before.before.before.before.before.store.auto.0 ∙ l.loop.invariant.1,
       c.before.before.store2.auto.0 ∙ l.loop.invariant.2,
     )
@@ -52,7 +52,7 @@ loop-less-2 c = omega (arith, c.before.before.before.before.before.loop-test.tru
 loop-again-2 : tie.Need-loop-preserved-2 invariant-loop decreases-loop
 loop-again-2 c =
     let l = c.before.before.before.before.before.before in
-    (going-touch l.loop.invariant.0 c.before.before.before.before.next.ensures c.before.before.before.before.before.loop-test.true c.before.before.if1.false c.if2.false, l.loop.invariant.1, l.loop.invariant.2)
+    (going_touch l.loop.invariant.0 c.before.before.before.before.next.ensures c.before.before.before.before.before.loop-test.true c.before.before.if1.false c.if2.false, l.loop.invariant.1, l.loop.invariant.2)
 
 add-t13 : tie.Need-overflow-add-t13 invariant-loop decreases-loop
 add-t13 c =

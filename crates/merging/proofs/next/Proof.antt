@@ -1,5 +1,5 @@
 use native.Mathlib.Omega.{arith}
-use Rattle.merging.proofs.Turns.{takes-span-alone, takes-key-alone, takes_key, takes-span}
+use Rattle.merging.proofs.Turns.{takes_span_alone, takes_key_alone, takes_key, takes_span}
 use borrow.Author.Rules.{rules}
 use Rattle.merging.proofs.next.Statement.{statement}
 use Rattle.merging.proofs.next.Tie as tie
@@ -7,12 +7,12 @@ use Rattle.merging.proofs.next.Tie as tie
 returns : tie.Need-returns
 returns c =
     let s = c.before.before.before in
-    takes-span-alone s.args.keys.now s.args.starts.now s.args.ends.now s.args.i s.args.j s.requires.3 c.before.before.if1.true s.requires.1 (omega (arith, s.requires.0, c.before.before.if1.true))
+    takes_span_alone s.args.keys.now s.args.starts.now s.args.ends.now s.args.i s.args.j s.requires.3 c.before.before.if1.true s.requires.1 (omega (arith, s.requires.0, c.before.before.if1.true))
 
 returns-2 : tie.Need-returns-2
 returns-2 c =
     let s = c.before.before.before in
-    takes-key-alone s.args.keys.now s.args.starts.now s.args.ends.now s.args.i s.args.j s.requires.3 c.before.before.if1.false c.if2.true s.requires.2
+    takes_key_alone s.args.keys.now s.args.starts.now s.args.ends.now s.args.i s.args.j s.requires.3 c.before.before.if1.false c.if2.true s.requires.2
 
 returns-3 : tie.Need-returns-3
 returns-3 c =
@@ -22,7 +22,7 @@ returns-3 c =
 returns-4 : tie.Need-returns-4
 returns-4 c =
     let s = c.before.before.before.before.before.before in
-    takes-span s.args.keys.now s.args.starts.now s.args.ends.now s.args.i s.args.j s.requires.3 c.before.before.before.before.before.if1.false c.before.before.before.if2.false c.before.if3.false
+    takes_span s.args.keys.now s.args.starts.now s.args.ends.now s.args.i s.args.j s.requires.3 c.before.before.before.before.before.if1.false c.before.before.before.if2.false c.before.if3.false
 
 pub next-spec : {M : Type 1} → statement M
 next-spec =

@@ -4,7 +4,7 @@ use Prim.Native.Nat.{◌-◌, ◌^◌, ◌<◌}
 use lib.ListN.{length}
 use Rattle.number_reader.proofs.number_at.Statement.{statement}
 use Rattle.number_reader.proofs.number_at.Tie as tie
-use Rattle.number_reader.proofs.Scanning.{Going, first, answered, next, room, at-end, at_most, low, high}
+use Rattle.number_reader.proofs.Scanning.{Going, first, answered, next, room, at_end, at_most, low, high}
 
 abbrev invariant-loop : tie.invariant-loop
 invariant-loop t at most v₀ i₀ left₀ v i left = Going t at most v i left
@@ -44,7 +44,7 @@ loop-again c =
     rw c.wide.ensures (next _ _ _ _ _ _ l.loop.invariant e.before.loop-test.true e.if1.false c.before.before.if2.false c.before.if3.false)
 
 returns-4 : tie.Need-returns-4 invariant-loop decreases-loop
-returns-4 c = let l = c.before in answered _ _ _ _ _ _ l.loop.invariant (at-end _ _ _ _ _ l.loop.invariant.same c.loop-test.false)
+returns-4 c = let l = c.before in answered _ _ _ _ _ _ l.loop.invariant (at_end _ _ _ _ _ l.loop.invariant.same c.loop-test.false)
 
 pub number-at-spec : {M : Type 1} → statement M
 number-at-spec =

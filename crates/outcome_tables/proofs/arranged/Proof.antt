@@ -5,7 +5,7 @@ use lib.Dec.{ltb}
 use borrow.Author.Rules.{rules}
 use borrow.Author.Tests.{lt-ltb, le-ltb}
 use Rattle.headings.specs.declared.Code.{Code}
-use Rattle.outcome_tables.specs.Outcomes.{three, noCode, codes}
+use Rattle.outcome_tables.specs.Outcomes.{three, no_code, codes}
 use Rattle.outcome_tables.proofs.Seven.{seven}
 use Rattle.outcome_tables.proofs.arranged.Statement.{statement}
 use Rattle.outcome_tables.proofs.arranged.Tie as tie
@@ -15,7 +15,7 @@ of_three : (x y z : Code) (o : ℕ) → 1 ≤ o → o ≤ 7 → cond (ltb o 3) (
 unfolding codes
 of_three x y z = seven _ refl refl refl refl refl refl refl
 
-of_two : (x y z : Code) (o : ℕ) → 1 ≤ o → o ≤ 7 → cond (ltb o 6) (three x y noCode) (three x x y) ≡ codes false o x y z
+of_two : (x y z : Code) (o : ℕ) → 1 ≤ o → o ≤ 7 → cond (ltb o 6) (three x y no_code) (three x x y) ≡ codes false o x y z
 unfolding codes
 of_two x y z = seven _ refl refl refl refl refl refl refl
 
@@ -25,7 +25,7 @@ by_three : (p : tie.Start) → let a = p.args in
 by_three p = let a = p.args in of_three a.x a.y a.z a.outcome p.requires.0 p.requires.1
 
 by_two : (p : tie.Start) → let a = p.args in
-    cond (ltb a.outcome 6) (three a.x a.y noCode) (three a.x a.x a.y) ≡ codes false a.outcome a.x a.y a.z
+    cond (ltb a.outcome 6) (three a.x a.y no_code) (three a.x a.x a.y) ≡ codes false a.outcome a.x a.y a.z
 by_two p = let a = p.args in of_two a.x a.y a.z a.outcome p.requires.0 p.requires.1
 
 returns : tie.Need-returns

@@ -2,10 +2,10 @@ use mathlib.Core.Path.{◌≡◌, refl, sym, ap, ◌∙◌}
 use borrow.Author.Rules.{rules}
 use Rattle.headings.specs.declared.Heading.{Heading}
 use Rattle.headings.specs.declared.Read.TheVariants.{Reads}
-use Rattle.headings.specs.Reading.{headingOf}
+use Rattle.headings.specs.Reading.{heading_of}
 use Rattle.turning.specs.declared.Turned.{Turned}
 use Rattle.outcomes.specs.declared.Derived.TheVariants.{NotInput, NoOutcome, NoEntry}
-use Rattle.turning.specs.Turning.{turned, turnNumber, turnHeading}
+use Rattle.turning.specs.Turning.{turned, turn_number, turn_heading}
 use Rattle.outcomes.proofs.Joined.{unread, stops, goes_on}
 use Rattle.outcomes.proofs.derive.Statement.{statement}
 use Rattle.outcomes.proofs.derive.Tie as tie
@@ -17,7 +17,7 @@ start m = m.before.before.before.before.before.before.before
 abbrev H : tie.After-turn → Heading
 H m = m.before.before.h.given.0.0
 
-was_read : (m : tie.After-turn) → headingOf (start m).args.text.now ≡ Reads (H m)
+was_read : (m : tie.After-turn) → heading_of (start m).args.text.now ≡ Reads (H m)
 was_read m = sym m.before.before.before.before.read.ensures.1 ∙ m.before.before.h.given.1
 
 returns : tie.Need-returns
@@ -29,19 +29,19 @@ returns-2 : tie.Need-returns-2
 returns-2 c =
     let m = c.before.before in
     let a = (start m).args in
-    stops a.text.now a.outcome a.standing a.number a.target.now (H m) (was_read m) NotInput refl (sym (ap turnNumber c.enum-told2.given.1) ∙ m.turn.ensures.0)
+    stops a.text.now a.outcome a.standing a.number a.target.now (H m) (was_read m) NotInput refl (sym (ap turn_number c.enum-told2.given.1) ∙ m.turn.ensures.0)
 
 returns-3 : tie.Need-returns-3
 returns-3 c =
     let m = c.before.before in
     let a = (start m).args in
-    stops a.text.now a.outcome a.standing a.number a.target.now (H m) (was_read m) NoOutcome refl (sym (ap turnNumber c.enum-told3.given.1) ∙ m.turn.ensures.0)
+    stops a.text.now a.outcome a.standing a.number a.target.now (H m) (was_read m) NoOutcome refl (sym (ap turn_number c.enum-told3.given.1) ∙ m.turn.ensures.0)
 
 returns-4 : tie.Need-returns-4
 returns-4 c =
     let m = c.before.before in
     let a = (start m).args in
-    stops a.text.now a.outcome a.standing a.number a.target.now (H m) (was_read m) NoEntry refl (sym (ap turnNumber c.enum-told4.given.1) ∙ m.turn.ensures.0)
+    stops a.text.now a.outcome a.standing a.number a.target.now (H m) (was_read m) NoEntry refl (sym (ap turn_number c.enum-told4.given.1) ∙ m.turn.ensures.0)
 
 returns-5 : tie.Need-returns-5
 returns-5 c =
@@ -50,8 +50,8 @@ returns-5 c =
     let m = g.before.before in
     let a = (start m).args in
     goes_on a.text.now a.outcome a.standing a.number a.target.now (H m) (was_read m) g.g.given.0.0 _ _
-    (sym (ap turnNumber g.g.given.1) ∙ m.turn.ensures.0)
-    (sym (ap (λ (x : Turned). turnHeading x (turned (H m) a.outcome)) g.g.given.1) ∙ m.turn.ensures.1)
+    (sym (ap turn_number g.g.given.1) ∙ m.turn.ensures.0)
+    (sym (ap (λ (x : Turned). turn_heading x (turned (H m) a.outcome)) g.g.given.1) ∙ m.turn.ensures.1)
     i.issue.ensures.0
     i.issue.ensures.1
 

@@ -5,8 +5,8 @@ use mathlib.Core.List.{◌++◌}
 use lib.ListN.{length, take, drop}
 use Rattle.text.specs.Strings.{Wrote}
 use Rattle.text.proofs.Wrote.{then, same_length as as_long}
-use Rattle.outgoing_lines.specs.Outgoing.{Orders, asDerived, headingAfter}
-use Rattle.outgoing_lines.proofs.Derived.{number_small, derived-room, derived-put}
+use Rattle.outgoing_lines.specs.Outgoing.{Orders, as_derived, heading_after}
+use Rattle.outgoing_lines.proofs.Derived.{number_small, derived_room, derived_put}
 use borrow.Author.Rules.{rules}
 use Rattle.outgoing_lines.proofs.put_derived.Statement.{statement}
 use Rattle.outgoing_lines.proofs.put_derived.Tie as tie
@@ -19,15 +19,15 @@ abbrev from : tie.After-at-or-zero2 → tie.Start
 from c = c.before.before.before.before.before.before.before
 
 room : (s : tie.Start) → s.args.at + 56 ≤ length s.args.out.now
-room s = derived-room (orders s) s.args.k s.args.line.now s.requires.0 s.args.at _ s.requires.1
+room s = derived_room (orders s) s.args.k s.args.line.now s.requires.0 s.args.at _ s.requires.1
 
 wrote : (d : tie.After-derive) → let s = from d.before.before in
-    Wrote s.args.out.now s.args.at (headingAfter (orders s) s.args.k s.args.line.now) (take s.args.at s.args.out.now ++ (d.derive.new.1.1.1.1.0 ++ drop (length s.args.out.now - s.args.at) (drop s.args.at s.args.out.now))) (s.args.at + 54)
+    Wrote s.args.out.now s.args.at (heading_after (orders s) s.args.k s.args.line.now) (take s.args.at s.args.out.now ++ (d.derive.new.1.1.1.1.0 ++ drop (length s.args.out.now - s.args.at) (drop s.args.at s.args.out.now))) (s.args.at + 54)
 wrote d =
     let p = d.before.before in
     let s = from p in
-    derived-put (orders s) s.args.k s.args.line.now s.pre.0 s.args.out.now s.args.at (omega (arith, room s))
-    (p.before.as-derived.ensures ∙ ap asDerived p.before.before.at-or-zero.ensures)
+    derived_put (orders s) s.args.k s.args.line.now s.pre.0 s.args.out.now s.args.at (omega (arith, room s))
+    (p.before.as-derived.ensures ∙ ap as_derived p.before.before.at-or-zero.ensures)
     p.at-or-zero2.ensures
     d.derive.ensures
 

@@ -3,7 +3,7 @@ use mathlib.Core.Path.{sym, ap, ◌∙◌}
 use mathlib.Core.List.{List}
 use Rattle.fields.specs.declared.kinds.Kind.{Kind}
 use Rattle.outgoing_lines.specs.Outgoing.{Orders}
-use Rattle.outgoing_lines.specs.Going.{lineAfter, lineUnderived}
+use Rattle.outgoing_lines.specs.Going.{line_after, line_underived}
 use Rattle.outgoing_lines.proofs.Chosen.{room_as, wrote_as}
 use borrow.Author.Rules.{rules}
 use Rattle.outgoing_lines.proofs.put_line.Statement.{statement}
@@ -13,13 +13,13 @@ abbrev orders : tie.Start → Orders
 orders s = record { outcomes = s.args.outcomes.now; standings = s.args.standings.now; start = s.args.start }
 
 abbrev after : tie.Start → Kind → List ℕ
-after s x = lineAfter (orders s) x s.args.k s.args.outcome s.args.line.now
+after s x = line_after (orders s) x s.args.k s.args.outcome s.args.line.now
 
 put-derived-requires : tie.Need-put-derived-requires
 put-derived-requires c κs =
     let s = c.before.before.before.before.before.before.before in
     let e = c.before.enum_told.given.1 in
-    (sym (ap (λ (x : Kind). lineUnderived (orders s) x s.args.k s.args.line.now) e) ∙ s.requires.0, room_as s.args.at _ (ap (after s) e) s.requires.1)
+    (sym (ap (λ (x : Kind). line_underived (orders s) x s.args.k s.args.line.now) e) ∙ s.requires.0, room_as s.args.at _ (ap (after s) e) s.requires.1)
 
 put-plain-requires : tie.Need-put-plain-requires
 put-plain-requires c κs =

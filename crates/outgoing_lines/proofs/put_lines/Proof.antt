@@ -3,9 +3,9 @@ use native.Mathlib.Omega.{arith}
 use lib.ListN.{length}
 use Rattle.text.proofs.Wrote.{same_length as as_long}
 use Rattle.lines.specs.Reading.{IsNext}
-use Rattle.lines.proofs.Reading.{is-next}
+use Rattle.lines.proofs.Reading.{is_next}
 use Rattle.outgoing_lines.specs.Outgoing.{Orders}
-use Rattle.outgoing_lines.proofs.Loops.{Putting, put-start, put-fine, put-room, put-more, put-end}
+use Rattle.outgoing_lines.proofs.Loops.{Putting, put_start, put_fine, put_room, put_more, put_end}
 use borrow.Author.Rules.{rules}
 use Rattle.outgoing_lines.proofs.put_lines.Statement.{statement}
 use Rattle.outgoing_lines.proofs.put_lines.Tie as tie
@@ -21,10 +21,10 @@ orders s = record { outcomes = s.args.outcomes.now; standings = s.args.standings
 
 -- the line that was found
 next-line : (c : tie.After-line-at invariant-loop decreases-loop) → IsNext c.before.before.before.before.before.before.before.args.s.now c.before.before.loop.at c.line_at_lem.result
-next-line c = is-next _ _ _ c.line_at_lem.ensures c.before.loop-test.true
+next-line c = is_next _ _ _ c.line_at_lem.ensures c.before.loop-test.true
 
 loop-holds : tie.Need-loop-init invariant-loop decreases-loop
-loop-holds c = put-start (orders c.before.before.before.before) _ _ c.before.before.before.before.requires.0
+loop-holds c = put_start (orders c.before.before.before.before) _ _ c.before.before.before.before.requires.0
 
 sub-kind-of : tie.Need-overflow-sub-kind-of invariant-loop decreases-loop
 sub-kind-of c = omega (arith, (next-line c).starts, (next-line c).closes, (next-line c).within)
@@ -50,7 +50,7 @@ put-line-requires c κs =
     let f = x.before.before in
     let l = f.before.before in
     let s = l.before.before.before.before.before in
-    (put-fine (orders s) _ _ l.loop.invariant (next-line f) x.kind-of.ensures, put-room (orders s) _ _ l.loop.invariant (next-line f) x.kind-of.ensures s.requires.1)
+    (put_fine (orders s) _ _ l.loop.invariant (next-line f) x.kind_of_lem.ensures, put_room (orders s) _ _ l.loop.invariant (next-line f) x.kind_of_lem.ensures s.requires.1)
 
 count-in-requires : tie.Need-count-in-requires invariant-loop decreases-loop
 count-in-requires c κs = omega (arith, c.before.before.before.before.before.before.before.before.before.before.loop.invariant.few, c.before.before.before.before.before.before.before.before.before.loop-test.true)
@@ -64,13 +64,13 @@ loop-again c =
     let x = p.before.before.before in
     let f = x.before.before in
     let l = f.before.before in
-    put-more (orders l.before.before.before.before.before) _ _ l.loop.invariant (next-line f) x.kind-of.ensures p.put-line.ensures c.count-in.ensures c.before.outcome-in.ensures
+    put_more (orders l.before.before.before.before.before) _ _ l.loop.invariant (next-line f) x.kind_of_lem.ensures p.put-line.ensures c.count-in.ensures c.before.outcome-in.ensures
 
 same_length : tie.Need-same-length invariant-loop decreases-loop
 same_length c = as_long c.before.loop.invariant.wrote
 
 returns : tie.Need-returns invariant-loop decreases-loop
-returns c = put-end (orders c.before.before.before.before.before.before) _ _ c.before.loop.invariant c.loop-test.false
+returns c = put_end (orders c.before.before.before.before.before.before) _ _ c.before.loop.invariant c.loop-test.false
 
 pub put-lines-spec : {M : Type 1} → statement M
 put-lines-spec =

@@ -2,8 +2,8 @@ use Prim.Native.Nat.{◌-◌}
 use native.Mathlib.Omega.{arith}
 use lib.ListN.{length}
 use Rattle.lines.specs.Reading.{IsNext}
-use Rattle.lines.proofs.Reading.{is-next}
-use Rattle.outgoing_lines.proofs.Loops.{Sizing, size-start, size-more, size-end}
+use Rattle.lines.proofs.Reading.{is_next}
+use Rattle.outgoing_lines.proofs.Loops.{Sizing, size_start, size_more, size_end}
 use borrow.Author.Rules.{rules}
 use Rattle.outgoing_lines.proofs.size_of.Statement.{statement}
 use Rattle.outgoing_lines.proofs.size_of.Tie as tie
@@ -16,10 +16,10 @@ decreases-loop s outcomes size₀ k₀ o₀ at₀ size k o at = length s - at
 
 -- the line that was found
 next-line : (c : tie.After-line-at invariant-loop decreases-loop) → IsNext c.before.before.before.before.before.args.s.now c.before.before.loop.at c.line_at_lem.result
-next-line c = is-next _ _ _ c.line_at_lem.ensures c.before.loop-test.true
+next-line c = is_next _ _ _ c.line_at_lem.ensures c.before.loop-test.true
 
 loop-holds : tie.Need-loop-init invariant-loop decreases-loop
-loop-holds c = size-start _ _
+loop-holds c = size_start _ _
 
 sub-kind-of : tie.Need-overflow-sub-kind-of invariant-loop decreases-loop
 sub-kind-of c = omega (arith, (next-line c).starts, (next-line c).closes, (next-line c).within)
@@ -53,10 +53,10 @@ loop-again c =
     let g = c.before.before in
     let k = g.before.before.before in
     let f = k.before.before in
-    size-more _ _ f.before.before.loop.invariant (next-line f) k.kind-of.ensures g.before.line-size.ensures g.grown.ensures c.count-in.ensures c.before.outcome-in.ensures
+    size_more _ _ f.before.before.loop.invariant (next-line f) k.kind_of_lem.ensures g.before.line-size.ensures g.grown.ensures c.count-in.ensures c.before.outcome-in.ensures
 
 returns : tie.Need-returns invariant-loop decreases-loop
-returns c = λ standings start. size-end _ _ c.before.loop.invariant c.loop-test.false standings start
+returns c = λ standings start. size_end _ _ c.before.loop.invariant c.loop-test.false standings start
 
 pub size-of-spec : {M : Type 1} → statement M
 size-of-spec =

@@ -1,15 +1,15 @@
 use native.Mathlib.Omega.{arith}
 use borrow.Author.Rules.{rules}
-use Rattle.days.proofs.Reckoning.{number-le}
-use Rattle.own_rules.specs.Model.{basisOf}
+use Rattle.days.proofs.Reckoning.{number_le}
+use Rattle.own_rules.specs.Model.{basis_of}
 use Rattle.own_rules.proofs.basis_of.Statement.{statement}
 use Rattle.own_rules.proofs.basis_of.Tie as tie
 
 add-day-of : tie.Need-overflow-add-day-of
-add-day-of c = record { fits = omega (arith, c.before.day-number.ensures, number-le c.before.before.args.day (omega arith)) }
+add-day-of c = record { fits = omega (arith, c.before.day-number.ensures, number_le c.before.before.args.day (omega arith)) }
 
 returns : tie.Need-returns
-unfolding basisOf
+unfolding basis_of
 returns c =
     rw (c.eleven-less.ensures, c.before.day-of2.ensures, c.before.before.day-of.ensures, c.before.before.before.day-number.ensures)
 

@@ -1,6 +1,6 @@
 use Prim.Native.Nat.{◌-◌}
 use lib.ListN.{length}
-use Rattle.participants.proofs.Listing.{Seeking, seek-start, seek-more, seek_hit, seek-end}
+use Rattle.participants.proofs.Listing.{Seeking, seek_start, seek_more, seek_hit, seek_end}
 use borrow.Author.Rules.{rules}
 use Rattle.participants.proofs.place_of.Statement.{statement}
 use Rattle.participants.proofs.place_of.Tie as tie
@@ -12,16 +12,16 @@ abbrev decreases-loop : tie.decreases-loop
 decreases-loop codes code i₀ i = length codes - i
 
 loop-holds : tie.Need-loop-init invariant-loop decreases-loop
-loop-holds c = seek-start _ _
+loop-holds c = seek_start _ _
 
 returns : tie.Need-returns invariant-loop decreases-loop
 returns c = seek_hit c.before.before.before.loop.invariant c.before.before.loop-test.true c.if1.true
 
 loop-again : tie.Need-loop-preserved invariant-loop decreases-loop
-loop-again c = seek-more c.before.before.before.loop.invariant c.before.before.loop-test.true c.if1.false
+loop-again c = seek_more c.before.before.before.loop.invariant c.before.before.loop-test.true c.if1.false
 
 returns-2 : tie.Need-returns-2 invariant-loop decreases-loop
-returns-2 c = seek-end c.before.loop.invariant c.loop-test.false
+returns-2 c = seek_end c.before.loop.invariant c.loop-test.false
 
 pub place-of-spec : {M : Type 1} → statement M
 place-of-spec =

@@ -9,17 +9,17 @@ use Rattle.fields.specs.Classes.{class_of}
 use Rattle.fields.specs.Codes.{code_of}
 use Rattle.fields.specs.Readings.{text_of, reading_of}
 use Rattle.lines.specs.Reading.{span, IsNext}
-use Rattle.lines.proofs.Reading.{is-next, span-long}
+use Rattle.lines.proofs.Reading.{is_next, span_long}
 use Rattle.rules.specs.Faults.{Fault}
 use Rattle.ledger.specs.Marks.{marked}
 use Rattle.blocks.specs.Model.{block_of}
-use Rattle.account.specs.Model.{groupsOn}
-use Rattle.items.specs.Claims.{claimsAs}
-use Rattle.judging.specs.Opening.{lowOpen, readAs, spanClosed, statedClosed, closeClaims}
-use Rattle.closing.proofs.Sets.{lineMarks}
-use Rattle.shutting.proofs.Waiting.{entered-list}
-use Rattle.pass.proofs.Walk.{own_at, claims-kept, groups-took, groups-left, shut-block, shut-wait, shut-faults, own-above, own-inside, own-plain, ident-few}
-use Rattle.pass.proofs.Feeding.{Feeding, bounded-room, bounded-tail, feed-start, feed-close, feed-end, feed-other, feed-more, feed-field, feed-head}
+use Rattle.account.specs.Model.{groups_on}
+use Rattle.items.specs.Claims.{claims_as}
+use Rattle.judging.specs.Opening.{low_open, read_as, span_closed, stated_closed, close_claims}
+use Rattle.closing.proofs.Sets.{line_marks}
+use Rattle.shutting.proofs.Waiting.{entered_list}
+use Rattle.pass.proofs.Walk.{own_at, claims_kept, groups_took, groups_left, shut_block, shut_wait, shut_faults, own_above, own_inside, own_plain, ident_few}
+use Rattle.pass.proofs.Feeding.{Feeding, bounded_room, bounded_tail, feed_start, feed_close, feed_end, feed_other, feed_more, feed_field, feed_head}
 use borrow.Author.Rules.{rules}
 use Rattle.pass.proofs.feed.Statement.{statement}
 use Rattle.pass.proofs.feed.Tie as tie
@@ -35,7 +35,7 @@ decreases-loop s base basis lines₀ rules₀ offsets₀ stood₀ places table c
 
 -- the line that was found
 next : (c : tie.After-line-from invariant-loop decreases-loop) → IsNext c.before.before.before.before.before.before.before.before.before.before.before.before.before.before.before.before.before.before.before.before.before.args.s.now c.before.before.loop.at c.line-from.result
-next c = is-next _ _ _ c.line-from.ensures c.before.loop-test.true
+next c = is_next _ _ _ c.line-from.ensures c.before.loop-test.true
 
 -- the text, and what is counted with, are within their bounds
 within : (c : tie.After-line-from invariant-loop decreases-loop) → c.before.before.before.before.before.before.before.before.before.before.before.before.before.before.before.before.before.before.before.before.before.args.base + c.before.before.loop.at ≤ 10000000
@@ -43,31 +43,31 @@ within c = omega (arith, c.before.before.loop.invariant.to, c.before.before.befo
 
 -- marks 1 and 4 of it
 own_is : (c : tie.After-line-marks invariant-loop decreases-loop)
-    → c.line-marks.result ≡ lineMarks (record { no = suc c.before.before.before.before.before.before.loop.n; bytes = span c.before.before.before.before.before.before.loop.at c.before.before.before.before.line-from.result.end c.before.before.before.before.before.before.before.before.before.before.before.before.before.before.before.before.before.before.before.before.before.before.before.before.before.args.s.now; ended = c.before.before.before.before.line-from.result.ended })
+    → c.line-marks.result ≡ line_marks (record { no = suc c.before.before.before.before.before.before.loop.n; bytes = span c.before.before.before.before.before.before.loop.at c.before.before.before.before.line-from.result.end c.before.before.before.before.before.before.before.before.before.before.before.before.before.before.before.before.before.before.before.before.before.before.before.before.before.args.s.now; ended = c.before.before.before.before.line-from.result.ended })
 own_is c = own_at (next c.before.before.before.before) _ c.before.holds-inadmissible.ensures c.line-marks.ensures.0
 
 -- the claims are touched only where the open field makes one
-claims-at-heading : (c : tie.Joined1 invariant-loop decreases-loop) → let at-loop = c.before.before.before.before.before.before.before.before.before.before.before.before.before in (c.if1.span ≡ spanClosed at-loop.loop.span at-loop.loop.«open» at-loop.loop.pend) × (c.if1.stated ≡ statedClosed at-loop.loop.stated at-loop.loop.«open» at-loop.loop.pend)
+claims-at-heading : (c : tie.Joined1 invariant-loop decreases-loop) → let at-loop = c.before.before.before.before.before.before.before.before.before.before.before.before.before in (c.if1.span ≡ span_closed at-loop.loop.span at-loop.loop.«open» at-loop.loop.pend) × (c.if1.stated ≡ stated_closed at-loop.loop.stated at-loop.loop.«open» at-loop.loop.pend)
 claims-at-heading c =
     let at-loop = c.before.before.before.before.before.before.before.before.before.before.before.before.before in
     ⊎_elim (λ w. (w.3 ∙ w.1.ensures, w.4 ∙ w.2.ensures))
-    (λ w. let kept = claims-kept at-loop.loop.«open» at-loop.loop.pend at-loop.loop.span at-loop.loop.stated w.0.left in (w.1 ∙ kept.0, w.2 ∙ kept.1)) c.if1.branch
+    (λ w. let kept = claims_kept at-loop.loop.«open» at-loop.loop.pend at-loop.loop.span at-loop.loop.stated w.0.left in (w.1 ∙ kept.0, w.2 ∙ kept.1)) c.if1.branch
 
-claims-at-field : (c : tie.Joined3 invariant-loop decreases-loop) → let at-loop = c.before.before.before.before.before.before.before.before.before.before.before.before.before.before.before.before.before.before.before.before.before.before.before.before in (c.if3.span ≡ spanClosed at-loop.loop.span at-loop.loop.«open» at-loop.loop.pend) × (c.if3.stated ≡ statedClosed at-loop.loop.stated at-loop.loop.«open» at-loop.loop.pend)
+claims-at-field : (c : tie.Joined3 invariant-loop decreases-loop) → let at-loop = c.before.before.before.before.before.before.before.before.before.before.before.before.before.before.before.before.before.before.before.before.before.before.before.before in (c.if3.span ≡ span_closed at-loop.loop.span at-loop.loop.«open» at-loop.loop.pend) × (c.if3.stated ≡ stated_closed at-loop.loop.stated at-loop.loop.«open» at-loop.loop.pend)
 claims-at-field c =
     let at-loop = c.before.before.before.before.before.before.before.before.before.before.before.before.before.before.before.before.before.before.before.before.before.before.before.before in
     ⊎_elim (λ w. (w.3 ∙ w.1.ensures, w.4 ∙ w.2.ensures))
-    (λ w. let kept = claims-kept at-loop.loop.«open» at-loop.loop.pend at-loop.loop.span at-loop.loop.stated w.0.left in (w.1 ∙ kept.0, w.2 ∙ kept.1)) c.if3.branch
+    (λ w. let kept = claims_kept at-loop.loop.«open» at-loop.loop.pend at-loop.loop.span at-loop.loop.stated w.0.left in (w.1 ∙ kept.0, w.2 ∙ kept.1)) c.if3.branch
 
 -- 30 to 39 of the item that closes, and how many they are at most
-groups-are : (c : tie.Joined2 invariant-loop decreases-loop)
-    → (c.if2.groups ≡ groupsOn c.before.before.before.before.before.before.before.before.before.before.before.before.before.before.before.loop.counts c.before.before.before.before.before.before.before.before.before.before.before.before.before.before.before.loop.sums c.before.before.if1.stated (readAs c.before.before.before.before.before.before.before.before.before.before.before.before.before.before.before.loop.reads c.before.before.before.before.before.before.before.before.before.before.before.before.before.before.before.loop.h))
+groups_are : (c : tie.Joined2 invariant-loop decreases-loop)
+    → (c.if2.groups ≡ groups_on c.before.before.before.before.before.before.before.before.before.before.before.before.before.before.before.loop.counts c.before.before.before.before.before.before.before.before.before.before.before.before.before.before.before.loop.sums c.before.before.if1.stated (read_as c.before.before.before.before.before.before.before.before.before.before.before.before.before.before.before.loop.reads c.before.before.before.before.before.before.before.before.before.before.before.before.before.before.before.loop.h))
     × (c.if2.groups ≤ 2 ^ 40 - 2 ^ 30)
-groups-are c =
+groups_are c =
     let at-loop = c.before.before.before.before.before.before.before.before.before.before.before.before.before.before.before in
     let stated = c.before.before.if1.stated in
-    ⊎_elim (λ w. (groups-took at-loop.loop.counts at-loop.loop.sums stated at-loop.loop.reads at-loop.loop.h w.0.taken (w.2 ∙ w.1.ensures.0), omega (arith, w.2, w.1.ensures.1)))
-    (λ w. (groups-left at-loop.loop.counts at-loop.loop.sums stated at-loop.loop.reads at-loop.loop.h w.0.left w.1, omega (arith, w.1))) c.if2.branch
+    ⊎_elim (λ w. (groups_took at-loop.loop.counts at-loop.loop.sums stated at-loop.loop.reads at-loop.loop.h w.0.taken (w.2 ∙ w.1.ensures.0), omega (arith, w.2, w.1.ensures.1)))
+    (λ w. (groups_left at-loop.loop.counts at-loop.loop.sums stated at-loop.loop.reads at-loop.loop.h w.0.left w.1, omega (arith, w.1))) c.if2.branch
 
 places-requires : tie.Need-places-requires invariant-loop decreases-loop
 places-requires c κs = search rules
@@ -83,7 +83,7 @@ course-of-requires c κs = search rules
 
 loop-holds : tie.Need-loop-init invariant-loop decreases-loop
 loop-holds c =
-    feed-start c.before.before.before.before.before.before.before.before.before.before.before.before.before.before.before.before.before.before.requires.1
+    feed_start c.before.before.before.before.before.before.before.before.before.before.before.before.before.before.before.before.before.before.requires.1
 
 line-from-requires : tie.Need-line-from-requires invariant-loop decreases-loop
 line-from-requires c κs = search rules
@@ -156,8 +156,8 @@ group-marks-of-requires c κs = search rules
 shut-all-requires : tie.Need-shut-all-requires invariant-loop decreases-loop
 shut-all-requires c κs =
     let B = c.before.before.before.before.before.before.before.before.before.before.before.before.before.before.before.before.before.before.loop.invariant.bounded in
-    let room = bounded-room (within c.before.before.before.before.before.before.before.before.before.before.before.before.before.before.before.before) B in
-    (B.ready, (B.level, (omega (arith, room), B.calm, B.top-few, (groups-are c.before.before.before).1)))
+    let room = bounded_room (within c.before.before.before.before.before.before.before.before.before.before.before.before.before.before.before.before) B in
+    (B.ready, (B.level, (omega (arith, room), B.calm, B.top_few, (groups_are c.before.before.before).1)))
 
 count-item-requires : tie.Need-count-item-requires invariant-loop decreases-loop
 count-item-requires c κs = search rules
@@ -203,14 +203,14 @@ loop-again c =
     let counted = c.before.before.before.before.before.before.before.before.before.count-item.ensures in
     let here = c.before.before.before.before.before.before.before.before.before.before.before.before.before.before.before.before.before.before.before.before.before.before.before.before.before.before.before.before.before.before.before.before.before.before.before.before.before.loop in
     let basis = c.before.before.before.before.before.before.before.before.before.before.before.before.before.before.before.before.before.before.before.before.before.before.before.before.before.before.before.before.before.before.before.before.before.before.before.before.before.before.before.before.before.before.before.before.before.before.before.before.before.before.before.before.before.before.before.before.args.basis in
-    let read = readAs here.reads here.h in
+    let read = read_as here.reads here.h in
     let closes = claims-at-heading c.before.before.before.before.before.before.before.before.before.before.before.before.before.before.before.before.before.before.before.before.before.before.before.before in
-    let claims : claimsAs here.kc c.before.before.before.before.before.before.before.before.before.before.before.before.before.before.before.before.before.before.before.before.before.before.before.before.if1.span c.before.before.before.before.before.before.before.before.before.before.before.before.before.before.before.before.before.before.before.before.before.before.before.before.if1.stated ≡ closeClaims (claimsAs here.kc here.span here.stated) here.«open» here.pend = λ i. claimsAs here.kc (closes.0 i) (closes.1 i) in
-    let groups = (groups-are c.before.before.before.before.before.before.before.before.before.before.before.before.before.before.before.before.before.before.before.before.before.before).0 in
-    feed-head c.before.before.before.before.before.before.before.before.before.before.before.before.before.before.before.before.before.before.before.before.before.before.before.before.before.before.before.before.before.before.before.before.before.before.before.before.before.loop.invariant (next c.before.before.before.before.before.before.before.before.before.before.before.before.before.before.before.before.before.before.before.before.before.before.before.before.before.before.before.before.before.before.before.before.before.before.before) c.before.before.before.before.before.before.before.before.before.before.before.before.before.before.before.before.before.before.before.before.before.before.before.before.before.before.before.before.kind-from.ensures (own_is c.before.before.before.before.before.before.before.before.before.before.before.before.before.before.before.before.before.before.before.before.before.before.before.before.before.before.before.before.before.before.before) c.before.before.before.before.before.before.before.before.before.before.before.before.before.before.before.before.before.before.before.before.before.before.before.before.before.before.enum_told.given.1 c.before.before.read.ensures.1 c.before.before.before.before.none_open.ensures c.before.heading-in.ensures c.does-read.ensures c.before.before.before.before.before.no-sums.ensures
-    (shut-block basis here.course here.counts here.sums here.wait here.since here.top read claims groups shut.1.0.0 counted.0 counted.1)
-    (shut-wait basis here.course here.counts here.sums here.wait here.since here.top read claims groups shut.1.0.1) shut.1.0.2
-    (entered-list (ap (λ (xs : List Fault). marked here.«open».no here.«open».marks ++ xs) (shut-faults basis here.course here.counts here.sums here.wait here.since here.top read claims groups)) shut.0) shut.1.1.0 shut.1.1.1 c.before.before.before.before.before.before.before.before.before.before.before.before.before.before.before.before.before.before.shut-all.auto.1.1.0
+    let claims : claims_as here.kc c.before.before.before.before.before.before.before.before.before.before.before.before.before.before.before.before.before.before.before.before.before.before.before.before.if1.span c.before.before.before.before.before.before.before.before.before.before.before.before.before.before.before.before.before.before.before.before.before.before.before.before.if1.stated ≡ close_claims (claims_as here.kc here.span here.stated) here.«open» here.pend = λ i. claims_as here.kc (closes.0 i) (closes.1 i) in
+    let groups = (groups_are c.before.before.before.before.before.before.before.before.before.before.before.before.before.before.before.before.before.before.before.before.before.before).0 in
+    feed_head c.before.before.before.before.before.before.before.before.before.before.before.before.before.before.before.before.before.before.before.before.before.before.before.before.before.before.before.before.before.before.before.before.before.before.before.before.before.loop.invariant (next c.before.before.before.before.before.before.before.before.before.before.before.before.before.before.before.before.before.before.before.before.before.before.before.before.before.before.before.before.before.before.before.before.before.before.before) c.before.before.before.before.before.before.before.before.before.before.before.before.before.before.before.before.before.before.before.before.before.before.before.before.before.before.before.before.kind-from.ensures (own_is c.before.before.before.before.before.before.before.before.before.before.before.before.before.before.before.before.before.before.before.before.before.before.before.before.before.before.before.before.before.before.before) c.before.before.before.before.before.before.before.before.before.before.before.before.before.before.before.before.before.before.before.before.before.before.before.before.before.before.enum_told.given.1 c.before.before.read.ensures.1 c.before.before.before.before.none_open.ensures c.before.heading-in.ensures c.does-read.ensures c.before.before.before.before.before.no-sums.ensures
+    (shut_block basis here.course here.counts here.sums here.wait here.since here.top read claims groups shut.1.0.0 counted.0 counted.1)
+    (shut_wait basis here.course here.counts here.sums here.wait here.since here.top read claims groups shut.1.0.1) shut.1.0.2
+    (entered_list (ap (λ (xs : List Fault). marked here.«open».no here.«open».marks ++ xs) (shut_faults basis here.course here.counts here.sums here.wait here.since here.top read claims groups)) shut.0) shut.1.1.0 shut.1.1.1 c.before.before.before.before.before.before.before.before.before.before.before.before.before.before.before.before.before.before.shut-all.auto.1.1.0
 
 enum-told-2 : tie.Need-enum-told-2 invariant-loop decreases-loop
 enum-told-2 c = search rules
@@ -221,7 +221,7 @@ low-marks-requires c κs = search rules
 enter-requires : tie.Need-enter-requires invariant-loop decreases-loop
 enter-requires c κs =
     let B = c.before.before.before.before.before.before.before.before.before.before.before.before.before.before.before.loop.invariant.bounded in
-    let room = bounded-room (within c.before.before.before.before.before.before.before.before.before.before.before.before.before) B in
+    let room = bounded_room (within c.before.before.before.before.before.before.before.before.before.before.before.before.before) B in
     (B.ready, (B.level, omega (arith, room)))
 
 sub-with-low : tie.Need-overflow-sub-with-low invariant-loop decreases-loop
@@ -231,7 +231,7 @@ sub-with-low c =
 
 with-low-requires : tie.Need-with-low-requires invariant-loop decreases-loop
 with-low-requires c κs =
-    bounded-tail (within c.before.before.before.before.before.before.before.before.before.before.before.before.before.before.before.before.before.before.before.before.before) c.before.before.before.before.before.before.before.before.before.before.before.before.before.before.before.before.before.before.before.before.before.before.before.loop.invariant.bounded
+    bounded_tail (within c.before.before.before.before.before.before.before.before.before.before.before.before.before.before.before.before.before.before.before.before.before) c.before.before.before.before.before.before.before.before.before.before.before.before.before.before.before.before.before.before.before.before.before.before.before.loop.invariant.bounded
 
 loop-less-2 : tie.Need-loop-smaller-2 invariant-loop decreases-loop
 loop-less-2 c =
@@ -240,7 +240,7 @@ loop-less-2 c =
 
 loop-again-2 : tie.Need-loop-preserved-2 invariant-loop decreases-loop
 loop-again-2 c =
-    feed-more c.before.before.before.before.before.before.before.before.before.before.before.before.before.before.before.before.before.before.before.before.before.before.before.before.loop.invariant (next c.before.before.before.before.before.before.before.before.before.before.before.before.before.before.before.before.before.before.before.before.before.before) c.before.before.before.before.before.before.before.before.before.before.before.before.before.before.before.kind-from.ensures (own_is c.before.before.before.before.before.before.before.before.before.before.before.before.before.before.before.before.before.before) c.before.before.before.before.before.before.before.before.before.before.before.before.before.enum-told2.given.1 c.before.before.before.before.before.before.before.before.before.low-marks.ensures (c.with-low.ensures ∙ ap (lowOpen true c.before.before.before.before.before.before.before.before.before.before.before.before.before.before.before.before.before.before.before.before.before.before.before.before.loop.«open») (span-long (next c.before.before.before.before.before.before.before.before.before.before.before.before.before.before.before.before.before.before.before.before.before.before))) c.before.before.before.before.before.before.before.before.enter.ensures.0 c.before.before.before.before.before.before.before.before.enter.ensures.1.1 c.before.before.before.before.before.before.before.before.enter.auto.1.1.0
+    feed_more c.before.before.before.before.before.before.before.before.before.before.before.before.before.before.before.before.before.before.before.before.before.before.before.before.loop.invariant (next c.before.before.before.before.before.before.before.before.before.before.before.before.before.before.before.before.before.before.before.before.before.before) c.before.before.before.before.before.before.before.before.before.before.before.before.before.before.before.kind-from.ensures (own_is c.before.before.before.before.before.before.before.before.before.before.before.before.before.before.before.before.before.before) c.before.before.before.before.before.before.before.before.before.before.before.before.before.enum-told2.given.1 c.before.before.before.before.before.before.before.before.before.low-marks.ensures (c.with-low.ensures ∙ ap (low_open true c.before.before.before.before.before.before.before.before.before.before.before.before.before.before.before.before.before.before.before.before.before.before.before.before.loop.«open») (span_long (next c.before.before.before.before.before.before.before.before.before.before.before.before.before.before.before.before.before.before.before.before.before.before))) c.before.before.before.before.before.before.before.before.enter.ensures.0 c.before.before.before.before.before.before.before.before.enter.ensures.1.1 c.before.before.before.before.before.before.before.before.enter.auto.1.1.0
 
 enum-known-x : tie.Need-enum-known-x invariant-loop decreases-loop
 enum-known-x c = search rules
@@ -248,7 +248,7 @@ enum-known-x c = search rules
 enter-requires-2 : tie.Need-enter-requires-2 invariant-loop decreases-loop
 enter-requires-2 c κs =
     let B = c.before.before.before.before.before.before.before.before.before.before.before.before.before.before.before.loop.invariant.bounded in
-    let room = bounded-room (within c.before.before.before.before.before.before.before.before.before.before.before.before.before) B in
+    let room = bounded_room (within c.before.before.before.before.before.before.before.before.before.before.before.before.before) B in
     (B.ready, (B.level, omega (arith, room)))
 
 span-closed-requires-2 : tie.Need-span-closed-requires-2 invariant-loop decreases-loop
@@ -259,11 +259,11 @@ stated-closed-requires-2 c κs = search rules
 
 again-requires : tie.Need-again-requires invariant-loop decreases-loop
 again-requires c κs =
-    ident-few (span c.before.before.before.before.before.before.before.before.before.before.before.before.before.before.before.before.before.before.before.before.before.before.before.before.before.loop.at c.before.before.before.before.before.before.before.before.before.before.before.before.before.before.before.before.before.before.before.before.before.before.before.line-from.result.end c.before.before.before.before.before.before.before.before.before.before.before.before.before.before.before.before.before.before.before.before.before.before.before.before.before.before.before.before.before.before.before.before.before.before.before.before.before.before.before.before.before.before.before.before.args.s.now) c.before.before.before.before.before.before.before.before.before.before.before.before.before.before.before.before.kind-from.ensures c.before.before.before.before.before.before.before.before.before.before.before.before.before.before.x.given.0.0 c.before.before.before.before.before.before.before.before.before.before.before.before.before.before.x.given.1
+    ident_few (span c.before.before.before.before.before.before.before.before.before.before.before.before.before.before.before.before.before.before.before.before.before.before.before.before.before.loop.at c.before.before.before.before.before.before.before.before.before.before.before.before.before.before.before.before.before.before.before.before.before.before.before.line-from.result.end c.before.before.before.before.before.before.before.before.before.before.before.before.before.before.before.before.before.before.before.before.before.before.before.before.before.before.before.before.before.before.before.before.before.before.before.before.before.before.before.before.before.before.before.before.args.s.now) c.before.before.before.before.before.before.before.before.before.before.before.before.before.before.before.before.kind-from.ensures c.before.before.before.before.before.before.before.before.before.before.before.before.before.before.x.given.0.0 c.before.before.before.before.before.before.before.before.before.before.before.before.before.before.x.given.1
 
 -- the field's identifier, and the number of its class
 few-is : (c : tie.After-again invariant-loop decreases-loop) → c.before.before.before.before.before.before.before.before.before.before.before.before.before.before.before.x.given.0.0 < 1296
-few-is c = ident-few (span c.before.before.before.before.before.before.before.before.before.before.before.before.before.before.before.before.before.before.before.before.before.before.before.before.before.before.loop.at c.before.before.before.before.before.before.before.before.before.before.before.before.before.before.before.before.before.before.before.before.before.before.before.before.line-from.result.end c.before.before.before.before.before.before.before.before.before.before.before.before.before.before.before.before.before.before.before.before.before.before.before.before.before.before.before.before.before.before.before.before.before.before.before.before.before.before.before.before.before.before.before.before.before.args.s.now) c.before.before.before.before.before.before.before.before.before.before.before.before.before.before.before.before.before.kind-from.ensures c.before.before.before.before.before.before.before.before.before.before.before.before.before.before.before.x.given.0.0 c.before.before.before.before.before.before.before.before.before.before.before.before.before.before.before.x.given.1
+few-is c = ident_few (span c.before.before.before.before.before.before.before.before.before.before.before.before.before.before.before.before.before.before.before.before.before.before.before.before.before.before.loop.at c.before.before.before.before.before.before.before.before.before.before.before.before.before.before.before.before.before.before.before.before.before.before.before.before.line-from.result.end c.before.before.before.before.before.before.before.before.before.before.before.before.before.before.before.before.before.before.before.before.before.before.before.before.before.before.before.before.before.before.before.before.before.before.before.before.before.before.before.before.before.before.before.before.before.args.s.now) c.before.before.before.before.before.before.before.before.before.before.before.before.before.before.before.before.before.kind-from.ensures c.before.before.before.before.before.before.before.before.before.before.before.before.before.before.before.x.given.0.0 c.before.before.before.before.before.before.before.before.before.before.before.before.before.before.before.x.given.1
 
 number_is : (c : tie.After-again invariant-loop decreases-loop) → get_or c.before.before.before.before.before.before.before.before.before.before.before.before.before.before.before.before.before.before.before.before.before.before.before.before.before.before.before.before.before.before.before.before.before.before.before.before.before.before.codes.result c.before.before.before.before.before.before.before.before.before.before.before.before.before.before.before.x.given.0.0 0 ≡ code_of c.before.before.before.before.before.before.before.before.before.before.before.before.before.before.before.x.given.0.0
 number_is c = c.before.before.before.before.before.before.before.before.before.before.before.before.before.before.before.before.before.before.before.before.before.before.before.before.before.before.before.before.before.before.before.before.before.before.before.before.before.before.codes.ensures c.before.before.before.before.before.before.before.before.before.before.before.before.before.before.before.x.given.0.0 (few-is c)
@@ -317,8 +317,8 @@ loop-again-3 c =
     let at-loop = c.before.before.before.before.before.before.before.before.before.before.before.before.before.before.before.before.before.before.before.before.before.before.before.before.before.before.before.before.before.before.before.before.before in
     let closes = claims-at-field c.before.before.before.before.before.before.before.before.before in
     let asked = c.before.before.before.before.before.before.before.again.ensures in
-    let own = own-inside at-loop.loop.since c.before.before.before.before.before.before.before.before.before.before.before.before.before.before.before.before.before.before.before.before.before.before.x.given.0.0 c.before.before.before.before.read-claim.result at-loop.loop.kc at-loop.loop.pend c.before.before.if5.true c.before.kc-own.ensures c.keep-own.ensures in
-    feed-field c.before.before.before.before.before.before.before.before.before.before.before.before.before.before.before.before.before.before.before.before.before.before.before.before.before.before.before.before.before.before.before.before.before.loop.invariant (next c.before.before.before.before.before.before.before.before.before.before.before.before.before.before.before.before.before.before.before.before.before.before.before.before.before.before.before.before.before.before.before) c.before.before.before.before.before.before.before.before.before.before.before.before.before.before.before.before.before.before.before.before.before.before.before.before.kind-from.ensures (own_is c.before.before.before.before.before.before.before.before.before.before.before.before.before.before.before.before.before.before.before.before.before.before.before.before.before.before.before) c.before.before.before.before.before.before.before.before.before.before.before.before.before.before.before.before.before.before.before.before.before.before.x.given.0.0 c.before.before.before.before.before.before.before.before.before.before.before.before.before.before.before.before.before.before.before.before.before.before.x.given.1 closes.0 closes.1 asked.0 (said-is c.before.before.before.before) c.before.before.before.field_open.ensures own.0 own.1 asked.1 c.before.before.before.before.before.before.before.before.before.before.before.before.before.before.before.before.before.enter2.ensures.0 c.before.before.before.before.before.before.before.before.before.before.before.before.before.before.before.before.before.enter2.ensures.1.1 c.before.before.before.before.before.before.before.before.before.before.before.before.before.before.before.before.before.enter2.auto.1.1.0
+    let own = own_inside at-loop.loop.since c.before.before.before.before.before.before.before.before.before.before.before.before.before.before.before.before.before.before.before.before.before.before.x.given.0.0 c.before.before.before.before.read-claim.result at-loop.loop.kc at-loop.loop.pend c.before.before.if5.true c.before.kc-own.ensures c.keep-own.ensures in
+    feed_field c.before.before.before.before.before.before.before.before.before.before.before.before.before.before.before.before.before.before.before.before.before.before.before.before.before.before.before.before.before.before.before.before.before.loop.invariant (next c.before.before.before.before.before.before.before.before.before.before.before.before.before.before.before.before.before.before.before.before.before.before.before.before.before.before.before.before.before.before.before) c.before.before.before.before.before.before.before.before.before.before.before.before.before.before.before.before.before.before.before.before.before.before.before.before.kind-from.ensures (own_is c.before.before.before.before.before.before.before.before.before.before.before.before.before.before.before.before.before.before.before.before.before.before.before.before.before.before.before) c.before.before.before.before.before.before.before.before.before.before.before.before.before.before.before.before.before.before.before.before.before.before.x.given.0.0 c.before.before.before.before.before.before.before.before.before.before.before.before.before.before.before.before.before.before.before.before.before.before.x.given.1 closes.0 closes.1 asked.0 (said-is c.before.before.before.before) c.before.before.before.field_open.ensures own.0 own.1 asked.1 c.before.before.before.before.before.before.before.before.before.before.before.before.before.before.before.before.before.enter2.ensures.0 c.before.before.before.before.before.before.before.before.before.before.before.before.before.before.before.before.before.enter2.ensures.1.1 c.before.before.before.before.before.before.before.before.before.before.before.before.before.before.before.before.before.enter2.auto.1.1.0
 
 loop-less-4 : tie.Need-loop-smaller-4 invariant-loop decreases-loop
 loop-less-4 c =
@@ -330,8 +330,8 @@ loop-again-4 c =
     let at-loop = c.before.before.before.before.before.before.before.before.before.before.before.before.before.before.before.before.before.before.before.before.before.before.before.before.before.before.before.before.before.before.before in
     let closes = claims-at-field c.before.before.before.before.before.before.before in
     let asked = c.before.before.before.before.before.again.ensures in
-    let own = own-above at-loop.loop.since c.before.before.before.before.before.before.before.before.before.before.before.before.before.before.before.before.before.before.before.before.x.given.0.0 c.before.before.read-claim.result at-loop.loop.kc at-loop.loop.pend c.if5.false in
-    feed-field c.before.before.before.before.before.before.before.before.before.before.before.before.before.before.before.before.before.before.before.before.before.before.before.before.before.before.before.before.before.before.before.loop.invariant (next c.before.before.before.before.before.before.before.before.before.before.before.before.before.before.before.before.before.before.before.before.before.before.before.before.before.before.before.before.before) c.before.before.before.before.before.before.before.before.before.before.before.before.before.before.before.before.before.before.before.before.before.before.kind-from.ensures (own_is c.before.before.before.before.before.before.before.before.before.before.before.before.before.before.before.before.before.before.before.before.before.before.before.before.before) c.before.before.before.before.before.before.before.before.before.before.before.before.before.before.before.before.before.before.before.before.x.given.0.0 c.before.before.before.before.before.before.before.before.before.before.before.before.before.before.before.before.before.before.before.before.x.given.1 closes.0 closes.1 asked.0 (said-is c.before.before) c.before.field_open.ensures own.0 own.1 asked.1 c.before.before.before.before.before.before.before.before.before.before.before.before.before.before.before.enter2.ensures.0 c.before.before.before.before.before.before.before.before.before.before.before.before.before.before.before.enter2.ensures.1.1 c.before.before.before.before.before.before.before.before.before.before.before.before.before.before.before.enter2.auto.1.1.0
+    let own = own_above at-loop.loop.since c.before.before.before.before.before.before.before.before.before.before.before.before.before.before.before.before.before.before.before.before.x.given.0.0 c.before.before.read-claim.result at-loop.loop.kc at-loop.loop.pend c.if5.false in
+    feed_field c.before.before.before.before.before.before.before.before.before.before.before.before.before.before.before.before.before.before.before.before.before.before.before.before.before.before.before.before.before.before.before.loop.invariant (next c.before.before.before.before.before.before.before.before.before.before.before.before.before.before.before.before.before.before.before.before.before.before.before.before.before.before.before.before.before) c.before.before.before.before.before.before.before.before.before.before.before.before.before.before.before.before.before.before.before.before.before.before.kind-from.ensures (own_is c.before.before.before.before.before.before.before.before.before.before.before.before.before.before.before.before.before.before.before.before.before.before.before.before.before) c.before.before.before.before.before.before.before.before.before.before.before.before.before.before.before.before.before.before.before.before.x.given.0.0 c.before.before.before.before.before.before.before.before.before.before.before.before.before.before.before.before.before.before.before.before.x.given.1 closes.0 closes.1 asked.0 (said-is c.before.before) c.before.field_open.ensures own.0 own.1 asked.1 c.before.before.before.before.before.before.before.before.before.before.before.before.before.before.before.enter2.ensures.0 c.before.before.before.before.before.before.before.before.before.before.before.before.before.before.before.enter2.ensures.1.1 c.before.before.before.before.before.before.before.before.before.before.before.before.before.before.before.enter2.auto.1.1.0
 
 sub-plain-open : tie.Need-overflow-sub-plain-open invariant-loop decreases-loop
 sub-plain-open c =
@@ -362,8 +362,8 @@ loop-again-5 c =
     let at-loop = c.before.before.before.before.before.before.before.before.before.before.before.before.before.before.before.before.before.before.before.before.before.before.before.before.before.before.before.before.before in
     let closes = claims-at-field c.before.before.before.before.before in
     let asked = c.before.before.before.again.ensures in
-    let own = own-plain at-loop.loop.since c.before.before.before.before.before.before.before.before.before.before.before.before.before.before.before.before.before.before.x.given.0.0 (reading_of (class_of c.before.before.before.before.before.before.before.before.before.before.before.before.before.before.before.before.before.before.x.given.0.0) (text_of (span c.before.before.before.before.before.before.before.before.before.before.before.before.before.before.before.before.before.before.before.before.before.before.before.before.before.before.before.before.before.loop.at c.before.before.before.before.before.before.before.before.before.before.before.before.before.before.before.before.before.before.before.before.before.before.before.before.before.before.before.line-from.result.end c.before.before.before.before.before.before.before.before.before.before.before.before.before.before.before.before.before.before.before.before.before.before.before.before.before.before.before.before.before.before.before.before.before.before.before.before.before.before.before.before.before.before.before.before.before.before.before.before.args.s.now))) at-loop.loop.kc at-loop.loop.pend (number_is c.before.before.before) c.before.before.if4.false in
-    feed-field c.before.before.before.before.before.before.before.before.before.before.before.before.before.before.before.before.before.before.before.before.before.before.before.before.before.before.before.before.before.loop.invariant (next c.before.before.before.before.before.before.before.before.before.before.before.before.before.before.before.before.before.before.before.before.before.before.before.before.before.before.before) c.before.before.before.before.before.before.before.before.before.before.before.before.before.before.before.before.before.before.before.before.kind-from.ensures (own_is c.before.before.before.before.before.before.before.before.before.before.before.before.before.before.before.before.before.before.before.before.before.before.before) c.before.before.before.before.before.before.before.before.before.before.before.before.before.before.before.before.before.before.x.given.0.0 c.before.before.before.before.before.before.before.before.before.before.before.before.before.before.before.before.before.before.x.given.1 closes.0 closes.1 asked.0 refl (c.plain-open.ensures c.before.before.before.before.before.before.before.before.before.before.before.before.before.before.before.before.before.before.before.before.before.before.before.before.before.before.before.before.before.before.before.before.before.before.before.before.before.before.before.before.before.before.before.before.before.before.before.before.args.basis c.before.before.before.before.before.before.before.before.before.before.before.before.before.before.before.before.before.before.before.before.before.before.before.before.before.before.before.before.before.loop.kc (readAs at-loop.loop.reads at-loop.loop.h) c.before.before.before.before.before.before.before.before.before.before.before.before.before.before.before.before.before.before.x.given.0.0 (number_is c.before.before.before) c.before.before.if4.false) own.0 own.1 asked.1 c.before.before.before.before.before.before.before.before.before.before.before.before.before.enter2.ensures.0 c.before.before.before.before.before.before.before.before.before.before.before.before.before.enter2.ensures.1.1 c.before.before.before.before.before.before.before.before.before.before.before.before.before.enter2.auto.1.1.0
+    let own = own_plain at-loop.loop.since c.before.before.before.before.before.before.before.before.before.before.before.before.before.before.before.before.before.before.x.given.0.0 (reading_of (class_of c.before.before.before.before.before.before.before.before.before.before.before.before.before.before.before.before.before.before.x.given.0.0) (text_of (span c.before.before.before.before.before.before.before.before.before.before.before.before.before.before.before.before.before.before.before.before.before.before.before.before.before.before.before.before.before.loop.at c.before.before.before.before.before.before.before.before.before.before.before.before.before.before.before.before.before.before.before.before.before.before.before.before.before.before.before.line-from.result.end c.before.before.before.before.before.before.before.before.before.before.before.before.before.before.before.before.before.before.before.before.before.before.before.before.before.before.before.before.before.before.before.before.before.before.before.before.before.before.before.before.before.before.before.before.before.before.before.before.args.s.now))) at-loop.loop.kc at-loop.loop.pend (number_is c.before.before.before) c.before.before.if4.false in
+    feed_field c.before.before.before.before.before.before.before.before.before.before.before.before.before.before.before.before.before.before.before.before.before.before.before.before.before.before.before.before.before.loop.invariant (next c.before.before.before.before.before.before.before.before.before.before.before.before.before.before.before.before.before.before.before.before.before.before.before.before.before.before.before) c.before.before.before.before.before.before.before.before.before.before.before.before.before.before.before.before.before.before.before.before.kind-from.ensures (own_is c.before.before.before.before.before.before.before.before.before.before.before.before.before.before.before.before.before.before.before.before.before.before.before) c.before.before.before.before.before.before.before.before.before.before.before.before.before.before.before.before.before.before.x.given.0.0 c.before.before.before.before.before.before.before.before.before.before.before.before.before.before.before.before.before.before.x.given.1 closes.0 closes.1 asked.0 refl (c.plain-open.ensures c.before.before.before.before.before.before.before.before.before.before.before.before.before.before.before.before.before.before.before.before.before.before.before.before.before.before.before.before.before.before.before.before.before.before.before.before.before.before.before.before.before.before.before.before.before.before.before.before.args.basis c.before.before.before.before.before.before.before.before.before.before.before.before.before.before.before.before.before.before.before.before.before.before.before.before.before.before.before.before.before.loop.kc (read_as at-loop.loop.reads at-loop.loop.h) c.before.before.before.before.before.before.before.before.before.before.before.before.before.before.before.before.before.before.x.given.0.0 (number_is c.before.before.before) c.before.before.if4.false) own.0 own.1 asked.1 c.before.before.before.before.before.before.before.before.before.before.before.before.before.enter2.ensures.0 c.before.before.before.before.before.before.before.before.before.before.before.before.before.enter2.ensures.1.1 c.before.before.before.before.before.before.before.before.before.before.before.before.before.enter2.auto.1.1.0
 
 enum-told-3 : tie.Need-enum-told-3 invariant-loop decreases-loop
 enum-told-3 c = search rules
@@ -374,7 +374,7 @@ low-marks-requires-2 c κs = search rules
 enter-requires-3 : tie.Need-enter-requires-3 invariant-loop decreases-loop
 enter-requires-3 c κs =
     let B = c.before.before.before.before.before.before.before.before.before.before.before.before.before.before.before.loop.invariant.bounded in
-    let room = bounded-room (within c.before.before.before.before.before.before.before.before.before.before.before.before.before) B in
+    let room = bounded_room (within c.before.before.before.before.before.before.before.before.before.before.before.before.before) B in
     (B.ready, (B.level, omega (arith, room)))
 
 loop-less-6 : tie.Need-loop-smaller-6 invariant-loop decreases-loop
@@ -384,7 +384,7 @@ loop-less-6 c =
 
 loop-again-6 : tie.Need-loop-preserved-6 invariant-loop decreases-loop
 loop-again-6 c =
-    feed-other c.before.before.before.before.before.before.before.before.before.before.before.before.before.before.before.before.before.before.before.before.before.before.loop.invariant (next c.before.before.before.before.before.before.before.before.before.before.before.before.before.before.before.before.before.before.before.before) c.before.before.before.before.before.before.before.before.before.before.before.before.before.kind-from.ensures (own_is c.before.before.before.before.before.before.before.before.before.before.before.before.before.before.before.before) c.before.before.before.before.before.before.before.before.before.before.before.enum-told3.given.1 c.before.before.before.before.before.before.before.low-marks2.ensures c.before.before.before.before.before.before.enter3.ensures.0 c.before.before.before.before.before.before.enter3.ensures.1.1 c.before.before.before.before.before.before.enter3.auto.1.1.0
+    feed_other c.before.before.before.before.before.before.before.before.before.before.before.before.before.before.before.before.before.before.before.before.before.before.loop.invariant (next c.before.before.before.before.before.before.before.before.before.before.before.before.before.before.before.before.before.before.before.before) c.before.before.before.before.before.before.before.before.before.before.before.before.before.kind-from.ensures (own_is c.before.before.before.before.before.before.before.before.before.before.before.before.before.before.before.before) c.before.before.before.before.before.before.before.before.before.before.before.enum-told3.given.1 c.before.before.before.before.before.before.before.low-marks2.ensures c.before.before.before.before.before.before.enter3.ensures.0 c.before.before.before.before.before.before.enter3.ensures.1.1 c.before.before.before.before.before.before.enter3.auto.1.1.0
 
 block-of-requires : tie.Need-block-of-requires invariant-loop decreases-loop
 block-of-requires c κs = search rules
@@ -395,18 +395,18 @@ same_length c =
 
 same-length-2 : tie.Need-same-length-2 invariant-loop decreases-loop
 same-length-2 c =
-    c.before.before.loop.invariant.rules-long
+    c.before.before.loop.invariant.rules_long
 
 same-length-3 : tie.Need-same-length-3 invariant-loop decreases-loop
 same-length-3 c =
-    c.before.before.loop.invariant.places-long
+    c.before.before.loop.invariant.places_long
 
 returns : tie.Need-returns invariant-loop decreases-loop
 returns c =
     let here = c.before.before.loop in
     let start = c.before.before.before.before.before.before.before.before.before.before.before.before.before.before.before.before.before.before.before.before.before.args in
-    feed-close start.s.now start.base start.basis start.p (record { ledger = here.g; field = here.«open»; pend = here.pend; since = here.since; top = here.top; reads = here.reads; heading = here.h; kc = here.kc; span = here.span; stated = here.stated; block = block_of here.course here.counts here.sums; wait = here.wait; starts = here.starts; n = here.n })
-    c.before.before.before.before.before.before.before.course-of.ensures c.Block-of.ensures (feed-end here.invariant (omega (arith, c.before.loop-test)))
+    feed_close start.s.now start.base start.basis start.p (record { ledger = here.g; field = here.«open»; pend = here.pend; since = here.since; top = here.top; reads = here.reads; heading = here.h; kc = here.kc; span = here.span; stated = here.stated; block = block_of here.course here.counts here.sums; wait = here.wait; starts = here.starts; n = here.n })
+    c.before.before.before.before.before.before.before.course-of.ensures c.Block-of.ensures (feed_end here.invariant (omega (arith, c.before.loop-test)))
 
 pub feed-spec : {M : Type 1} → statement M
 feed-spec =

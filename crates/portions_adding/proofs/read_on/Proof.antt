@@ -1,20 +1,20 @@
 use native.Mathlib.Omega.{arith}
 use mathlib.Core.Path.{sym}
 use lib.Seq.{length-take-le}
-use Rattle.file_body.proofs.Body.{body-le}
-use Rattle.portions.proofs.Bounds.{open-so}
+use Rattle.file_body.proofs.Body.{body_le}
+use Rattle.portions.proofs.Bounds.{open_so}
 use Rattle.portions_adding.proofs.Growing.{read_more}
 use borrow.Author.Rules.{rules}
 use Rattle.portions_adding.proofs.read_on.Statement.{statement}
 use Rattle.portions_adding.proofs.read_on.Tie as tie
 
 slice-aggregate-go-on : tie.Need-slice-aggregate-go-on
-slice-aggregate-go-on c = sym (length-take-le c.before.before.before.body-len.result c.before.before.before.before.before.before.before.before.args.s.now (omega (arith, c.before.before.before.body-len.ensures, body-le c.before.before.before.before.before.before.before.before.args.s.now)))
+slice-aggregate-go-on c = sym (length-take-le c.before.before.before.body-len.result c.before.before.before.before.before.before.before.before.args.s.now (omega (arith, c.before.before.before.body-len.ensures, body_le c.before.before.before.before.before.before.before.before.args.s.now)))
 
 go-on-requires : tie.Need-go-on-requires
 go-on-requires c κs =
-    let U = open-so _ _ _ _ c.before.before.before.before.before.before.before.before.before.before.before.before.requires.0 in
-    (omega (arith, U.came, c.before.before.before.before.before.before.before.before.before.before.before.before.requires.1.1.0, c.before.before.before.before.before.before.before.before.before.before.before.before.requires.1.1.1, c.before.before.before.before.before.before.before.body-len.ensures, body-le c.before.before.before.before.before.before.before.before.before.before.before.before.args.s.now, length-take-le c.before.before.before.before.before.before.before.body-len.result c.before.before.before.before.before.before.before.before.before.before.before.before.args.s.now (omega (arith, c.before.before.before.before.before.before.before.body-len.ensures, body-le c.before.before.before.before.before.before.before.before.before.before.before.before.args.s.now))), U.sound)
+    let U = open_so _ _ _ _ c.before.before.before.before.before.before.before.before.before.before.before.before.requires.0 in
+    (omega (arith, U.came, c.before.before.before.before.before.before.before.before.before.before.before.before.requires.1.1.0, c.before.before.before.before.before.before.before.before.before.before.before.before.requires.1.1.1, c.before.before.before.before.before.before.before.body-len.ensures, body_le c.before.before.before.before.before.before.before.before.before.before.before.before.args.s.now, length-take-le c.before.before.before.before.before.before.before.body-len.result c.before.before.before.before.before.before.before.before.before.before.before.before.args.s.now (omega (arith, c.before.before.before.before.before.before.before.body-len.ensures, body_le c.before.before.before.before.before.before.before.before.before.before.before.before.args.s.now))), U.sound)
 
 returns : tie.Need-returns
 returns c =

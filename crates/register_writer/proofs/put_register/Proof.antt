@@ -3,7 +3,7 @@ use native.Mathlib.Omega.{arith}
 use mathlib.Core.Path.{◌≡◌, refl, ◌∙◌}
 use lib.ListN.{length}
 use Rattle.text.proofs.Wrote.{same_length as as_long}
-use Rattle.register_writer.proofs.Putting.{So, put-start, put-more, put-end}
+use Rattle.register_writer.proofs.Putting.{So, put_start, put_more, put_end}
 use borrow.Author.Rules.{rules}
 use Rattle.register_writer.proofs.put_register.Statement.{statement}
 use Rattle.register_writer.proofs.put_register.Tie as tie
@@ -21,7 +21,7 @@ room l =
     omega (arith, h.1, as_long h.0, l.before.before.before.before.before.before.before.before.requires.1)
 
 loop-holds : tie.Need-loop-init invariant-loop decreases-loop
-loop-holds c = (put-start _ _ c.before.before.before.before.before.before.before.args.starts.now c.before.before.before.before.before.before.before.args.ends.now (omega (arith, c.before.before.put-head.ensures.1, as_long c.before.before.put-head.ensures.0, c.before.before.before.before.before.before.before.requires.1)), omega arith, omega arith, refl)
+loop-holds c = (put_start _ _ c.before.before.before.before.before.before.before.args.starts.now c.before.before.before.before.before.before.before.args.ends.now (omega (arith, c.before.before.put-head.ensures.1, as_long c.before.before.put-head.ensures.0, c.before.before.before.before.before.before.before.requires.1)), omega arith, omega arith, refl)
 
 shared-slice-read-b : tie.Need-shared-slice-read-b invariant-loop decreases-loop
 shared-slice-read-b c = omega (arith, c.before.before.loop-test.true, c.before.before.before.before.before.before.before.before.before.before.before.requires.0)
@@ -33,7 +33,7 @@ loop-again : tie.Need-loop-preserved invariant-loop decreases-loop
 loop-again c =
     let l = c.before.before.before.before.before.before.before in
     let w = c.before.before.put-range.ensures.0 in (
-      put-more _ _ l.loop.i c.before.before.before.before.before.before.loop-test.true c.before.before.before.before.before.before.before.before.before.before.before.before.before.before.before.requires.0 l.loop.invariant.0 w,
+      put_more _ _ l.loop.i c.before.before.before.before.before.before.loop-test.true c.before.before.before.before.before.before.before.before.before.before.before.before.before.before.before.requires.0 l.loop.invariant.0 w,
       omega (arith, c.before.before.put-range.ensures.1, l.loop.invariant.1),
       omega (arith, c.before.before.before.before.before.before.loop-test.true),
       as_long w ∙ l.loop.invariant.3,
@@ -43,7 +43,7 @@ same_length : tie.Need-same-length invariant-loop decreases-loop
 same_length c = c.before.loop.invariant.3 ∙ as_long c.before.before.before.before.put-head.ensures.0
 
 returns : tie.Need-returns invariant-loop decreases-loop
-returns c = put-end _ _ c.before.before.before.before.before.before.before.before.before.args.starts.now c.before.before.before.before.before.before.before.before.before.args.ends.now c.before.loop.i c.loop-test.false c.before.before.before.before.before.before.before.before.before.requires.0 c.before.before.before.before.put-head.ensures.0 c.before.loop.invariant.0
+returns c = put_end _ _ c.before.before.before.before.before.before.before.before.before.args.starts.now c.before.before.before.before.before.before.before.before.before.args.ends.now c.before.loop.i c.loop-test.false c.before.before.before.before.before.before.before.before.before.requires.0 c.before.before.before.before.put-head.ensures.0 c.before.loop.invariant.0
 
 pub put-register-spec : {M : Type 1} → statement M
 put-register-spec =

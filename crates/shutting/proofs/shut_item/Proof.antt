@@ -1,9 +1,9 @@
 use mathlib.Core.Path.{sym, ap, ◌∙◌}
 use native.Mathlib.Omega.{arith}
 use Rattle.ledger.specs.Marks.{marked}
-use Rattle.ledger.proofs.Entering.{entered-both}
+use Rattle.ledger.proofs.Entering.{entered_both}
 use Rattle.closing.specs.declared.Shut.{Shut}
-use Rattle.shutting.proofs.Waiting.{entered-list, waits-at}
+use Rattle.shutting.proofs.Waiting.{entered_list, waits_at}
 use Rattle.shutting.proofs.shut_item.Statement.{statement}
 use borrow.Author.Rules.{rules}
 use Rattle.shutting.proofs.shut_item.Tie as tie
@@ -38,13 +38,13 @@ returns : tie.Need-returns
 returns c =
     let a = c.before.before.before.before.before.before.before.before.before.before.before.before.before.before.before.before.before.before.before.before.before.before.before.before.before.before.before.args in
     let e = c.before.before.before.before.before.before.before.before.before.before.before.before.before.before.before.before.before.before.before.before.before.before.before.close-item.ensures.0 in (
-      entered-both c.before.before.before.before.before.before.before.before.before.before.before.before.before.before.before.before.before.before.before.before.before.before.before.before.before.before.before.requires.0 (entered-list (ap (λ (x : Shut). marked a.w.line x.told) e) c.before.before.before.before.before.before.before.before.before.before.before.before.before.before.before.before.enter.ensures.0)
-          (entered-list (ap (λ (x : Shut). marked a.no x.marks) e) c.before.before.before.before.before.before.enter2.ensures.0),
+      entered_both c.before.before.before.before.before.before.before.before.before.before.before.before.before.before.before.before.before.before.before.before.before.before.before.before.before.before.before.requires.0 (entered_list (ap (λ (x : Shut). marked a.w.line x.told) e) c.before.before.before.before.before.before.before.before.before.before.before.before.before.before.before.before.enter.ensures.0)
+          (entered_list (ap (λ (x : Shut). marked a.no x.marks) e) c.before.before.before.before.before.before.enter2.ensures.0),
       (
         (ap (λ (x : Shut). x.course) e, ap (λ (x : Shut). x.wait) e, c.before.before.before.before.before.before.before.before.before.before.before.before.before.before.before.before.before.before.before.before.before.before.before.close-item.ensures.1),
         (
-          λ off ps₀ S B. c.before.before.before.before.before.before.enter2.ensures.1.1 off ps₀ S.at_head (c.before.before.before.before.before.before.before.before.before.before.before.before.before.before.before.before.enter.ensures.1.1 off ps₀ S.at-wait B),
-          waits-at a.basis a.c a.w a.no a.own a.read a.kc a.span a.groups a.starts (ap (λ (x : Shut). x.wait) e) c.before.before.before.before.before.before.before.before.before.before.before.before.before.before.before.before.before.before.before.before.start_of_lem.ensures,
+          λ off ps₀ S B. c.before.before.before.before.before.before.enter2.ensures.1.1 off ps₀ S.at_head (c.before.before.before.before.before.before.before.before.before.before.before.before.before.before.before.before.enter.ensures.1.1 off ps₀ S.at_wait B),
+          waits_at a.basis a.c a.w a.no a.own a.read a.kc a.span a.groups a.starts (ap (λ (x : Shut). x.wait) e) c.before.before.before.before.before.before.before.before.before.before.before.before.before.before.before.before.before.before.before.before.start_of_lem.ensures,
         ),
       ),
     )

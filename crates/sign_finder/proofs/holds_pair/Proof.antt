@@ -5,7 +5,7 @@ use mathlib.Core.Bool.{false, true≢false}
 use mathlib.Core.Logic.{⊎_elim}
 use lib.ListN.{length}
 use Rattle.sign_finder.specs.Signs.{Apart}
-use Rattle.sign_finder.proofs.Signs.{apart-start, apart_more, apart-end}
+use Rattle.sign_finder.proofs.Signs.{apart_start, apart_more, apart_end}
 use borrow.Author.Rules.{rules}
 use Rattle.sign_finder.proofs.holds_pair.Statement.{statement}
 use Rattle.sign_finder.proofs.holds_pair.Tie as tie
@@ -17,7 +17,7 @@ abbrev decreases-loop : tie.decreases-loop
 decreases-loop s a b found₀ i₀ found i = length s - i
 
 loop-holds : tie.Need-loop-init invariant-loop decreases-loop
-loop-holds c = (λ e. apart-start c.args.s.now c.args.a c.args.b, omega arith)
+loop-holds c = (λ e. apart_start c.args.s.now c.args.a c.args.b, omega arith)
 
 sub-if1 : tie.Need-overflow-sub-if1 invariant-loop decreases-loop
 sub-if1 c = omega (arith, c.before.loop.invariant.1)
@@ -35,7 +35,7 @@ loop-again c =
 returns : tie.Need-returns invariant-loop decreases-loop
 returns c =
     let l = c.before in
-    λ e. apart-end l.before.args.s.now l.before.args.a l.before.args.b l.loop.i c.loop-test.false (c.before.loop.invariant.0 e)
+    λ e. apart_end l.before.args.s.now l.before.args.a l.before.args.b l.loop.i c.loop-test.false (c.before.loop.invariant.0 e)
 
 pub holds-pair-spec : {M : Type 1} → statement M
 holds-pair-spec =

@@ -1,7 +1,7 @@
 use Prim.Native.Nat.{◌-◌, ◌≤◌}
 use native.Mathlib.Omega.{arith}
 use mathlib.Core.Path.{sym, ◌∙◌}
-use Rattle.sign_finder.proofs.Signs.{Quietly, quiet-start, quiet-more, quiet-there, quiet-last}
+use Rattle.sign_finder.proofs.Signs.{Quietly, quiet_start, quiet_more, quiet_there, quiet_last}
 use borrow.Author.Rules.{rules}
 use Rattle.sign_finder.proofs.near.Statement.{statement}
 use Rattle.sign_finder.proofs.near.Tie as tie
@@ -13,21 +13,21 @@ abbrev decreases-loop : tie.decreases-loop
 decreases-loop s at stop a b i₀ i = stop - i
 
 loop-holds : tie.Need-loop-init invariant-loop decreases-loop
-loop-holds c = (quiet-start _ _ _ _ _ c.before.requires.0 c.before.requires.1, c.before.requires.0)
+loop-holds c = (quiet_start _ _ _ _ _ c.before.requires.0 c.before.requires.1, c.before.requires.0)
 
 stands-requires : tie.Need-stands-requires invariant-loop decreases-loop
 stands-requires c κs = omega (arith, c.loop-test.true, c.before.before.before.requires.1)
 
 returns : tie.Need-returns invariant-loop decreases-loop
-returns c = quiet-there _ _ _ c.before.before.before.loop.invariant.0 c.before.before.loop-test.true (sym c.before.stands.ensures ∙ c.if1.true)
+returns c = quiet_there _ _ _ c.before.before.before.loop.invariant.0 c.before.before.loop-test.true (sym c.before.stands.ensures ∙ c.if1.true)
 
 loop-again : tie.Need-loop-preserved invariant-loop decreases-loop
 loop-again c =
     let l = c.before.before.before in
-    (quiet-more _ _ _ l.loop.invariant.0 (omega (arith, c.before.before.loop-test.true, l.before.before.requires.1)) c.before.stands.ensures c.if1.false, omega (arith, c.before.before.loop-test.true))
+    (quiet_more _ _ _ l.loop.invariant.0 (omega (arith, c.before.before.loop-test.true, l.before.before.requires.1)) c.before.stands.ensures c.if1.false, omega (arith, c.before.before.loop-test.true))
 
 returns-2 : tie.Need-returns-2 invariant-loop decreases-loop
-returns-2 c = quiet-last _ _ _ c.before.loop.invariant.0 c.before.loop.invariant.1 c.loop-test.false
+returns-2 c = quiet_last _ _ _ c.before.loop.invariant.0 c.before.loop.invariant.1 c.loop-test.false
 
 pub near-spec : {M : Type 1} → statement M
 near-spec =

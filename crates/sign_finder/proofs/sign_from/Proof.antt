@@ -2,7 +2,7 @@ use Prim.Native.Nat.{◌-◌}
 use native.Mathlib.Omega.{arith}
 use mathlib.Core.Logic.{⊎_elim}
 use lib.ListN.{length}
-use Rattle.sign_finder.proofs.Signs.{Quietly, quiet-start, quiet-to, near_on, near-there, quiet-end}
+use Rattle.sign_finder.proofs.Signs.{Quietly, quiet_start, quiet_to, near_on, near_there, quiet_end}
 use borrow.Author.Rules.{rules}
 use Rattle.sign_finder.proofs.sign_from.Statement.{statement}
 use Rattle.sign_finder.proofs.sign_from.Tie as tie
@@ -14,7 +14,7 @@ abbrev decreases-loop : tie.decreases-loop
 decreases-loop s at stop a b i₀ i = length s - i
 
 loop-holds : tie.Need-loop-init invariant-loop decreases-loop
-loop-holds c = quiet-start _ _ _ _ _ c.before.requires.0 c.before.requires.1
+loop-holds c = quiet_start _ _ _ _ _ c.before.requires.0 c.before.requires.1
 
 add-i : tie.Need-overflow-add-i invariant-loop decreases-loop
 add-i c = record { fits = omega (arith, (c.before.is-quiet.ensures c.if1.true).0, c.before.before.before.before.before.well-formed.0.0) }
@@ -25,7 +25,7 @@ loop-less c = omega (arith, (c.before.is-quiet.ensures c.if1.true).0)
 loop-again : tie.Need-loop-preserved invariant-loop decreases-loop
 loop-again c =
     let q = c.before.is-quiet.ensures c.if1.true in
-    quiet-to _ _ _ c.before.before.before.loop.invariant _ (omega arith) (omega (arith, q.0)) q.1
+    quiet_to _ _ _ c.before.before.before.loop.invariant _ (omega arith) (omega (arith, q.0)) q.1
 
 add-least : tie.Need-overflow-add-least invariant-loop decreases-loop
 add-least c = record { fits = omega (arith, c.before.before.loop-test.true, c.before.before.before.before.before.requires.1, c.before.before.before.before.before.well-formed.0.0) }
@@ -39,7 +39,7 @@ near-requires c κs =
 returns : tie.Need-returns invariant-loop decreases-loop
 returns c =
     let l = c.before.before.before.before.before.before in
-    near-there _ _ _ l.loop.invariant c.before.near.ensures c.before.before.least.ensures.1 l.before.before.requires.1 c.if2.true
+    near_there _ _ _ l.loop.invariant c.before.near.ensures c.before.before.least.ensures.1 l.before.before.requires.1 c.if2.true
 
 loop-less-2 : tie.Need-loop-smaller-2 invariant-loop decreases-loop
 loop-less-2 c =
@@ -57,7 +57,7 @@ loop-again-2 c =
     near_on _ _ _ l.loop.invariant c.before.near.ensures c.before.before.least.ensures.1 l.before.before.requires.1
 
 returns-2 : tie.Need-returns-2 invariant-loop decreases-loop
-returns-2 c = quiet-end _ _ _ c.before.loop.invariant c.before.before.before.requires.0 c.loop-test.false
+returns-2 c = quiet_end _ _ _ c.before.loop.invariant c.before.before.before.requires.0 c.loop-test.false
 
 pub sign-from-spec : {M : Type 1} → statement M
 sign-from-spec =

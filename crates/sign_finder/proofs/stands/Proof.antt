@@ -3,7 +3,7 @@ use mathlib.Core.List.{List}
 use Prim.Native.Nat.{ℕ}
 use Rattle.text.specs.Strings.{begins}
 use Rattle.sign_finder.specs.Signs.{sign}
-use Rattle.sign_finder.proofs.Signs.{no-cr, rest_all}
+use Rattle.sign_finder.proofs.Signs.{no_cr, rest_all}
 use borrow.Author.Rules.{rules}
 use Rattle.sign_finder.proofs.stands.Statement.{statement}
 use Rattle.sign_finder.proofs.stands.Tie as tie
@@ -11,7 +11,7 @@ use Rattle.sign_finder.proofs.stands.Tie as tie
 returns : tie.Need-returns
 returns c =
     let x = c.before.before.before.args in
-    sym (no-cr x.s.now x.a x.b x.i c.if1.true)
+    sym (no_cr x.s.now x.a x.b x.i c.if1.true)
 
 returns-2 : tie.Need-returns-2
 returns-2 c =

@@ -1,10 +1,10 @@
-use Rattle.stored.specs.Stored.{stateIn}
+use Rattle.stored.specs.Stored.{state_in}
 use borrow.Author.Rules.{rules}
 use Rattle.stored.proofs.state_in.Statement.{statement}
 use Rattle.stored.proofs.state_in.Tie as tie
 
 returns : tie.Need-returns
-unfolding stateIn
+unfolding state_in
 returns c = rw c.before.before.before.before.before.before.before.before.before.pass_of.ensures
 
 pub state-in-spec : {M : Type 1} → statement M

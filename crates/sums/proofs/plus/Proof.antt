@@ -1,12 +1,12 @@
-use Rattle.sums.proofs.Sizes.{far-above, far-below, sum_fits, over, under, within}
+use Rattle.sums.proofs.Sizes.{far_above, far_below, sum_fits, over, under, within}
 use Rattle.sums.proofs.plus.Statement.{statement}
 use Rattle.sums.proofs.plus.Tie as tie
 
 returns : tie.Need-returns
-returns c = far-above _ _ c.before.ranges.t c.before.ranges.x c.before.requires c.if1.true
+returns c = far_above _ _ c.before.ranges.t c.before.ranges.x c.before.requires c.if1.true
 
 returns-2 : tie.Need-returns-2
-returns-2 c = far-below _ _ c.before.before.ranges.t c.before.before.ranges.x c.before.before.requires c.if2.true
+returns-2 c = far_below _ _ c.before.before.ranges.t c.before.before.ranges.x c.before.before.requires c.if2.true
 
 add-v : tie.Need-overflow-add-v
 add-v c = sum_fits _ _ c.before.before.ranges.t c.before.before.ranges.x c.before.before.requires c.before.if1.false c.if2.false

@@ -5,18 +5,18 @@ use lib.IntN.{pos, ◌-ℤ◌}
 use mir.Syntax.{w64}
 use mir.ValLaws.{to_z-of_z}
 use borrow.Author.Rules.{rules}
-use Rattle.sums.proofs.Sizes.{small_pos, sfits-size, minus-size, minus_is}
+use Rattle.sums.proofs.Sizes.{small_pos, sfits_size, minus_size, minus_is}
 use Rattle.sums.proofs.with_sign.Statement.{statement}
 use Rattle.sums.proofs.with_sign.Tie as tie
 
 sub-result : tie.Need-overflow-sub-result
-sub-result c = rw (small_pos c.before.args.amount (omega (arith, c.before.requires))) (sfits-size _ (minus-size c.before.args.amount (omega (arith, c.before.requires))))
+sub-result c = rw (small_pos c.before.args.amount (omega (arith, c.before.requires))) (sfits_size _ (minus_size c.before.args.amount (omega (arith, c.before.requires))))
 
 returns : tie.Need-returns
 returns c =
     let n = c.before.args.amount in
     let small : n < 2 ^ 63 = omega (arith, c.before.requires) in
-    rw (small_pos n small, c.if1.true) (to_z-of_z w64 (pos 0 -ℤ pos n) (sfits-size _ (minus-size n small)) ∙ minus_is n)
+    rw (small_pos n small, c.if1.true) (to_z-of_z w64 (pos 0 -ℤ pos n) (sfits_size _ (minus_size n small)) ∙ minus_is n)
 
 returns-2 : tie.Need-returns-2
 returns-2 c = rw (small_pos c.before.args.amount (omega (arith, c.before.requires)), c.if1.false)

@@ -1,7 +1,7 @@
 use Prim.Native.Nat.{◌-◌}
 use native.Mathlib.Omega.{arith}
 use lib.ListN.{length}
-use Rattle.surveying.proofs.Counting.{Count, count-start, count-on, count-full, count-end}
+use Rattle.surveying.proofs.Counting.{Count, count_start, count_on, count_full, count_end}
 use borrow.Author.Rules.{rules}
 use Rattle.surveying.proofs.count_items.Statement.{statement}
 use Rattle.surveying.proofs.count_items.Tie as tie
@@ -14,10 +14,10 @@ abbrev decreases-loop : tie.decreases-loop
 decreases-loop s n₀ at₀ n at = length s - at
 
 loop-holds : tie.Need-loop-init invariant-loop decreases-loop
-loop-holds c = count-start c.heading-from.ensures
+loop-holds c = count_start c.heading-from.ensures
 
 returns : tie.Need-returns invariant-loop decreases-loop
-returns c = count-full c.before.before.loop.invariant c.if1.true
+returns c = count_full c.before.before.loop.invariant c.if1.true
 
 slip-at-requires : tie.Need-slip-at-requires invariant-loop decreases-loop
 slip-at-requires c κs = (c.before.loop-test.true, c.before.before.loop.invariant.headed c.before.loop-test.true)
@@ -26,10 +26,10 @@ loop-less : tie.Need-loop-smaller invariant-loop decreases-loop
 loop-less c = omega (arith, c.slip-at.ensures.moves, c.slip-at.ensures.within)
 
 loop-again : tie.Need-loop-preserved invariant-loop decreases-loop
-loop-again c = count-on c.before.before.before.loop.invariant (omega (arith, c.before.if1.false)) c.slip-at.ensures
+loop-again c = count_on c.before.before.before.loop.invariant (omega (arith, c.before.if1.false)) c.slip-at.ensures
 
 returns-2 : tie.Need-returns-2 invariant-loop decreases-loop
-returns-2 c = count-end c.before.loop.invariant c.loop-test.false
+returns-2 c = count_end c.before.loop.invariant c.loop-test.false
 
 pub count-items-spec : {M : Type 1} → statement M
 count-items-spec =

@@ -2,27 +2,27 @@ use native.Mathlib.Omega.{arith}
 use mathlib.Core.Path.{◌≡◌, sym, ap, subst, ◌∙◌}
 use Rattle.lines.specs.Reading.{line_at, span, IsNext}
 use Rattle.lines.specs.declared.Found.{Found}
-use Rattle.lines.proofs.Reading.{is-next}
-use Rattle.headings.specs.Reading.{headingOf}
+use Rattle.lines.proofs.Reading.{is_next}
+use Rattle.headings.specs.Reading.{heading_of}
 use Rattle.surveying.specs.declared.Lead.{Lead}
 use Rattle.surveying.specs.Items.{items_of}
 use Rattle.surveying.specs.Model.{Leads}
-use Rattle.surveying.proofs.Leading.{lead-unread, lead-refused, lead-goes}
+use Rattle.surveying.proofs.Leading.{lead_unread, lead_refused, lead_goes}
 use borrow.Author.Rules.{rules}
 use Rattle.surveying.proofs.lead_of.Statement.{statement}
 use Rattle.surveying.proofs.lead_of.Tie as tie
 use Rattle.surveying.proofs.lead_of.Reads as reads
 
 next : (c : tie.After-line-near) → IsNext c.before.before.args.s.now 0 c.line-near.result
-next c = is-next _ _ _ c.line-near.ensures c.before.before.requires.1
+next c = is_next _ _ _ c.line-near.ensures c.before.before.requires.1
 
 -- from the place after reading: the function's start, and the text that was read
 abbrev start : tie.After-read → tie.Start
 start m = m.before.before.before.before
 
-read_told : (m : tie.After-read) → headingOf (span 0 (line_at (start m).args.s.now 0).end (start m).args.s.now) ≡ m.read.result
+read_told : (m : tie.After-read) → heading_of (span 0 (line_at (start m).args.s.now 0).end (start m).args.s.now) ≡ m.read.result
 read_told m =
-    sym (m.read.ensures.1 ∙ ap (λ (f : Found). headingOf (span 0 f.end (start m).args.s.now)) m.before.before.line-near.ensures)
+    sym (m.read.ensures.1 ∙ ap (λ (f : Found). heading_of (span 0 f.end (start m).args.s.now)) m.before.before.line-near.ensures)
 
 sub_read : tie.Need-overflow-sub-read
 sub_read c =
@@ -40,7 +40,7 @@ returns : tie.Need-returns
 returns c =
     let m = c.before.before.before in
     let s = start m in
-    λ q A. lead-unread s.args.s.now s.pre.1 s.pre.0 q A _ (read_told m ∙ c.before.enum_told.given.1)
+    λ q A. lead_unread s.args.s.now s.pre.1 s.pre.0 q A _ (read_told m ∙ c.before.enum_told.given.1)
 
 returns-2 : tie.Need-returns-2
 returns-2 c =
@@ -48,7 +48,7 @@ returns-2 c =
     let h = w.before.before in
     let m = h.before.before in
     let s = start m in
-    λ q A. lead-refused s.args.s.now s.pre.1 s.pre.0 q A h.h.given.0.0 (read_told m ∙ h.h.given.1) _ (sym w.Way-of.ensures ∙ c.before.enum-told2.given.1)
+    λ q A. lead_refused s.args.s.now s.pre.1 s.pre.0 q A h.h.given.0.0 (read_told m ∙ h.h.given.1) _ (sym w.Way-of.ensures ∙ c.before.enum-told2.given.1)
 
 returns-3 : tie.Need-returns-3
 returns-3 c =
@@ -60,7 +60,7 @@ returns-3 c =
     λ q A.
     subst (λ (l : Lead). Leads q (items_of s.args.s.now) l)
     (λ i. record { to = g.kind.given.0.1.0; priority = sym c.before.is-priority.ensures i; alone = sym c.is-alone.ensures i })
-    (lead-goes s.args.s.now s.pre.1 s.pre.0 q A h.h.given.0.0 (read_told m ∙ h.h.given.1) (sym w.Way-of.ensures ∙ g.kind.given.1))
+    (lead_goes s.args.s.now s.pre.1 s.pre.0 q A h.h.given.0.0 (read_told m ∙ h.h.given.1) (sym w.Way-of.ensures ∙ g.kind.given.1))
 
 pub lead-of-spec : {M : Type 1} → statement M
 lead-of-spec =

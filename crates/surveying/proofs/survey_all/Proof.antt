@@ -8,7 +8,7 @@ use Rattle.vetting.specs.Vetting.{Stamped}
 use Rattle.outgoing_lines.specs.Outgoing.{Orders}
 use Rattle.surveying.specs.declared.Step.{Step}
 use Rattle.surveying.specs.Model.{Steps}
-use Rattle.surveying.proofs.Walks.{Walk, walk_start, some_left, walk-stops, walk-on, walk_end}
+use Rattle.surveying.proofs.Walks.{Walk, walk_start, some_left, walk_stops, walk_on, walk_end}
 use borrow.Author.Rules.{rules}
 use Rattle.surveying.proofs.survey_all.Statement.{statement}
 use Rattle.surveying.proofs.survey_all.Tie as tie
@@ -42,17 +42,17 @@ few m =
 
 -- the groups after it
 abbrev counted : tie.After-one-item invariant-loop decreases-loop → List ℕ
-counted o = o.one-item.new.1.1.1.1.1.1.1.1.1.1.0
+counted o = o.one_item.new.1.1.1.1.1.1.1.1.1.1.0
 
 abbrev summed : tie.After-one-item invariant-loop decreases-loop → List ℕ
-summed o = o.one-item.new.1.1.1.1.1.1.1.1.1.1.1.0
+summed o = o.one_item.new.1.1.1.1.1.1.1.1.1.1.1.0
 
 -- what was found of the item
-told : (o : tie.After-one-item invariant-loop decreases-loop) (x : Step) → o.one-item.result ≡ x
+told : (o : tie.After-one-item invariant-loop decreases-loop) (x : Step) → o.one_item.result ≡ x
     → Steps (orders (head o)) (terms (head o)) (start (head o)).args.lead (start (head o)).args.s.now (head o).loop.at (head o).loop.k (head o).loop.counts (head o).loop.sums x (counted o) (summed o)
 told o x e =
     subst (λ (y : Step). Steps (orders (head o)) (terms (head o)) (start (head o)).args.lead (start (head o)).args.s.now (head o).loop.at (head o).loop.k (head o).loop.counts (head o).loop.sums y (counted o) (summed o)) e
-    (o.one-item.ensures.1 (orders (head o)) (terms (head o)) (head o).before.before.basis-of.ensures
+    (o.one_item.ensures.1 (orders (head o)) (terms (head o)) (head o).before.before.basis-of.ensures
     (record { outcome = sym o.before.before.before.before.before.before.at-or-zero.ensures; standing = sym o.before.before.before.before.before.at-or-zero2.ensures; number = refl }))
 
 loop-holds : tie.Need-loop-init invariant-loop decreases-loop
@@ -73,7 +73,7 @@ one-item-requires c κs =
 returns : tie.Need-returns invariant-loop decreases-loop
 returns c =
     let o = c.before.before in
-    walk-stops _ _ _ _ (head o).loop.invariant.0 (told o _ c.enum_told.given.1)
+    walk_stops _ _ _ _ (head o).loop.invariant.0 (told o _ c.enum_told.given.1)
 
 add-k : tie.Need-overflow-add-k invariant-loop decreases-loop
 add-k c =
@@ -87,7 +87,7 @@ loop-again : tie.Need-loop-preserved invariant-loop decreases-loop
 loop-again c =
     let o = c.before.before.before in
     let g = told o _ c.before.next.given.1 in
-    (walk-on _ _ _ _ (head o).loop.invariant.0 g.0 g.2 g.3, (o.one-item.ensures.0.0, λ i l. omega (arith, o.one-item.ensures.0.1 i l)))
+    (walk_on _ _ _ _ (head o).loop.invariant.0 g.0 g.2 g.3, (o.one_item.ensures.0.0, λ i l. omega (arith, o.one_item.ensures.0.1 i l)))
 
 returns-2 : tie.Need-returns-2 invariant-loop decreases-loop
 returns-2 c =

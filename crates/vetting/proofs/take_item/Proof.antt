@@ -1,11 +1,11 @@
 use mathlib.Core.Path.{◌≡◌, sym, subst, ◌∙◌}
 use Rattle.rules.specs.Terms.{Terms}
-use Rattle.own_rules.specs.Model.{basisOf}
+use Rattle.own_rules.specs.Model.{basis_of}
 use Rattle.vetting.specs.declared.Passed.TheVariants.{By}
 use Rattle.vetting.specs.declared.own_heading.Started.TheVariants.{With}
 use Rattle.vetting.specs.Parts.{FieldsTo, Leads, HeadTo, HeadLeads}
-use Rattle.vetting.proofs.Fields.{stamped-after}
-use Rattle.vetting.proofs.Whole.{barred-below, barred-fifteen, taken}
+use Rattle.vetting.proofs.Fields.{stamped_after}
+use Rattle.vetting.proofs.Whole.{barred_below, barred_fifteen, taken}
 use borrow.Author.Rules.{rules}
 use Rattle.vetting.proofs.take_item.Statement.{statement}
 use Rattle.vetting.proofs.take_item.Tie as tie
@@ -13,7 +13,7 @@ use Rattle.vetting.proofs.take_item.Tie as tie
 -- the heading, where it breaks nothing
 head-is : (c : tie.After-head)
     → let start = c.before.before.before.before in
-    (terms : Terms) → start.args.basis ≡ basisOf terms → HeadTo terms start.args.s.now start.args.at (With c.head.given.0.0 c.head.given.0.1.0)
+    (terms : Terms) → start.args.basis ≡ basis_of terms → HeadTo terms start.args.s.now start.args.at (With c.head.given.0.0 c.head.given.0.1.0)
 head-is c terms q =
     let start = c.before.before.before.before in
     subst (HeadTo terms start.args.s.now start.args.at) c.head.given.1 (c.before.before.head_at.ensures.0 terms q)
@@ -24,12 +24,12 @@ clear-is c =
     subst (HeadLeads start.args.s.now start.args.at) c.head.given.1 c.before.before.head_at.ensures.1
 
 -- its fields, where they break nothing
-fields-are : (c : tie.After-kc)
+fields_are : (c : tie.After-kc)
     → let o = c.before.before.before.before.before in
     let start = o.before.before.before.before in
-    (terms : Terms) → start.args.basis ≡ basisOf terms
+    (terms : Terms) → start.args.basis ≡ basis_of terms
     → FieldsTo terms o.head.given.0.0 start.args.s.now o.head.given.0.1.0 (By c.kc.given.0.0 c.kc.given.0.1.0)
-fields-are c terms q =
+fields_are c terms q =
     let f = c.before.before in
     let o = f.before.before.before in
     let start = o.before.before.before.before in
@@ -51,7 +51,7 @@ returns c =
     let o = f.before.before.before in
     let start = o.before.before.before.before in (
       λ terms q.
-          barred-fifteen terms o.head.given.0.0 start.args.s.now start.args.at o.head.given.0.1.0 (head-is o terms q) k.kc.given.0.0 k.kc.given.0.1.0 (fields-are k terms q).0
+          barred_fifteen terms o.head.given.0.0 start.args.s.now start.args.at o.head.given.0.1.0 (head-is o terms q) k.kc.given.0.0 k.kc.given.0.1.0 (fields_are k terms q).0
           (sym c.before.breaks-fifteen.ensures ∙ c.if1.true),
       f.fields-from.ensures.1,
     )
@@ -63,7 +63,7 @@ returns-2 c =
     let o = f.before.before.before in
     let start = o.before.before.before.before in (
       λ terms q.
-          let F = fields-are k terms q in
+          let F = fields_are k terms q in
           taken terms o.head.given.0.0 start.args.s.now start.args.at o.head.given.0.1.0 (head-is o terms q) k.kc.given.0.0 k.kc.given.0.1.0 F.0
           F.4 (sym c.before.before.breaks-fifteen.ensures ∙ c.before.if1.false) c.amount-of.result c.amount-of.ensures (clear-is o).0 F.1 F.2 F.3,
       f.fields-from.ensures.1,
@@ -75,7 +75,7 @@ returns-3 c =
     let o = f.before.before.before in
     let start = o.before.before.before.before in (
       λ terms q.
-          barred-below terms o.head.given.0.0 start.args.s.now start.args.at o.head.given.0.1.0 (head-is o terms q)
+          barred_below terms o.head.given.0.0 start.args.s.now start.args.at o.head.given.0.1.0 (head-is o terms q)
           (subst (FieldsTo terms o.head.given.0.0 start.args.s.now o.head.given.0.1.0) c.enum_told.given.1 (f.fields-from.ensures.0 terms q)),
       f.fields-from.ensures.1,
     )
@@ -84,7 +84,7 @@ returns-4 : tie.Need-returns-4
 returns-4 c =
     let start = c.before.before.before.before in (
       λ terms q. subst (HeadTo terms start.args.s.now start.args.at) c.enum-told2.given.1 (c.before.before.head_at.ensures.0 terms q),
-      stamped-after start.args.stood.now start.args.stamp start.requires.3,
+      stamped_after start.args.stood.now start.args.stamp start.requires.3,
     )
 
 pub take-item-spec : {M : Type 1} → statement M

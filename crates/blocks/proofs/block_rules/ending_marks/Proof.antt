@@ -1,5 +1,5 @@
 use native.Mathlib.Omega.{arith}
-use Rattle.blocks.specs.Model.{endingMarks}
+use Rattle.blocks.specs.Model.{ending_marks}
 use Rattle.blocks.proofs.block_rules.ending_marks.Statement.{statement}
 use borrow.Author.Rules.{rules}
 use Rattle.blocks.proofs.block_rules.ending_marks.Tie as tie
@@ -35,7 +35,7 @@ add-result-3 : tie.Need-overflow-add-result-3
 add-result-3 c = search rules
 
 returns : tie.Need-returns
-unfolding endingMarks
+unfolding ending_marks
 returns c = (simp (c.flag4.ensures.0, c.before.breaks-twenty-one.ensures, c.before.before.flag3.ensures.0, c.before.before.before.breaks-nineteen-closing.ensures, c.before.before.before.before.flag2.ensures.0, c.before.before.before.before.before.breaks-eighteen.ensures, c.before.before.before.before.before.before.flag.ensures.0), omega arith)
 
 pub ending-marks-spec : {M : Type 1} → statement M

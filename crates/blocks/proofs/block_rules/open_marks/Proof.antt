@@ -1,5 +1,5 @@
 use native.Mathlib.Omega.{arith}
-use Rattle.blocks.specs.Model.{openMarks}
+use Rattle.blocks.specs.Model.{open_marks}
 use Rattle.blocks.proofs.block_rules.open_marks.Statement.{statement}
 use borrow.Author.Rules.{rules}
 use Rattle.blocks.proofs.block_rules.open_marks.Tie as tie
@@ -29,7 +29,7 @@ add-result-2 : tie.Need-overflow-add-result-2
 add-result-2 c = search rules
 
 returns : tie.Need-returns
-unfolding openMarks
+unfolding open_marks
 returns c = (simp (c.flag3.ensures.0, c.before.breaks-twenty.ensures, c.before.before.flag2.ensures.0, c.before.before.before.breaks-nineteen.ensures, c.before.before.before.before.flag.ensures.0, c.before.before.before.before.before.breaks-eighteen.ensures), omega arith)
 
 pub open-marks-spec : {M : Type 1} → statement M

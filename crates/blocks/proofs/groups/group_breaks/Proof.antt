@@ -1,4 +1,4 @@
-use Rattle.blocks.specs.Model.{groupBreaks}
+use Rattle.blocks.specs.Model.{group_breaks}
 use Rattle.blocks.proofs.groups.group_breaks.Statement.{statement}
 use borrow.Author.Rules.{rules}
 use Rattle.blocks.proofs.groups.group_breaks.Tie as tie
@@ -25,7 +25,7 @@ misstates-requires : tie.Need-misstates-requires
 misstates-requires c κs = search rules
 
 returns : tie.Need-returns
-unfolding groupBreaks
+unfolding group_breaks
 returns c = rw c.misstates.ensures
 
 pub group-breaks-spec : {M : Type 1} → statement M

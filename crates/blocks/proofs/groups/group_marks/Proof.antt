@@ -1,5 +1,5 @@
 use native.Mathlib.Omega.{arith}
-use Rattle.blocks.specs.Model.{groupMarks}
+use Rattle.blocks.specs.Model.{group_marks}
 use Rattle.blocks.proofs.groups.group_marks.Statement.{statement}
 use borrow.Author.Rules.{rules}
 use Rattle.blocks.proofs.groups.group_marks.Tie as tie
@@ -62,7 +62,7 @@ add-result-9 : tie.Need-overflow-add-result-9
 add-result-9 c = search rules
 
 returns : tie.Need-returns
-unfolding groupMarks
+unfolding group_marks
 returns c = (simp (c.before.before.before.before.before.before.before.before.before.group-mark.ensures.0, c.before.before.before.before.before.before.before.before.group-mark2.ensures.0, c.before.before.before.before.before.before.before.group-mark3.ensures.0, c.before.before.before.before.before.before.group-mark4.ensures.0, c.before.before.before.before.before.group-mark5.ensures.0, c.before.before.before.before.group-mark6.ensures.0, c.before.before.before.group-mark7.ensures.0, c.before.before.group-mark8.ensures.0, c.before.group-mark9.ensures.0, c.group-mark10.ensures.0), omega arith)
 
 pub group-marks-spec : {M : Type 1} → statement M

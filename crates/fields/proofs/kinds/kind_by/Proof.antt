@@ -5,7 +5,7 @@ use mathlib.Core.Path.{sym, ◌∙◌}
 use Prim.Native.Nat.{◌<◌}
 use borrow.Author.Tests.{ltb-true}
 use Rattle.laws.proofs.Truth.{and_parts}
-use Rattle.fields.proofs.LineKinds.{as-heading, as-field, as-low}
+use Rattle.fields.proofs.LineKinds.{as_heading, as_field, as_low}
 use borrow.Author.Rules.{rules}
 use Rattle.fields.proofs.kinds.kind_by.Statement.{statement}
 use Rattle.fields.proofs.kinds.kind_by.Tie as tie
@@ -26,24 +26,24 @@ add-ident c = omega (arith, (few c).0, (few c).1)
 returns : tie.Need-returns
 returns c =
     let s = c.before.before.before.before in
-    as-heading s.args.line.now _ _ s.requires.1.0 s.requires.1.1 c.before.if1.true c.if2.true
+    as_heading s.args.line.now _ _ s.requires.1.0 s.requires.1.1 c.before.if1.true c.if2.true
 
 returns-2 : tie.Need-returns-2
 returns-2 c =
     let s = c.before.before.before.before in
-    as-field s.args.line.now _ _ s.requires.1.0 s.requires.1.1 c.before.if1.true c.if2.false
+    as_field s.args.line.now _ _ s.requires.1.0 s.requires.1.1 c.before.if1.true c.if2.false
 
 returns-3 : tie.Need-returns-3
 returns-3 c =
     let e = c.before.before.before in
     let s = e.before.before.before in
-    as-low s.args.line.now _ _ s.requires.1.0 s.requires.1.1 e.if1.false (sym c.if3.true ∙ c.before.starts.ensures)
+    as_low s.args.line.now _ _ s.requires.1.0 s.requires.1.1 e.if1.false (sym c.if3.true ∙ c.before.starts.ensures)
 
 returns-4 : tie.Need-returns-4
 returns-4 c =
     let e = c.before.before.before in
     let s = e.before.before.before in
-    as-low s.args.line.now _ _ s.requires.1.0 s.requires.1.1 e.if1.false (sym c.if3.false ∙ c.before.starts.ensures)
+    as_low s.args.line.now _ _ s.requires.1.0 s.requires.1.1 e.if1.false (sym c.if3.false ∙ c.before.starts.ensures)
 
 pub kind-by-spec : {M : Type 1} → statement M
 kind-by-spec =

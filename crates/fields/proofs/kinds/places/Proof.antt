@@ -4,7 +4,7 @@ use mathlib.Core.Path.{◌≡◌, refl, ap, ◌∙◌}
 use native.Mathlib.Omega.{arith}
 use lib.ListN.{get_or, set}
 use Rattle.fields.specs.Kinds.{symbols}
-use Rattle.fields.proofs.Places.{filled, filled_is, symbol-few}
+use Rattle.fields.proofs.Places.{filled, filled_is, symbol_few}
 use borrow.Author.Rules.{rules}
 use Rattle.fields.proofs.kinds.places.Statement.{statement}
 use Rattle.fields.proofs.kinds.places.Tie as tie
@@ -19,10 +19,10 @@ loop-holds : tie.Need-loop-init invariant-loop decreases-loop
 loop-holds c = (omega arith, refl)
 
 cast-t-2 : tie.Need-overflow-cast-t-2 invariant-loop decreases-loop
-cast-t-2 c = omega (arith, symbol-few c.before.before.loop.k c.before.loop-test.true)
+cast-t-2 c = omega (arith, symbol_few c.before.before.loop.k c.before.loop-test.true)
 
 array-write-t : tie.Need-array-write-t invariant-loop decreases-loop
-array-write-t c = symbol-few c.before.before.loop.k c.before.loop-test.true
+array-write-t c = symbol_few c.before.before.loop.k c.before.loop-test.true
 
 loop-again : tie.Need-loop-preserved invariant-loop decreases-loop
 loop-again c =

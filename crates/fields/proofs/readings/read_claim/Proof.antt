@@ -1,6 +1,6 @@
 use borrow.Author.Rules.{rules}
 use Rattle.fields.specs.declared.classes.Class.TheVariants.{Money, Range, Group}
-use Rattle.fields.proofs.Codes.{same_code, left-claim}
+use Rattle.fields.proofs.Codes.{same_code, left_claim}
 use Rattle.fields.proofs.Says.{read_as}
 use Rattle.fields.proofs.readings.read_claim.Statement.{statement}
 use Rattle.fields.proofs.readings.read_claim.Tie as tie
@@ -18,7 +18,7 @@ returns-2 c =
 returns-3 : tie.Need-returns-3
 returns-3 c =
     let a = c.before.before.before.before in
-    λ k e m. read_as Group k _ a.before.before.args.line.now _ a.after-colon.ensures.1 c.read-group.ensures (left-claim k e m c.before.before.if1.false c.before.if2.false)
+    λ k e m. read_as Group k _ a.before.before.args.line.now _ a.after-colon.ensures.1 c.read-group.ensures (left_claim k e m c.before.before.if1.false c.before.if2.false)
 
 pub read-claim-spec : {M : Type 1} → statement M
 read-claim-spec =

@@ -7,9 +7,9 @@ use mathlib.Core.List.{List}
 use Prim.Native.Nat.{ℕ}
 use Rattle.fields.specs.declared.classes.Class.TheVariants.{Money}
 use Rattle.fields.specs.declared.readings.Reading.TheVariants.{Paid}
-use Rattle.figures.specs.Layouts.{maybeRest}
+use Rattle.figures.specs.Layouts.{maybe_rest}
 use Rattle.number_reader.proofs.Told.{second_lt}
-use Rattle.fields.proofs.Says.{not-two, made_by}
+use Rattle.fields.proofs.Says.{not_two, made_by}
 
 abbrev T : tie.After-read-two → List ℕ
 T r = r.before.before.args.t.now
@@ -24,12 +24,12 @@ returns c =
     let k = c.before.before in
     let r = k.before.before.before in
     c.if-fits.ensures
-    ∙ made_by Money 1 15 8 8 maybeRest (T r) refl _ _ _ _ (sym r.read-two.ensures ∙ k.before.first.given.1) (λ v w. Paid (record { 0 = v }) w) _ c.before.ends-or-rest.ensures refl
+    ∙ made_by Money 1 15 8 8 maybe_rest (T r) refl _ _ _ _ (sym r.read-two.ensures ∙ k.before.first.given.1) (λ v w. Paid (record { 0 = v }) w) _ c.before.ends-or-rest.ensures refl
 
 returns-2 : tie.Need-returns-2
 returns-2 c =
     let r = c.before.before in
-    not-two Money 1 15 8 8 maybeRest (T r) refl (sym r.read-two.ensures ∙ c.enum_told.given.1)
+    not_two Money 1 15 8 8 maybe_rest (T r) refl (sym r.read-two.ensures ∙ c.enum_told.given.1)
 
 pub read-money-spec : {M : Type 1} → statement M
 read-money-spec =

@@ -8,8 +8,8 @@ use Prim.Native.Nat.{ℕ}
 use Rattle.fields.specs.declared.classes.Class.TheVariants.{Range}
 use Rattle.fields.specs.declared.readings.Reading.TheVariants.{Span}
 use Rattle.figures.specs.Layouts.{no_more}
-use Rattle.number_reader.proofs.Told.{first-lt, second_lt}
-use Rattle.fields.proofs.Says.{not-two, made_by}
+use Rattle.number_reader.proofs.Told.{first_lt, second_lt}
+use Rattle.fields.proofs.Says.{not_two, made_by}
 
 abbrev T : tie.After-read-two → List ℕ
 T r = r.before.before.args.t.now
@@ -17,7 +17,7 @@ T r = r.before.before.args.t.now
 cast-t8 : tie.Need-overflow-cast-t8
 cast-t8 c =
     let r = c.before.before.before.before in
-    omega (arith, first-lt _ _ _ _ (T r) _ _ _ _ (sym r.read-two.ensures ∙ c.before.before.first.given.1))
+    omega (arith, first_lt _ _ _ _ (T r) _ _ _ _ (sym r.read-two.ensures ∙ c.before.before.first.given.1))
 
 cast-t10 : tie.Need-overflow-cast-t10
 cast-t10 c =
@@ -34,7 +34,7 @@ returns c =
 returns-2 : tie.Need-returns-2
 returns-2 c =
     let r = c.before.before in
-    not-two Range 1 7 1 7 no_more (T r) refl (sym r.read-two.ensures ∙ c.enum_told.given.1)
+    not_two Range 1 7 1 7 no_more (T r) refl (sym r.read-two.ensures ∙ c.enum_told.given.1)
 
 pub read-range-spec : {M : Type 1} → statement M
 read-range-spec =

@@ -1,5 +1,5 @@
 use Rattle.std.proofs.Common.{◌-◌, arith, rules}
-use Rattle.figures.proofs.Reading.{Read, read-start, sum-le, read_more, read-other, read-end}
+use Rattle.figures.proofs.Reading.{Read, read_start, sum_le, read_more, read_other, read_end}
 use Rattle.figures.proofs.parts.weighed_at.Statement.{statement}
 use Rattle.figures.proofs.parts.weighed_at.Tie as tie
 
@@ -10,19 +10,19 @@ abbrev decreases-loop : tie.decreases-loop
 decreases-loop t at most stop sum₀ any₀ i₀ sum any i = stop - i
 
 loop-holds : tie.Need-loop-init invariant-loop decreases-loop
-loop-holds c = read-start _ _ _ _ c.before.before.requires c.stop-of.ensures
+loop-holds c = read_start _ _ _ _ c.before.before.requires c.stop-of.ensures
 
 returns : tie.Need-returns invariant-loop decreases-loop
 returns c =
     let w = c.before in
     let l = w.before.before.before in
-    read-other _ _ _ _ _ _ _ l.loop.invariant _ w.before.before.loop-test.true w.wrapping-sub-u8.ensures (search rules) c.if1.true
+    read_other _ _ _ _ _ _ _ l.loop.invariant _ w.before.before.loop-test.true w.wrapping-sub-u8.ensures (search rules) c.if1.true
 
 mul-sum : tie.Need-overflow-mul-sum invariant-loop decreases-loop
-mul-sum c = omega (arith, sum-le _ _ _ _ _ _ _ c.before.before.before.before.before.loop.invariant)
+mul-sum c = omega (arith, sum_le _ _ _ _ _ _ _ c.before.before.before.before.before.loop.invariant)
 
 add-sum : tie.Need-overflow-add-sum invariant-loop decreases-loop
-add-sum c = omega (arith, sum-le _ _ _ _ _ _ _ c.before.before.before.before.before.loop.invariant, c.wide.ensures, c.before.if1.false)
+add-sum c = omega (arith, sum_le _ _ _ _ _ _ _ c.before.before.before.before.before.loop.invariant, c.wide.ensures, c.before.if1.false)
 
 loop-again : tie.Need-loop-preserved invariant-loop decreases-loop
 loop-again c =
@@ -31,7 +31,7 @@ loop-again c =
     rw c.wide.ensures (read_more _ _ _ _ _ _ _ l.loop.invariant _ w.before.before.loop-test.true w.wrapping-sub-u8.ensures (search rules) c.before.if1.false)
 
 returns-2 : tie.Need-returns-2 invariant-loop decreases-loop
-returns-2 c = read-end _ _ _ _ _ _ _ c.before.loop.invariant c.loop-test.false
+returns-2 c = read_end _ _ _ _ _ _ _ c.before.loop.invariant c.loop-test.false
 
 pub weighed-at-spec : {M : Type 1} → statement M
 weighed-at-spec =

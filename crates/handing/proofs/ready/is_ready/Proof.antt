@@ -1,6 +1,6 @@
 use Prim.Native.Nat.{◌-◌}
 use borrow.Author.Rules.{rules}
-use Rattle.handing.proofs.Order.{Looking, too_few, unequal, look-start, look-falls, look-more, look-end}
+use Rattle.handing.proofs.Order.{Looking, too_few, unequal, look_start, look_falls, look_more, look_end}
 use Rattle.handing.proofs.ready.is_ready.Statement.{statement}
 use Rattle.handing.proofs.ready.is_ready.Tie as tie
 
@@ -17,16 +17,16 @@ returns-2 : tie.Need-returns-2 invariant-loop decreases-loop
 returns-2 c = unequal _ _ _ (search rules) c.if2.true
 
 loop-holds : tie.Need-loop-init invariant-loop decreases-loop
-loop-holds c = look-start (search rules) (search rules)
+loop-holds c = look_start (search rules) (search rules)
 
 returns-3 : tie.Need-returns-3 invariant-loop decreases-loop
-returns-3 c = look-falls c.before.before.before.before.before.loop.invariant (search rules) c.before.key_of.ensures c.if3.true
+returns-3 c = look_falls c.before.before.before.before.before.loop.invariant (search rules) c.before.key_of.ensures c.if3.true
 
 loop-again : tie.Need-loop-preserved invariant-loop decreases-loop
-loop-again c = look-more c.before.before.before.before.before.loop.invariant (search rules) c.before.key_of.ensures c.if3.false
+loop-again c = look_more c.before.before.before.before.before.loop.invariant (search rules) c.before.key_of.ensures c.if3.false
 
 returns-4 : tie.Need-returns-4 invariant-loop decreases-loop
-returns-4 c = look-end c.before.loop.invariant (search rules)
+returns-4 c = look_end c.before.loop.invariant (search rules)
 
 pub is-ready-spec : {M : Type 1} → statement M
 is-ready-spec =

@@ -6,7 +6,7 @@ use native.Mathlib.Omega.{arith}
 use borrow.Author.Rules.{rules}
 use Rattle.text.specs.Forms.{template}
 use Rattle.text.proofs.Pieces.{ready}
-use Rattle.headings.specs.Reading.{layout, isHeading}
+use Rattle.headings.specs.Reading.{layout, is_heading}
 use Rattle.headings.proofs.Places.{found, lost}
 use Rattle.headings.proofs.reading.read.Statement.{statement}
 use Rattle.headings.proofs.reading.read.Tie as tie
@@ -14,7 +14,7 @@ use Rattle.headings.proofs.reading.read.Tie as tie
 abbrev S : tie.Then1 → List ℕ
 S c = c.before.before.before.before.args.text.now
 
-form : (c : tie.Then1) → isHeading (S c) ≡ true
+form : (c : tie.Then1) → is_heading (S c) ≡ true
 unfolding template
 form c = sym c.before.has-form.ensures ∙ c.if1.true
 

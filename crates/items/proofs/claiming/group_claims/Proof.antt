@@ -1,11 +1,11 @@
 use borrow.Author.Tests.{le-leb, lt-leb}
-use Rattle.items.specs.Claims.{groupClaims}
+use Rattle.items.specs.Claims.{group_claims}
 use Rattle.items.proofs.claiming.group_claims.Statement.{statement}
 use borrow.Author.Rules.{rules}
 use Rattle.items.proofs.claiming.group_claims.Tie as tie
 
 returns : tie.Need-returns
-unfolding groupClaims
+unfolding group_claims
 returns c = rw (le-leb 10 _ c.if1.true)
 
 mul-old : tie.Need-overflow-mul-old
@@ -27,7 +27,7 @@ array-set-from-groups : tie.Need-array-set-from-groups
 array-set-from-groups c = search rules
 
 returns-2 : tie.Need-returns-2
-unfolding groupClaims
+unfolding group_claims
 returns-2 c = rw (lt-leb 10 _ c.before.before.before.before.if1.false, c.stated-kept.ensures, c.before.stated-by.ensures)
 
 pub group-claims-spec : {M : Type 1} → statement M

@@ -4,17 +4,17 @@ use mathlib.Core.Path.{◌≡◌, sym, ap, ◌∙◌}
 use mathlib.Core.Bool.{false}
 use Rattle.fields.specs.declared.classes.Class.{Class}
 use Rattle.fields.specs.declared.readings.Reading.{Reading}
-use Rattle.fields.specs.Codes.{codeBy, claims}
+use Rattle.fields.specs.Codes.{code_by, claims}
 use Rattle.fields.specs.Readings.{text_of, reading_of}
-use Rattle.judging.specs.Opening.{plainMarks}
+use Rattle.judging.specs.Opening.{plain_marks}
 use borrow.Author.Rules.{rules}
 use Rattle.judging.proofs.opening.plain_marks.Statement.{statement}
 use Rattle.judging.proofs.opening.plain_marks.Tie as tie
 
 -- what was read is what the line says
-read : (c : tie.After-read-plain) {said : Reading} → c.read_plain.result ≡ said → (k : Class) → codeBy k ≡ c.before.before.args.class → claims c.before.before.args.class ≡ false
-    → plainMarks said ≡ plainMarks (reading_of k (text_of c.before.before.args.line.now))
-read c e k n m = ap plainMarks (sym e ∙ c.read_plain.ensures k n m)
+read : (c : tie.After-read-plain) {said : Reading} → c.read_plain.result ≡ said → (k : Class) → code_by k ≡ c.before.before.args.class → claims c.before.before.args.class ≡ false
+    → plain_marks said ≡ plain_marks (reading_of k (text_of c.before.before.args.line.now))
+read c e k n m = ap plain_marks (sym e ∙ c.read_plain.ensures k n m)
 
 read-plain-requires : tie.Need-read-plain-requires
 read-plain-requires c κs = search rules

@@ -3,7 +3,7 @@ use borrow.Author.Tests.{eq-eqb, ne_eqb}
 use Rattle.fields.specs.Classes.{class_of}
 use Rattle.fields.specs.Codes.{code_of}
 use Rattle.fields.specs.Readings.{text_of, reading_of}
-use Rattle.judging.proofs.Cases.{plain-opens}
+use Rattle.judging.proofs.Cases.{plain_opens}
 use borrow.Author.Rules.{rules}
 use Rattle.judging.proofs.opening.plain_open.Statement.{statement}
 use Rattle.judging.proofs.opening.plain_open.Tie as tie
@@ -31,7 +31,7 @@ unfolding code_of
 returns-2 c =
     let a = c.before.before.before.before.args in
     λ j kc h i e m.
-    rw (ne_eqb _ 0 c.before.before.if1.false) (plain-opens j kc h a.no a.own i a.again (reading_of (class_of i) (text_of a.line.now)) e m c.before.flag.ensures.0 (c.plain-marks.ensures.0 (class_of i) (sym e) m))
+    rw (ne_eqb _ 0 c.before.before.if1.false) (plain_opens j kc h a.no a.own i a.again (reading_of (class_of i) (text_of a.line.now)) e m c.before.flag.ensures.0 (c.plain-marks.ensures.0 (class_of i) (sym e) m))
 
 pub plain-open-spec : {M : Type 1} → statement M
 plain-open-spec =

@@ -1,11 +1,11 @@
 use Rattle.text.proofs.Wrote.{then}
-use Rattle.listing_texts.specs.Printing.{headerText}
+use Rattle.listing_texts.specs.Printing.{header_text}
 use Rattle.listing_texts.proofs.printing.put_header.Statement.{statement}
 use borrow.Author.Rules.{rules}
 use Rattle.listing_texts.proofs.printing.put_header.Tie as tie
 
 returns : tie.Need-returns
-unfolding headerText
+unfolding header_text
 returns c =
     let e = c.before.before in
     let d = e.before.before.before.before.before in

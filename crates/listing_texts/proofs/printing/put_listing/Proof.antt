@@ -5,15 +5,15 @@ use lib.ListN.{length}
 use Rattle.text.specs.Strings.{Wrote}
 use Rattle.text.proofs.Wrote.{then, same_length as as_long}
 use Rattle.ledger.specs.Slices.{held}
-use Rattle.listing_texts.specs.Printing.{rowTexts, listingText}
-use Rattle.listing_texts.proofs.Listings.{rows_none, rows_more, at-start}
+use Rattle.listing_texts.specs.Printing.{row_texts, listing_text}
+use Rattle.listing_texts.proofs.Listings.{rows_none, rows_more, at_start}
 use Rattle.listing_texts.proofs.printing.put_listing.Statement.{statement}
 use borrow.Author.Rules.{rules}
 use Rattle.listing_texts.proofs.printing.put_listing.Tie as tie
 
 abbrev invariant-loop : tie.invariant-loop
 invariant-loop out₀ code day lines rules n total at₀ i₀ out at i =
-    (i ≤ n) × (at ≤ at₀ + 52 * i) × (length out ≡ length out₀) × Wrote out₀ at₀ (rowTexts (held i lines rules)) out at
+    (i ≤ n) × (at ≤ at₀ + 52 * i) × (length out ≡ length out₀) × Wrote out₀ at₀ (row_texts (held i lines rules)) out at
 
 abbrev decreases-loop : tie.decreases-loop
 decreases-loop out₀ code day lines rules n total at₀ i₀ out at i = n - i
@@ -31,13 +31,13 @@ same_length : tie.Need-same-length invariant-loop decreases-loop
 same_length c = search rules
 
 returns : tie.Need-returns invariant-loop decreases-loop
-unfolding listingText
+unfolding listing_text
 returns c =
     let t = c.before.before in
     let l = t.before.before.before in
     let h = l.before.before.before in
     let e : l.loop.i ≡ h.before.before.before.before.before.args.n = omega arith in
-    at-start (then (then h.put-header.ensures.0 (rw e at l.loop.invariant.3)) t.put-total.ensures)
+    at_start (then (then h.put-header.ensures.0 (rw e at l.loop.invariant.3)) t.put-total.ensures)
 
 pub put-listing-spec : {M : Type 1} → statement M
 put-listing-spec =

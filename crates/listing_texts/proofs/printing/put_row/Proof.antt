@@ -1,5 +1,5 @@
 use Rattle.text.proofs.Wrote.{then}
-use Rattle.listing_texts.specs.Printing.{rowText}
+use Rattle.listing_texts.specs.Printing.{row_text}
 use Rattle.text.proofs.Bare.{room_for}
 use Rattle.listing_texts.proofs.printing.put_row.Statement.{statement}
 use borrow.Author.Rules.{rules}
@@ -12,7 +12,7 @@ put-decimal-requires-2 : tie.Need-put-decimal-requires-2
 put-decimal-requires-2 c κs = room_for _ _ _ (search rules)
 
 returns : tie.Need-returns
-unfolding rowText
+unfolding row_text
 returns c =
     let e = c.before.before in
     let d = e.before.before.before.before.before in

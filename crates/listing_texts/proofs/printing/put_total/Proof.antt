@@ -1,5 +1,5 @@
 use Rattle.text.proofs.Wrote.{then}
-use Rattle.listing_texts.specs.Printing.{totalText}
+use Rattle.listing_texts.specs.Printing.{total_text}
 use Rattle.text.proofs.Bare.{room_for}
 use Rattle.listing_texts.proofs.printing.put_total.Statement.{statement}
 use borrow.Author.Rules.{rules}
@@ -9,7 +9,7 @@ put-decimal-requires : tie.Need-put-decimal-requires
 put-decimal-requires c κs = room_for _ _ _ (search rules)
 
 returns : tie.Need-returns
-unfolding totalText
+unfolding total_text
 returns c =
     let b = c.before.before in
     let a = b.before.before.before.before.before in

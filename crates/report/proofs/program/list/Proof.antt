@@ -5,8 +5,8 @@ use lib.ListN.{length}
 use Rattle.listing_texts.specs.declared.job.Job.TheVariants.{Of}
 use Rattle.listing_texts.specs.Job.{job_of}
 use Rattle.listing_texts.proofs.Jobs.{whole}
-use Rattle.listing_texts.proofs.Listings.{begins-same}
-use Rattle.report.proofs.Answers.{too_long, no-job, has-job}
+use Rattle.listing_texts.proofs.Listings.{begins_same}
+use Rattle.report.proofs.Answers.{too_long, no_job, has_job}
 use Rattle.report.proofs.program.list.Statement.{statement}
 use borrow.Author.Rules.{rules}
 use Rattle.report.proofs.program.list.Tie as tie
@@ -21,7 +21,7 @@ enough : (c : tie.After-code) → 14 ≤ length (from c.before.before).args.inpu
 enough c = whole _ _ _ (job_is c)
 
 returns : tie.Need-returns
-returns c = begins-same (too_long _ _ _ c.before.before.if1.true) c.Put-refused.ensures
+returns c = begins_same (too_long _ _ _ c.before.before.if1.true) c.Put-refused.ensures
 
 sub-list-file : tie.Need-overflow-sub-list-file
 sub-list-file c = omega (arith, enough c.before)
@@ -32,13 +32,13 @@ part-list-file-start c = omega (arith, enough c.before)
 returns-2 : tie.Need-returns-2
 returns-2 c =
     let k = c.before.before.before.before in
-    begins-same (has-job _ _ _ k.before.before.before.if1.false _ _ (job_is k)) c.list-file.ensures
+    begins_same (has_job _ _ _ k.before.before.before.if1.false _ _ (job_is k)) c.list-file.ensures
 
 returns-3 : tie.Need-returns-3
 returns-3 c =
     let k = c.before.before in
     let r = k.before.before in
-    begins-same (no-job _ _ _ r.before.if1.false (sym r.read-job.ensures ∙ k.enum_told.given.1)) c.put-refused2.ensures
+    begins_same (no_job _ _ _ r.before.if1.false (sym r.read-job.ensures ∙ k.enum_told.given.1)) c.put-refused2.ensures
 
 pub list-spec : {M : Type 1} → statement M
 list-spec =

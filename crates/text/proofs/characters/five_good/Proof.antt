@@ -7,8 +7,8 @@ use native.Mathlib.Omega.{arith}
 use lib.ListN.{length}
 use lib.Seq.{take_all}
 use Rattle.laws.specs.Lists.{any_of}
-use Rattle.text.specs.Characters.{isInadmissible}
-use Rattle.text.proofs.Eights.{none-on, near}
+use Rattle.text.specs.Characters.{is_inadmissible}
+use Rattle.text.proofs.Eights.{none_on, near}
 use borrow.Author.Rules.{rules}
 use Rattle.text.proofs.characters.five_good.Statement.{statement}
 use Rattle.text.proofs.characters.five_good.Tie as tie
@@ -28,10 +28,10 @@ returns c =
     let n2 = near 8 last _ _ l1.least.ensures l2.least2.ensures in
     let n3 = near 16 last _ _ l2.least2.ensures l3.least3.ensures in
     let n4 = near 24 last _ last l3.least3.ensures (omega (arith, a.requires), omega arith, inr refl) in
-    let r2 = none-on isInadmissible s 8 _ 8 l1.least.ensures.0 (omega arith) c1.good-at.ensures c2.good-at2.ensures in
-    let r3 = none-on isInadmissible s _ _ 8 n2.0 n2.1 r2 c3.good-at3.ensures in
-    let r4 = none-on isInadmissible s _ _ 8 n3.0 n3.1 r3 c4.good-at4.ensures in
-    none-on isInadmissible s _ last 8 n4.0 n4.1 r4 c.good-at5.ensures ∙ ap (λ (l : List ℕ). not (any_of isInadmissible l)) (take_all (last + 8) s (omega arith))
+    let r2 = none_on is_inadmissible s 8 _ 8 l1.least.ensures.0 (omega arith) c1.good-at.ensures c2.good-at2.ensures in
+    let r3 = none_on is_inadmissible s _ _ 8 n2.0 n2.1 r2 c3.good-at3.ensures in
+    let r4 = none_on is_inadmissible s _ _ 8 n3.0 n3.1 r3 c4.good-at4.ensures in
+    none_on is_inadmissible s _ last 8 n4.0 n4.1 r4 c.good-at5.ensures ∙ ap (λ (l : List ℕ). not (any_of is_inadmissible l)) (take_all (last + 8) s (omega arith))
 
 pub five-good-spec : {M : Type 1} → statement M
 five-good-spec =

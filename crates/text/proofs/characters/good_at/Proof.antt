@@ -1,7 +1,7 @@
 use Prim.Native.Nat.{◌+◌, ◌≤◌}
 use native.Mathlib.Omega.{arith}
 use lib.ListN.{length}
-use Rattle.text.specs.Characters.{isInadmissible}
+use Rattle.text.specs.Characters.{is_inadmissible}
 use Rattle.text.proofs.Eights.{none_first, none_from}
 use borrow.Author.Rules.{rules}
 use Rattle.text.proofs.characters.good_at.Statement.{statement}
@@ -20,14 +20,14 @@ returns c =
     let s = a.args.s.now in
     let i = a.args.i in
     let fits : i + 8 ≤ length s = a.requires.1 in
-    let r1 = none_first isInadmissible s i (omega arith) c1.is-good.ensures in
-    let r2 = none_from isInadmissible s i 1 (omega arith) r1 c2.is-good2.ensures in
-    let r3 = none_from isInadmissible s i 2 (omega arith) r2 c3.is-good3.ensures in
-    let r4 = none_from isInadmissible s i 3 (omega arith) r3 c4.is-good4.ensures in
-    let r5 = none_from isInadmissible s i 4 (omega arith) r4 c5.is-good5.ensures in
-    let r6 = none_from isInadmissible s i 5 (omega arith) r5 c6.is-good6.ensures in
-    let r7 = none_from isInadmissible s i 6 (omega arith) r6 c7.is-good7.ensures in
-    none_from isInadmissible s i 7 (omega arith) r7 c.is-good8.ensures
+    let r1 = none_first is_inadmissible s i (omega arith) c1.is-good.ensures in
+    let r2 = none_from is_inadmissible s i 1 (omega arith) r1 c2.is-good2.ensures in
+    let r3 = none_from is_inadmissible s i 2 (omega arith) r2 c3.is-good3.ensures in
+    let r4 = none_from is_inadmissible s i 3 (omega arith) r3 c4.is-good4.ensures in
+    let r5 = none_from is_inadmissible s i 4 (omega arith) r4 c5.is-good5.ensures in
+    let r6 = none_from is_inadmissible s i 5 (omega arith) r5 c6.is-good6.ensures in
+    let r7 = none_from is_inadmissible s i 6 (omega arith) r6 c7.is-good7.ensures in
+    none_from is_inadmissible s i 7 (omega arith) r7 c.is-good8.ensures
 
 pub good-at-spec : {M : Type 1} → statement M
 good-at-spec =

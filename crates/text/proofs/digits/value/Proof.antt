@@ -5,13 +5,13 @@ use mathlib.Core.List.{List}
 use native.Mathlib.Omega.{arith}
 use lib.ListN.{length, drop, get_or}
 use borrow.Author.Rules.{rules}
-use Rattle.text.specs.Digits.{allDigits, valueAfter, value}
-use Rattle.text.proofs.Reading.{digit-next, value-next, value-done, grows, small}
+use Rattle.text.specs.Digits.{all_are_digits, value_after, value}
+use Rattle.text.proofs.Reading.{digit_next, value_next, value_done, grows, small}
 use Rattle.text.proofs.digits.value.Statement.{statement}
 use Rattle.text.proofs.digits.value.Tie as tie
 
 abbrev invariant-loop : tie.invariant-loop
-invariant-loop s v₀ i₀ v i = (i ≤ length s) × (allDigits (drop i s) ≡ true) × (value s ≡ valueAfter v (drop i s)) × (v < 10 ^ i)
+invariant-loop s v₀ i₀ v i = (i ≤ length s) × (all_are_digits (drop i s) ≡ true) × (value s ≡ value_after v (drop i s)) × (v < 10 ^ i)
 
 abbrev decreases-loop : tie.decreases-loop
 decreases-loop s v₀ i₀ v i = length s - i
@@ -26,8 +26,8 @@ fits l h = small 8 l.loop.v l.loop.i l.loop.invariant.3 (omega (arith, l.before.
 loop-holds : tie.Need-loop-init invariant-loop decreases-loop
 loop-holds c = (omega arith, c.before.requires.1, refl, omega arith)
 
-digit : (l : tie.At-loop invariant-loop decreases-loop) → l.loop.i < length (S l) → (48 ≤ get_or (S l) l.loop.i 0) × (get_or (S l) l.loop.i 0 ≤ 57) × (allDigits (drop (l.loop.i + 1) (S l)) ≡ true)
-digit l h = digit-next (S l) l.loop.i h l.loop.invariant.1
+digit : (l : tie.At-loop invariant-loop decreases-loop) → l.loop.i < length (S l) → (48 ≤ get_or (S l) l.loop.i 0) × (get_or (S l) l.loop.i 0 ≤ 57) × (all_are_digits (drop (l.loop.i + 1) (S l)) ≡ true)
+digit l h = digit_next (S l) l.loop.i h l.loop.invariant.1
 
 mul-v : tie.Need-overflow-mul-v invariant-loop decreases-loop
 mul-v c = omega (arith, fits c.before c.loop-test.true)
@@ -48,13 +48,13 @@ loop-again c =
     let d = digit l h in (
       omega arith,
       d.2,
-      value-next (S l) l.loop.i h l.loop.v l.loop.invariant.2
-          ∙ ap (λ (b : ℕ). valueAfter (l.loop.v * 10 + (b - 48)) (drop (l.loop.i + 1) (S l))) (sym c.wide.ensures),
+      value_next (S l) l.loop.i h l.loop.v l.loop.invariant.2
+          ∙ ap (λ (b : ℕ). value_after (l.loop.v * 10 + (b - 48)) (drop (l.loop.i + 1) (S l))) (sym c.wide.ensures),
       grows l.loop.v l.loop.i _ l.loop.invariant.3 (omega (arith, c.wide.ensures, d.1)),
     )
 
 returns : tie.Need-returns invariant-loop decreases-loop
-returns c = let l = c.before in value-done (S l) l.loop.i l.loop.v l.loop.invariant.2 c.loop-test.false
+returns c = let l = c.before in value_done (S l) l.loop.i l.loop.v l.loop.invariant.2 c.loop-test.false
 
 pub value_spec : {M : Type 1} → statement M
 value_spec =

@@ -5,13 +5,13 @@ use mathlib.Core.List.{List}
 use native.Mathlib.Omega.{arith}
 use lib.ListN.{length, drop}
 use borrow.Author.Rules.{rules}
-use Rattle.text.specs.Forms.{hasForm}
+use Rattle.text.specs.Forms.{has_form}
 use Rattle.text.proofs.Matching.{unequal, goes_on, whole}
 use Rattle.text.proofs.forms.has_form.Statement.{statement}
 use Rattle.text.proofs.forms.has_form.Tie as tie
 
 abbrev invariant-loop : tie.invariant-loop
-invariant-loop t s all₀ i₀ all i = (i ≤ length t) × (length t ≡ length s) × (hasForm t s ≡ (all && hasForm (drop i t) (drop i s)))
+invariant-loop t s all₀ i₀ all i = (i ≤ length t) × (length t ≡ length s) × (has_form t s ≡ (all && has_form (drop i t) (drop i s)))
 
 abbrev decreases-loop : tie.decreases-loop
 decreases-loop t s all₀ i₀ all i = length t - i

@@ -8,13 +8,13 @@ use Rattle.fields.specs.Codes.{code_of}
 use Rattle.fields.specs.Readings.{text_of, reading_of}
 use Rattle.rules.specs.declared.FirstKc.{FirstKc}
 use Rattle.rules.specs.Terms.{Terms}
-use Rattle.own_rules.specs.Model.{basisOf}
+use Rattle.own_rules.specs.Model.{basis_of}
 use Rattle.vetting.specs.declared.Passed.TheVariants.{By}
 use Rattle.vetting.specs.declared.own_line.Judged.{Judged}
 use Rattle.vetting.specs.declared.own_field.Stop.TheVariants.{At, Breaks}
-use Rattle.vetting.specs.Parts.{badAt, ownBreaks, TailTo, FieldTo}
+use Rattle.vetting.specs.Parts.{bad_at, own_breaks, TailTo, FieldTo}
 use Rattle.vetting.proofs.Here.{here}
-use Rattle.vetting.proofs.OneField.{own-bars, below-bars, passes, sure}
+use Rattle.vetting.proofs.OneField.{own_bars, below_bars, passes, sure}
 use borrow.Author.Rules.{rules}
 use Rattle.vetting.proofs.own_field.field_at.Statement.{statement}
 use Rattle.vetting.proofs.own_field.field_at.Tie as tie
@@ -34,13 +34,13 @@ said-is c =
     ∙ ap (λ (j : Judged). reading_of (class_of a.ident) (text_of (span a.at j.end a.s.now))) c.before.before.judged-at.ensures
 
 -- whether that breaks a rule
-breaks-is : (c : tie.After-own-breaks) (terms : Terms)
+breaks_is : (c : tie.After-own-breaks) (terms : Terms)
     → let a = c.before.before.before.before.before.args in
-    a.basis ≡ basisOf terms → c.own-breaks.result ≡ ownBreaks (basisOf terms) a.h a.ident a.again (badAt a.s.now a.at) c.before.Said-at.result
-breaks-is c terms q =
+    a.basis ≡ basis_of terms → c.own-breaks.result ≡ own_breaks (basis_of terms) a.h a.ident a.again (bad_at a.s.now a.at) c.before.Said-at.result
+breaks_is c terms q =
     let a = c.before.before.before.before.before.args in
     c.own-breaks.ensures
-    ∙ (λ i. ownBreaks (q i) a.h a.ident a.again (c.before.before.before.judged-at.ensures i).bad c.before.Said-at.result)
+    ∙ (λ i. own_breaks (q i) a.h a.ident a.again (c.before.before.before.judged-at.ensures i).bad c.before.Said-at.result)
 
 -- what stands below it
 tail-is : (c : tie.After-tail-end)
@@ -71,7 +71,7 @@ returns c =
     let start = b.before.before.before.before.before in
     let a = start.args in (
       λ terms q.
-          own-bars a.s.now a.at a.ident start.requires.1 start.requires.2 (said-is b.before) terms a.h a.again (sym (breaks-is b terms q) ∙ c.if1.true),
+          own_bars a.s.now a.at a.ident start.requires.1 start.requires.2 (said-is b.before) terms a.h a.again (sym (breaks_is b terms q) ∙ c.if1.true),
       tt,
     )
 
@@ -91,7 +91,7 @@ returns-2 c =
     let T : TailTo a.s.now (line_at a.s.now a.at).next (code_of a.ident) (At place) =
     subst (TailTo a.s.now (line_at a.s.now a.at).next (code_of a.ident)) c.before.before.stop.given.1 (tail-is t) in (
       λ terms q.
-          let whole = sym (breaks-is b terms q) ∙ t.before.if1.false in
+          let whole = sym (breaks_is b terms q) ∙ t.before.if1.false in
           subst (λ (k : FirstKc). FieldTo terms a.h a.s.now a.at a.ident a.again (By k place)) (sym c.kc-of.ensures) (
             λ n. passes a.s.now a.at a.ident start.requires.1 start.requires.2 (said-is b.before) terms a.h a.again whole n (T.0 _),
             sure a.s.now a.at a.ident start.requires.1 start.requires.2 (said-is b.before) terms a.h a.again whole,
@@ -107,7 +107,7 @@ returns-3 c =
     let a = start.args in
     let T : TailTo a.s.now (line_at a.s.now a.at).next (code_of a.ident) Breaks =
     subst (TailTo a.s.now (line_at a.s.now a.at).next (code_of a.ident)) c.enum_told.given.1 (tail-is t) in
-    (λ terms q. below-bars a.s.now a.at a.ident start.requires.1 start.requires.2 (said-is b.before) terms a.h a.again T, tt)
+    (λ terms q. below_bars a.s.now a.at a.ident start.requires.1 start.requires.2 (said-is b.before) terms a.h a.again T, tt)
 
 pub field-at-spec : {M : Type 1} → statement M
 field-at-spec =

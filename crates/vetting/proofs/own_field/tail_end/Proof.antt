@@ -6,11 +6,11 @@ use lib.ListN.{length, drop}
 use Rattle.lines.specs.Reading.{line_at, IsNext}
 use Rattle.fields.specs.declared.kinds.Kind.TheVariants.{Continuation}
 use Rattle.fields.specs.Kinds.{kind_of}
-use Rattle.judging.specs.Opening.{breaksTail}
+use Rattle.judging.specs.Opening.{breaks_tail}
 use Rattle.vetting.specs.declared.own_line.Judged.{Judged}
-use Rattle.vetting.specs.Parts.{isContinuation}
+use Rattle.vetting.specs.Parts.{is_continuation}
 use Rattle.vetting.proofs.Here.{here}
-use Rattle.vetting.proofs.Tail.{Tailing, tail-start, tail_more, tail-breaks, tail-other, tail-stops, continues-in}
+use Rattle.vetting.proofs.Tail.{Tailing, tail_start, tail_more, tail_breaks, tail_other, tail_stops, continues_in}
 use borrow.Author.Rules.{rules}
 use Rattle.vetting.proofs.own_field.tail_end.Statement.{statement}
 use Rattle.vetting.proofs.own_field.tail_end.Tie as tie
@@ -22,13 +22,13 @@ abbrev decreases-loop : tie.decreases-loop
 decreases-loop table s at class p₀ tail₀ p tail = length s - p
 
 -- whether the line goes on
-told : (c : tie.After-continues invariant-loop decreases-loop) → c.continues.result ≡ isContinuation (kind_of (drop c.before.before.loop.p c.before.before.before.before.args.s.now))
-told c = c.continues.ensures ∙ ap isContinuation c.before.kind_at.ensures
+told : (c : tie.After-continues invariant-loop decreases-loop) → c.continues.result ≡ is_continuation (kind_of (drop c.before.before.loop.p c.before.before.before.before.args.s.now))
+told c = c.continues.ensures ∙ ap is_continuation c.before.kind_at.ensures
 
 goes_on : (c : tie.Then1 invariant-loop decreases-loop)
     → (c.before.before.before.loop.p < length c.before.before.before.before.before.args.s.now)
     × (kind_of (drop c.before.before.before.loop.p c.before.before.before.before.before.args.s.now) ≡ Continuation)
-goes_on c = continues-in _ _ (sym (told c.before) ∙ c.if1.true)
+goes_on c = continues_in _ _ (sym (told c.before) ∙ c.if1.true)
 
 next : (c : tie.Then1 invariant-loop decreases-loop)
     → IsNext c.before.before.before.before.before.args.s.now c.before.before.before.loop.p (line_at c.before.before.before.before.before.args.s.now c.before.before.before.loop.p)
@@ -37,14 +37,14 @@ next c = here _ _ (goes_on c).0
 -- whether it breaks the field
 breaks : (c : tie.After-breaks-tail invariant-loop decreases-loop)
     → let l = c.before.before.before.before.before.before.before in
-    c.breaks-tail.result ≡ breaksTail l.before.before.args.class (min 4 (suc l.loop.tail)) ((line_at l.before.before.args.s.now l.loop.p).end - l.loop.p)
+    c.breaks-tail.result ≡ breaks_tail l.before.before.args.class (min 4 (suc l.loop.tail)) ((line_at l.before.before.args.s.now l.loop.p).end - l.loop.p)
 breaks c =
     let l = c.before.before.before.before.before.before.before in
     c.breaks-tail.ensures
-    ∙ (λ i. breaksTail l.before.before.args.class (c.before.before.one_more.ensures i) ((c.before.before.before.judged-at.ensures i).end - l.loop.p))
+    ∙ (λ i. breaks_tail l.before.before.args.class (c.before.before.one_more.ensures i) ((c.before.before.before.judged-at.ensures i).end - l.loop.p))
 
 loop-holds : tie.Need-loop-init invariant-loop decreases-loop
-loop-holds c = (omega arith, c.before.requires.1, λ n. tail-start _ _ n _)
+loop-holds c = (omega arith, c.before.requires.1, λ n. tail_start _ _ n _)
 
 kind-at-requires : tie.Need-kind-at-requires invariant-loop decreases-loop
 kind-at-requires c κs = c.loop.invariant.1
@@ -60,7 +60,7 @@ returns c =
     let b = c.before.before in
     let t = b.before.before.before.before in
     λ n x q.
-    tail-breaks (t.before.before.before.loop.invariant.2 n) (goes_on t).0 (goes_on t).1 (breaks b)
+    tail_breaks (t.before.before.before.loop.invariant.2 n) (goes_on t).0 (goes_on t).1 (breaks b)
     (ap (λ (j : Judged). j.bad || b.breaks-tail.result) (sym b.before.before.before.judged-at.ensures) ∙ c.if2.true) x q
 
 loop-less : tie.Need-loop-smaller invariant-loop decreases-loop
@@ -90,14 +90,14 @@ returns-2 : tie.Need-returns-2 invariant-loop decreases-loop
 returns-2 c =
     let o = c.before.before in
     let l = o.before.before.before in
-    λ n x q. tail-other (l.loop.invariant.2 n) (sym (told o.before) ∙ o.if1.false) (sym c.before.low-at.ensures ∙ c.if3.true) x
+    λ n x q. tail_other (l.loop.invariant.2 n) (sym (told o.before) ∙ o.if1.false) (sym c.before.low-at.ensures ∙ c.if3.true) x
 
 returns-3 : tie.Need-returns-3 invariant-loop decreases-loop
 returns-3 c =
     let o = c.before.before in
     let l = o.before.before.before in
     let none = sym c.before.low-at.ensures ∙ c.if3.false in
-    (λ n. tail-stops (l.loop.invariant.2 n) none, l.loop.invariant.0, l.loop.invariant.1, none)
+    (λ n. tail_stops (l.loop.invariant.2 n) none, l.loop.invariant.0, l.loop.invariant.1, none)
 
 pub tail-end-spec : {M : Type 1} → statement M
 tail-end-spec =

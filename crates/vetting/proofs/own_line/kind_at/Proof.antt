@@ -8,7 +8,7 @@ use Rattle.vetting.proofs.own_line.kind_at.Tie as tie
 returns : tie.Need-returns
 returns c =
     let start = c.before.before.before in
-    c.kind-of.ensures ∙ ap kind_of (rest_all start.args.s.now 0 0 start.args.at)
+    c.kind_of_lem.ensures ∙ ap kind_of (rest_all start.args.s.now 0 0 start.args.at)
 
 pub kind-at-spec : {M : Type 1} → statement M
 kind-at-spec =
