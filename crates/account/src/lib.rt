@@ -4,6 +4,8 @@
 // has broken at the heading (theorem `account`).
 // It judges no rule: those are the functions of `blocks` and `own_rules`. Stands on these, on `group_sums`, on `rules`, on `ledger` for sets of marks,
 // and on `headings` for the types of items.
+#![tactic(auto)]
+
 ghost use Rattle.std.specs.Prelude.{◌≡◌, cond, [], ◌<◌, ◌^◌};
 ghost use Rattle.rules.specs.Blocks.{closes_at};
 ghost use Rattle.blocks.specs.Model.{course_of, block_of};
@@ -19,7 +21,7 @@ use own_rules::{Basis, own_marks};
 use rules::{FirstIn, FirstKc};
 
 // An item as the course of its block needs it: its heading, and its first KC and IN.
-#[derive(Drop)]
+#[derive(Clone, Copy)]
 pub struct Outline {
     pub head: Read,
     pub kc: FirstKc,
@@ -27,7 +29,7 @@ pub struct Outline {
 }
 
 // An item is closed: the course with it, and the marks of its heading but for 30 to 39.
-#[derive(Drop)]
+#[derive(Clone, Copy)]
 pub struct Accounted {
     pub course: Course,
     pub marks: u64,

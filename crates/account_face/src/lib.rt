@@ -1,6 +1,8 @@
 // The C face of the account check: numbers and bytes only. Promised: 0, or the number of the refusal by document 01, and behind the
 // pointers `figures`' answers; a refusal leaves all there as it was. Stands on `figures` for the job and on `results` for a number behind a
 // pointer.
+#![tactic(auto)]
+
 ghost use Rattle.account_face.specs.Face.{AccountAt};
 
 use figures::accounts;

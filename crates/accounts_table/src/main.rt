@@ -2,13 +2,17 @@
 // halves are good, else `-`. The verdicts are those of python-stdnum 1.18 (Debian python3-stdnum 1.18-1), `is_valid` of
 // stdnum.cz.bankaccount with a bank's code after the account. No number there is zero, which stdnum lets pass and document 01 does not.
 // Writes how many accounts it agrees on, and every line that it does not.
+#![tactic(auto)]
+
 ghost use Rattle.std.specs.Prelude.{◌≤◌};
 
+use anyhow::Context;
 use figures::accounts::Account;
 use figures::parts::{Halves, Number};
+use std::io;
 
 // Whether the check agrees with a line's verdict, and whether it says that both halves are good.
-#[derive(Drop)]
+#[derive(Clone, Copy)]
 struct Found {
     agrees: bool,
     holds: bool,
@@ -72,20 +76,19 @@ fn one_if(t: bool) -> u64
     0
 }
 
-fn show_unless(agrees: bool, line: &[u8]) {
+fn show_unless(rt: &impl Print, agrees: bool, line: &[u8]) -> io::Result<()> {
     if !agrees {
-        io::write_all(1, line);
-        io::write_all(1, b" differs\n");
+        rt.write_all(line)?;
+        rt.write_all(b" differs\n")?;
     }
+    Ok(())
 }
 
-fn show(what: &[u8], n: u64) {
-    io::write_all(1, what);
-    io::print_decimal(1, n);
-    io::write_all(1, b"\n");
+fn show(rt: &impl Print, what: &str, n: u64) -> io::Result<()> {
+    println!(rt; "{what} {n}")
 }
 
-fn show_all(s: &[u8]) {
+fn show_all(rt: &impl Print, s: &[u8]) -> io::Result<()> {
     let mut hold: u64 = 0;
     let mut fail: u64 = 0;
     let mut differ: u64 = 0;
@@ -93,19 +96,20 @@ fn show_all(s: &[u8]) {
     while at < s.len() {
         let end = data_file::find(s, at, 10);
         let found = judged(&s[at..end]);
-        show_unless(found.agrees, &s[at..end]);
+        show_unless(rt, found.agrees, &s[at..end])?;
         hold += one_if(found.agrees & found.holds);
         fail += one_if(found.agrees & !found.holds);
         differ += one_if(!found.agrees);
         at = end + 1;
     }
-    show(b"both hold ", hold);
-    show(b"both fail ", fail);
-    show(b"differ ", differ);
+    show(rt, "both hold", hold)?;
+    show(rt, "both fail", fail)?;
+    show(rt, "differ", differ)
 }
 
-fn main() {
+fn main(rt: HostRuntime) -> anyhow::Result<()> {
     let mut input = [0u8; 65536];
-    let n = data_file::load(b"accounts", &mut input);
-    show_all(&input[..n]);
+    let n = data_file::load(&rt, b"accounts", &mut input).context("reading accounts")?;
+    show_all(&rt, &input[..n])?;
+    Ok(())
 }

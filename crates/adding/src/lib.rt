@@ -1,6 +1,8 @@
 // The numbers of an accepted file added to a register that is known to be one: 27 to 29 of document 02, A2 and A9, or the new register in the
 // target. Promised by specs/Steps.antt; that keys say what days and numbers say is proofs/Uses.antt. Stands on `gathering` for the keys,
 // `merging` for their ranges, `register` for the bytes, and `listing` for its refusals, which an answer of entering can be.
+#![tactic(auto)]
+
 ghost use Rattle.std.specs.Prelude.{◌≡◌, true, ◌≤◌, length};
 ghost use Rattle.item_reader.specs.Slips.{slips_from};
 ghost use Rattle.item_reader.specs.Accepted.{Readable, Each};
@@ -14,7 +16,7 @@ use listing::checking::Unchecked;
 use register::bytes;
 
 // What entering answers.
-#[derive(Drop)]
+#[derive(Clone, Copy)]
 pub enum Entered {
     Written(usize),
     Refused(Unchecked),
@@ -43,7 +45,8 @@ fn enter_keys(register: &[u8], keys: &[u64], code: u32, day: u32, target: &mut [
         return Entered::UsedAlready;
     }
     let count = m.count;
-    if 1025 < count {
+    let many = 1025 < count;
+    if many {
         return Entered::TooMany;
     }
     if target.len() < 13 + 12 * (count - 1) {

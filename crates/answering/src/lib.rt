@@ -3,6 +3,8 @@
 // specs/Closing.antt. Proved in proofs/Cut.antt: however a file is cut, closing answers and lists what checking the whole does with room for 256
 // (`cut_anyhow`), so two cuttings give the same (`cut_same`); and a state that was closed stays closed (`closed_stays`). Stands on
 // `portions` for the state, on `going` for its end, and on `listing` for the refusals.
+#![tactic(auto)]
+
 ghost use Rattle.std.specs.Prelude.{◌≡◌, true, ◌≤◌, min};
 ghost use Rattle.portions.specs.Usable.{is_open};
 ghost use Rattle.portions.specs.States.{shut_of};
@@ -15,14 +17,14 @@ use listing::checking::{Checked, Unchecked};
 use portions::{Portions, usable};
 
 // Checking's answer, or 18.
-#[derive(Drop)]
+#[derive(Clone, Copy)]
 pub enum Closing {
     Done(Checked),
     Late,
 }
 
 // The answer, and the state after it.
-#[derive(Drop)]
+#[derive(Clone, Copy)]
 pub struct Closed {
     pub answer: Closing,
     pub state: Portions,

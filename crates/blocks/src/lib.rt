@@ -2,6 +2,8 @@
 // `account` says that this is only a way to compute them (the crate `account` keeps it). And the marks of all rules. Each function
 // promises its result by a definition of specs/Model.antt, for every input; counts and sums stop at a cap, so nothing overflows.
 // Stands on `rules`, on the types of `headings`, and on `laws`.
+#![tactic(auto)]
+
 use headings::ItemNo;
 
 pub mod block_rules;
@@ -11,7 +13,7 @@ pub mod marks;
 // The running account but for its groups, and what is brought up to date at each heading. Of the file: whether it has a payment yet, and
 // whether the first is priority. Of the open block: whether it has a heading, and a readable one, its first day and number, its last
 // number.
-#[derive(Drop)]
+#[derive(Clone, Copy)]
 pub struct Course {
     pub classed: bool,
     pub priority: bool,
@@ -24,7 +26,7 @@ pub struct Course {
 
 // The running account whole: its course, field by field, and of each group of the open block the count and the sum. So the pass holds it
 // between two texts; from line to line the course is handed on by value, and the groups are lent.
-#[derive(Drop)]
+#[derive(Clone, Copy)]
 pub struct Block {
     pub classed: bool,
     pub priority: bool,

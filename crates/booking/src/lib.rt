@@ -2,6 +2,8 @@
 // passes the limit, wherever the two stand. What it leaves on the sheet counts only where it finds neither. Promised by definitions of
 // specs/: Sheet.antt is the four turnovers of each participant, Booking.antt what a walk finds. Stands on `item_reader` for the items,
 // `turnovers` for what each posts, `participants` for places in the list, and `sums`.
+#![tactic(auto)]
+
 ghost use Rattle.std.specs.Prelude.{◌≡◌, false, map, ◌≤◌, length};
 ghost use Rattle.item_reader.specs.Slips.{slips_from};
 ghost use Rattle.turnovers.specs.Scheme.{posting_of};
@@ -11,7 +13,7 @@ ghost use Rattle.booking.specs.Booking.{Sound, SoundAt, told, told_by, Kept, Kep
 use turnovers::{Move, Posting, movement};
 
 // What a walk has found: an item whose payer or beneficiary is not listed, and a turnover that passes the limit.
-#[derive(Drop)]
+#[derive(Clone, Copy)]
 pub struct Told {
     pub unlisted: bool,
     pub beyond: bool,

@@ -8,7 +8,7 @@ use headings::{Amount, ItemNo};
 use rules::{FirstIn, FirstKc, FirstSum};
 
 // Which variant, the amount that it holds, and two numbers more; 0 for what it does not hold.
-#[derive(Drop)]
+#[derive(Clone, Copy)]
 pub struct Flat {
     pub tag: u8,
     pub amount: u64,

@@ -10,6 +10,8 @@
 //
 // In `small` stands of each enum which variant it is, and of a bool 0 or 1. Promised: what `words_of` gives of a pass reads back as that
 // pass, whatever it is; and `pass_of` reads any numbers. Stands on the crates whose values these are; it judges nothing.
+#![tactic(auto)]
+
 ghost use Rattle.std.specs.Prelude.{◌≡◌, ◌<◌, length};
 ghost use Rattle.carried.specs.Words.{flat_at, flats_of, wide_of, narrow_of, small_of, words_of, ledger_in, field_in, said_in, pend_in, heading_in, kc_in, span_in, group_at, group_in, stated_in, block_in, wait_in, starts_in, pass_of};
 
@@ -25,7 +27,7 @@ use shutting::Starts;
 
 pub mod flats;
 
-#[derive(Drop)]
+#[derive(Clone, Copy)]
 pub struct Words {
     pub wide: [u64; 38],
     pub narrow: [u32; 33],

@@ -4,3 +4,4 @@
 // telling and deriving, and the faults of a whole file. Beside it `specs/EachRule.antt` has a file for each rule that breaks this rule and
 // no other (`proofs/EachRule.antt`), `specs/Requested.antt` the cases of later requests (`proofs/Requested.antt`), and `specs/Deliveries.antt`
 // those of writing an output file (`proofs/Deliveries.antt`).
+#![tactic(auto)]

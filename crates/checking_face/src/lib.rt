@@ -1,5 +1,7 @@
 // The C face of checking: numbers and bytes only. Promised: 0, or the number of the refusal by document 01, and `listing`'s list and total
 // behind the pointers; a refusal leaves all there as it was. Stands on `listing` for the job and on `results` for a total behind a pointer.
+#![tactic(auto)]
+
 ghost use Rattle.std.specs.Prelude.{◌≡◌, cond, eqb};
 ghost use Rattle.listing.specs.Checking.{checked_number, checked_or};
 ghost use Rattle.checking_face.specs.Face.{TotalAt, CheckedAt};

@@ -2,6 +2,8 @@
 // by a definition of specs/Closing.antt, for every input; the rules at headings come from `blocks` by way of `lending`. The laws join what
 // is kept to the tree (proofs/Shutting.antt): what is entered of headings is what `rules` declares.
 // Stands on `blocks`, `account` and `lending`, and on `items` for the pass that is told without code.
+#![tactic(auto)]
+
 ghost use Rattle.std.specs.Prelude.{◌≡◌, ◌+◌, ◌-◌, ◌≤◌, ◌<◌, ◌^◌};
 ghost use Rattle.laws.specs.Tests.{mark};
 ghost use Rattle.rules.specs.Said.{is_unreadable};
@@ -17,7 +19,7 @@ use own_rules::Basis;
 use rules::{FirstIn, FirstKc, Sums};
 
 // The first heading of the open block with its marks, which waits for rule 16.
-#[derive(Drop)]
+#[derive(Clone, Copy)]
 pub struct Wait {
     pub line: u32,
     pub marks: u64,
@@ -25,7 +27,7 @@ pub struct Wait {
 
 // The course of the account after an item, and who waits then; the marks of the one who waited, where the block ends; the heading's own
 // marks, where they are complete. The groups of the account are counted in apart, where they are lent.
-#[derive(Drop)]
+#[derive(Clone, Copy)]
 pub struct Shut {
     pub course: Course,
     pub wait: Wait,

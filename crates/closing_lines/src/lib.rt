@@ -2,6 +2,8 @@
 // line just for the groups that aren't empty, and all other bytes stay; and such lines are read back as what they say, and break no rule at a
 // field. Stands on `text` for the numbers and the fixed strings and on `lines` for rows as bytes; its laws on `fields` and `rules`.
 // The room that the writers ask for takes every number for 20 digits: 46 bytes for the IN, 65 for an S line.
+#![tactic(auto)]
+
 ghost use Rattle.std.specs.Prelude.{◌≡◌, [], ◌∷◌, ◌+◌, ◌≤◌, length};
 ghost use Rattle.text.specs.Strings.{Wrote};
 ghost use Rattle.lines.specs.Texts.{rows_text};

@@ -3,6 +3,8 @@
 // Promised, for every number: the definitions of specs/Days.antt, which count years and months by the two rows of month lengths. The
 // laws say that real days and their numbers have one order, that the next day has the next number, and that a real day compares with
 // the day of a number as its own number does with that one. Stands on `laws` alone.
+#![tactic(auto)]
+
 ghost use Rattle.std.specs.Prelude.{◌≡◌, suc, ◌+◌, ◌-◌, ◌≤◌, ◌<◌, take};
 ghost use Rattle.laws.specs.Lists.{sum};
 ghost use Rattle.days.specs.Days.{is_leap, row, is_real, days_before, day_number, day_of};

@@ -1,17 +1,17 @@
 -- Each way through writing the items' lines and what follows them.
-use Prim.Native.Nat.{ℕ, ◌+◌, ◌≤◌, ◌<◌, min}
+use Prim.Native.Nat.{ℕ, ◌+◌, ◌≤◌, min}
 use native.Mathlib.Omega.{arith}
 use mathlib.Core.Path.{◌≡◌, refl, sym, ap, subst}
 use mathlib.Core.Bool.{Bool, true, false}
 use mathlib.Core.List.{List, ◌++◌}
 use lib.Dec.{ltb}
 use lib.ListN.{length, length-append}
-use borrow.Author.Tests.{lt-ltb, le-ltb}
+use borrow.Author.Tests.{le-ltb}
 use Rattle.laws.specs.Refusals.{first}
 use Rattle.text.specs.Strings.{Wrote}
-use Rattle.text.proofs.Wrote.{then, same_length}
+use Rattle.text.proofs.Wrote.{then}
 use Rattle.delivery.specs.declared.Delivered.{Delivered}
-use Rattle.delivery.specs.declared.Delivered.TheVariants.{Written, TooLarge, TooShort}
+use Rattle.delivery.specs.declared.Delivered.TheVariants.{Written, TooLarge}
 use Rattle.delivery.specs.Model.{Answers, lines_refusals}
 use Rattle.delivery.proofs.Answered.{refused, done}
 
@@ -26,25 +26,11 @@ module _ (front rest before : List ℕ) {t : ℕ} (z : min 4000000001 (length fr
   long : length text ≡ length front + length rest
   long = length-append front rest
 
-  pub lines_large : 4000000000 < t + length rest → Answers refusal text before TooLarge before
-  lines_large h =
-      let e : ltb 4000000000 (length text) ≡ true = lt-ltb 4000000000 (length text) (omega (arith, z, long, h)) in refused TooLarge (rw e) (omega arith) (λ old. refl)
-
   module _ (h : t + length rest ≤ 4000000000) where
     e : ltb 4000000000 (length text) ≡ false
     e = le-ltb 4000000000 (length text) (omega (arith, z, long, h))
 
-    pub lines_short : length before < t + length rest → Answers refusal text before TooShort before
-    lines_short l =
-        let f : ltb (length before) (length text) ≡ true = lt-ltb (length before) (length text) (omega (arith, z, long, h, l)) in refused TooShort (rw (e, f)) (omega arith) (λ old. refl)
-
     module _ (l : t + length rest ≤ length before) where
-      pub lines_room : length front ≤ length before
-      lines_room = omega (arith, z, h, l)
-
-      pub rest_room : {mid : List ℕ} {next : ℕ} → Wrote before 0 front mid next → next + length rest ≤ length mid
-      rest_room w = omega (arith, z, h, l, w.ends, same_length w)
-
       pub lines_done : {mid after : List ℕ} {next end : ℕ} → Wrote before 0 front mid next → Wrote mid next rest after end → Answers refusal text before (Written end) after
       lines_done v w =
           let f : ltb (length before) (length text) ≡ false = le-ltb (length before) (length text) (omega (arith, z, long, h, l)) in done (rw (e, f)) (then v w)

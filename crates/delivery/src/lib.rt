@@ -2,6 +2,8 @@
 // Promised, with no `requires`: `Delivers` of specs/Delivery.antt, which one answer and one target meet. Stands on `surveying` for what is asked
 // of the items, on `outgoing_lines` and `closing_lines` for the lines, on `headings` for the 51, and on `listing` for what a code and an accounting
 // day are. specs/Model.antt has what the parts promise each other.
+#![tactic(auto)]
+
 ghost use Rattle.std.specs.Prelude.{◌≡◌, false, not, ◌||◌, ◌++◌, ◌≤◌, ◌<◌, eqb, ltb, length};
 ghost use Rattle.laws.specs.Lists.{any_of};
 ghost use Rattle.laws.specs.Refusals.{first};
@@ -24,7 +26,7 @@ use surveying::{Survey, count_items, lead_of, survey_all};
 use text::strings::{put, starts};
 
 // How many bytes were written, or why none.
-#[derive(Drop)]
+#[derive(Clone, Copy)]
 pub enum Delivered {
     Written(u64),
     BadCode,
@@ -91,7 +93,7 @@ fn put_file(
 ) -> Delivered
     requires value { any_underived (record { outcomes = outcomes.now; standings = standings.now; start = start }) 0 (rows_from 1 (lines items.now)) ≡ false }
     requires rest_len_bound { length rest.now ≤ 753 }
-    ensures { Answers (first (lines_refusals false (items_text (record { outcomes = outcomes.entry.now; standings = standings.now; start = start }) items.now ++ rest.now) (length target.old))) (items_text (record { outcomes = outcomes.entry.now; standings = standings.now; start = start }) items.now ++ rest.now) target.old result target.new }
+    ensures { Answers (first (lines_refusals false (items_text (record { outcomes = outcomes.now; standings = standings.now; start = start }) items.now ++ rest.now) (length target.old))) (items_text (record { outcomes = outcomes.now; standings = standings.now; start = start }) items.now ++ rest.now) target.old result target.new }
 {
     let size = size_of(items, outcomes) + (rest.len() as u64);
     if 4000000000 < size {
@@ -121,7 +123,7 @@ fn deliver_sent(
 ) -> Delivered
     requires value { any_underived (record { outcomes = outcomes.now; standings = standings.now; start = start }) 0 (rows_from 1 (lines items.now)) ≡ false }
     requires le_n { (1 ≤ n) × (n ≤ 30000) }
-    ensures { Answers (first (lines_refusals (any_of is_large_sum sums.now) (sent_file items.now (record { outcomes = outcomes.entry.now; standings = standings.now; start = start }) certis day n to counts.now sums.now) (length target.old))) (sent_file items.now (record { outcomes = outcomes.entry.now; standings = standings.now; start = start }) certis day n to counts.now sums.now) target.old result target.new }
+    ensures { Answers (first (lines_refusals (any_of is_large_sum sums.now) (sent_file items.now (record { outcomes = outcomes.now; standings = standings.now; start = start }) certis day n to counts.now sums.now) (length target.old))) (sent_file items.now (record { outcomes = outcomes.now; standings = standings.now; start = start }) certis day n to counts.now sums.now) target.old result target.new }
 {
     if any_large(sums) {
         return Delivered::TooLarge;
@@ -145,7 +147,7 @@ fn deliver_items(
 ) -> Delivered
     requires headed { Headed items.now 0 × (0 < length items.now) }
     requires n_value { (n ≡ length (items_of items.now)) × (1 ≤ n) × (n ≤ 30000) }
-    ensures { Answers (first (items_refusals items.now (record { outcomes = outcomes.entry.now; standings = standings.now; start = start }) certis day (length target.old))) (output_file items.now (record { outcomes = outcomes.entry.now; standings = standings.now; start = start }) certis day) target.old result target.new }
+    ensures { Answers (first (items_refusals items.now (record { outcomes = outcomes.now; standings = standings.now; start = start }) certis day (length target.old))) (output_file items.now (record { outcomes = outcomes.now; standings = standings.now; start = start }) certis day) target.old result target.new }
 {
     let outcome = at_or_zero(outcomes, 0);
     let standing = at_or_zero(standings, 0);
@@ -191,7 +193,7 @@ pub fn deliver(
     start: u32,
     target: &mut [u8],
 ) -> Delivered
-    ensures { Delivers items.now (record { outcomes = outcomes.entry.now; standings = standings.now; start = start }) certis day target.old result target.new }
+    ensures { Delivers items.now (record { outcomes = outcomes.now; standings = standings.now; start = start }) certis day target.old result target.new }
 {
     if !checking::is_code(certis) {
         return Delivered::BadCode;

@@ -2,7 +2,7 @@
 ghost use Rattle.std.specs.Prelude.{◌≡◌};
 ghost use Rattle.entering.specs.Jobs.{blanked_number, Blanks};
 
-#[derive(Drop)]
+#[derive(Clone, Copy)]
 pub enum Blanked {
     Done,
     BadCode,

@@ -2,5 +2,7 @@
 // Promised, with no `requires`: `Enters` and `Blanks` of specs/Jobs, each of which one answer and one target meet; and what is written
 // is a register again. Stands on `listing` for checking, `register` for the bytes, and `adding` for the numbers of an accepted
 // file.
+#![tactic(auto)]
+
 pub mod blanking;
 pub mod entering;

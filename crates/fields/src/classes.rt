@@ -4,7 +4,7 @@ ghost use Rattle.fields.specs.Classes.{sum_group};
 ghost use Rattle.fields.specs.Codes.{code_of};
 
 // KC; EC, AK, ZK; IN; S0 to S9; UD, UK; DI, KI, ZP, AV; any other identifier.
-#[derive(Drop)]
+#[derive(Clone, Copy)]
 pub enum Class {
     Money,
     Number,

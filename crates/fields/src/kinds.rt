@@ -5,7 +5,7 @@ ghost use Rattle.fields.specs.Kinds.{symbols, place, kind_of};
 use crate::classes::HD;
 
 // What a line is; a field with its identifier's number, which is below 1296.
-#[derive(Drop)]
+#[derive(Clone, Copy)]
 pub enum Kind {
     Heading,
     Continuation,

@@ -2,6 +2,8 @@
 // of specs/, for every input. Nothing here looks past byte 64 of a line. What a field says with its continuations is defined here too
 // (specs/Tails.antt); `judging` keeps it.
 // Stands on `figures`, on the strings of `text`, on `ItemNo` and `Amount` of `headings`, and on `laws`.
+#![tactic(auto)]
+
 pub mod classes;
 pub mod kinds;
 pub mod readings;

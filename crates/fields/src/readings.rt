@@ -12,7 +12,7 @@ use number_reader::Two;
 
 // `Broken` where the text has not its layout. An amount and its day; the first and the last number; a group's count and sum;
 // the halves of an account.
-#[derive(Drop)]
+#[derive(Clone, Copy)]
 pub enum Reading {
     Broken,
     Plain,

@@ -6,7 +6,7 @@ use crate::parts;
 use crate::parts::{Halves, Number};
 
 // What the two parts are; or that they are no 0 to 6 and 1 to 10 digits.
-#[derive(Drop)]
+#[derive(Clone, Copy)]
 pub enum Account {
     Judged(Halves),
     NotDigits,

@@ -4,7 +4,7 @@ ghost use Rattle.figures.specs.Parts.{weighed_at};
 ghost use Rattle.figures.specs.Accounts.{number_by, no_part, part_of};
 
 // Digits of a part: their sum, doubled and added from the left, their bits, and the place after them.
-#[derive(Drop)]
+#[derive(Clone, Copy)]
 pub struct Weighed {
     pub sum: u64,
     pub any: u64,
@@ -52,7 +52,7 @@ pub fn weighed_at(t: &[u8], at: usize, most: usize) -> Weighed
 }
 
 // A part that may not be digits: whether it is at most so many of them; if so, whether one is not 0, and whether it passes.
-#[derive(Drop)]
+#[derive(Clone, Copy)]
 pub struct PartRead {
     pub digits: bool,
     pub some: bool,
@@ -85,7 +85,7 @@ pub fn part_of(s: &[u8], most: usize) -> PartRead
 }
 
 // A number whose sum divides or does not; or one of zero, whose sum is not judged.
-#[derive(Drop)]
+#[derive(Clone, Copy)]
 pub enum Number {
     Good,
     Failing,
@@ -93,7 +93,7 @@ pub enum Number {
 }
 
 // Whether the prefix is good, and what the number is.
-#[derive(Drop)]
+#[derive(Clone, Copy)]
 pub struct Halves {
     pub prefix: bool,
     pub number: Number,

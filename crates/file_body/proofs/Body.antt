@@ -106,7 +106,3 @@ unfolding body
 pass_end s at i P h =
     let none : length (body (drop i s)) ≡ 0 = rw (drop_of_length-le s h) in
     omega (arith, P.rest)
-
--- what is found from i on, is found from the start
-pub pass_all : (s : List ℕ) (i r : ℕ) → Passed s 0 i → r ≡ i + length (body (drop i s)) → r ≡ length (body s)
-pass_all s i r P e = omega (arith, P.rest)

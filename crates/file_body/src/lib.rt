@@ -1,6 +1,8 @@
 // How far a file is read: `body_len` counts the bytes before the first 1A, sixty-four at a time. Promised, for every file: the length of
 // its `body` (specs/Lines.antt of `lines`); what stands behind the body is told in proofs/Body.antt. It stands on crates `laws` and
 // `lines`.
+#![tactic(auto)]
+
 ghost use Rattle.std.specs.Prelude.{◌≡◌, ◌+◌, length, drop};
 ghost use Rattle.laws.specs.Lists.{any_of};
 ghost use Rattle.laws.specs.Tests.{is_byte};

@@ -1,6 +1,8 @@
 // The numbers that a file uses and the ranges that a register keeps, as keys: a day and a number in one. Promised: the keys of the items of
 // an accepted file, these in order, and the ends of the ranges that stay. Stands on `item_reader` for the items, `register` for the bytes, and
 // `sorting`; its proofs cite `merging`.
+#![tactic(auto)]
+
 ghost use Rattle.std.specs.Prelude.{◌≡◌, true, ◌+◌, ◌*◌, ◌≤◌, length, drop};
 ghost use Rattle.item_reader.specs.Slips.{slips_from};
 ghost use Rattle.item_reader.specs.Accepted.{Readable, Each};

@@ -194,7 +194,7 @@ module _ (g : Going) (s : List ℕ) {d : Joined} (ed : d ≡ as_joined (join_of 
         held = ap (λ (k : Joined). kept_in k.held) e
             ∙ ap (λ (k : Kept). kept_in (as_held k)) G.kept_of
             ∙ held_again (rest t ++ s)
-            ∙ ap kept (sym (rest_append t s ∙ G.All-rest));
+            ∙ ap kept (sym (rest_append t s ∙ G.all_rest));
         at = R.at ∙ ap taken_by (sym w);
         came = omega (arith, R.came, length-append t s);
       }

@@ -5,6 +5,8 @@
 // make (`go_on`); at the end the faults of that text are listed, beside each the offset of its line (`finish`), as `pass` lists those
 // of a whole body. Proved over a list of pieces in proofs/Reached.antt (`over_all`, `all_listed`). No rule is judged here: lines are
 // judged by `pass`, and what of a text is whole and what is kept of it is said by `joining`.
+#![tactic(auto)]
+
 ghost use Rattle.std.specs.Prelude.{◌≡◌, ◌+◌, ◌≤◌, length};
 ghost use Rattle.pass.specs.Standing.{Bounded, Fed};
 ghost use Rattle.joining.specs.Held.{kept_in, ended_text};
@@ -17,7 +19,7 @@ use pass::Pass;
 
 // What is known of a body of which a part has come: the pass after its whole lines, what is kept of the line that has not ended, where
 // that line begins, and how many bytes came.
-#[derive(Drop)]
+#[derive(Clone, Copy)]
 pub struct Going {
     pub pass: Pass,
     pub held: Held,

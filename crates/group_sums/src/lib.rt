@@ -1,5 +1,7 @@
 // The counts and sums of ten groups, lent: one amount more in the group of an item's type. Promised, for all that they hold: what `plus_at`
 // of specs/Model.antt says, each up to its cap. Stands on `blocks` for the caps, and on `headings` for the group of a type.
+#![tactic(auto)]
+
 ghost use Rattle.std.specs.Prelude.{◌≡◌};
 ghost use Rattle.headings.specs.ItemTypes.{group_of};
 ghost use Rattle.blocks.specs.Model.{count_cap, sum_cap};

@@ -1,6 +1,8 @@
 // What is asked of a list of pairs that a caller holds: whether it is in order (`ready`), and its first numbers in another list
 // (`hand_out`). `is_ready` answers for any slices just what entering asks of them (proofs/Order.antt); handing out a list of faults is writing
 // it (proofs/Handed.antt: `handed`). Stands on `ledger` for the order, and on `rules` for what a fault is.
+#![tactic(auto)]
+
 ghost use Rattle.std.specs.Prelude.{◌≡◌, ◌++◌, ◌≤◌, length, take, drop};
 
 pub mod ready;

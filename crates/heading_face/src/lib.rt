@@ -1,6 +1,8 @@
 // The C face of telling and deriving: numbers and bytes only. Promised: 0, or the number of the refusal by document 01, and behind the
 // pointers what `outcomes` promises; a refusal leaves all there as it was. Stands on `outcomes` for the jobs and on `results` for a number
 // behind a pointer.
+#![tactic(auto)]
+
 ghost use Rattle.heading_face.specs.Face.{ToldAt, DerivedAt};
 
 use headings::ItemNo;

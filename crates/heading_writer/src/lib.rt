@@ -1,6 +1,8 @@
 // Writing a heading: an open job that takes every input, refuses with 17 or 16 and then changes no lent byte, and the writer of the 54
 // bytes that it shares with other writers. What is written reads as the heading, and what was read is written as the same bytes
 // (proofs/RoundTrips.antt). Stands on `headings` (the parts, the layout, reading) and `text` (digits, strings, forms).
+#![tactic(auto)]
+
 ghost use Rattle.std.specs.Prelude.{◌≡◌, ◌+◌, ◌≤◌, length};
 ghost use Rattle.text.specs.Strings.{Wrote};
 ghost use Rattle.heading_writer.specs.Writing.{fits_heading, heading_text, sevens_text, written_number, Writes};
@@ -9,7 +11,7 @@ use headings::Heading;
 use text::forms::{put_digits, put_spaced};
 use text::strings::put;
 
-#[derive(Drop)]
+#[derive(Clone, Copy)]
 pub enum Written {
     Done,
     TooLarge,

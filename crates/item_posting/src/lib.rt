@@ -1,6 +1,8 @@
 // Posting the items of an accepted file on a turnover sheet, or on none of it: a refusal leaves the sheet as it stood. Promised, for every
 // body and every list of at most 64 participants: what `PostsItems` of specs/Items.antt says. Stands on `booking` for the items, and on
 // `listing` for checking's refusals, which an answer can hold.
+#![tactic(auto)]
+
 ghost use Rattle.std.specs.Prelude.{map, ◌≤◌, length};
 ghost use Rattle.item_reader.specs.Slips.{slips_from};
 ghost use Rattle.turnovers.specs.Scheme.{posting_of};
@@ -9,7 +11,7 @@ ghost use Rattle.item_posting.specs.Items.{PostsItems};
 use listing::checking::Unchecked;
 
 // The list's refusal, checking's own, then 20, 21, 22; otherwise the file is posted.
-#[derive(Drop)]
+#[derive(Clone, Copy)]
 pub enum Posted {
     Done,
     BadList,

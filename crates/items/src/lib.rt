@@ -3,5 +3,6 @@
 // (proofs/Ideal.antt, Order.antt). `claiming` promises its results by the definitions of specs/Claims.antt, for every input; the laws say
 // that these are the first fields of the item.
 // Stands on `rules`, on `fields` for what a field says, and on `ledger` for the list.
+#![tactic(auto)]
 
 pub mod claiming;

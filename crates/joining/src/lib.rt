@@ -9,9 +9,11 @@
 // Promised: `whole_len` says where the whole lines end; `none`, `add` and `join` keep what the definitions say, in an array with zeros
 // behind it (specs/Held.antt), whatever the record holds that they are given; `closing` and `ended` give the text to judge. Proved
 // under `proofs/`, for any consumer that cannot tell a line from its short form: every cutting gives what the whole gives (Portions.antt:
-// `Cut-all`, `closing`), offsets too (`counts`), and `join` does with a portion what the definition says (Joins.antt: `join_ended`,
+// `cut_all`, `closing`), offsets too (`counts`), and `join` does with a portion what the definition says (Joins.antt: `join_ended`,
 // `join_open`). Unseen.antt: what is asked of a line gives the same answer for its short form. It stands on `text` and `lines`; on
 // `headings` and `fields` for that last law alone.
+#![tactic(auto)]
+
 ghost use Rattle.std.specs.Prelude.{◌≡◌, false, cond, [], ◌++◌, ◌+◌, ◌<◌, ◌≤◌, min, length, take};
 ghost use Rattle.laws.specs.Lists.{any_of};
 ghost use Rattle.text.specs.Characters.{is_inadmissible};
@@ -21,14 +23,14 @@ ghost use Rattle.joining.specs.Short.{short, cr_if, without_cr, kept_text, added
 ghost use Rattle.joining.specs.Held.{as_text, as_held, as_joined, kept_in, ended_text, join_of};
 
 // A text of at most 68 bytes: the first `len`, zeros behind them.
-#[derive(Drop)]
+#[derive(Clone, Copy)]
 pub struct Text {
     pub text: [u8; 68],
     pub len: usize,
 }
 
 // What is kept of a line that has not ended: its short form, at most 65 bytes, and whether a CR stands behind it.
-#[derive(Drop)]
+#[derive(Clone, Copy)]
 pub struct Held {
     pub text: [u8; 68],
     pub len: usize,
@@ -36,7 +38,7 @@ pub struct Held {
 }
 
 // The line that is kept when more has come: what is kept of it now, where the text goes on behind it, and whether CR LF ended it.
-#[derive(Drop)]
+#[derive(Clone, Copy)]
 pub struct Joined {
     pub held: Held,
     pub next: usize,

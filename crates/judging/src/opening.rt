@@ -21,7 +21,7 @@ use own_rules::Basis;
 use rules::{FirstIn, FirstKc, Sums};
 
 // Its line (0: none), its marks as they stand, the number of its class, its continuations.
-#[derive(Drop)]
+#[derive(Clone, Copy)]
 pub struct Open {
     pub no: u32,
     pub marks: u64,
@@ -30,7 +30,7 @@ pub struct Open {
 }
 
 // What a field that is claimed when it closes says by its own line: an IN, an S0 to S9.
-#[derive(Drop)]
+#[derive(Clone, Copy)]
 pub struct Pend {
     pub ident: usize,
     pub said: Reading,

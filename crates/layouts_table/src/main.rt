@@ -1,86 +1,88 @@
 // Runs every boundary of the layouts: of each line of data/lines the kind, of a field its class and what its own text says, and at
 // a continuation what the field above says with its tail so far. What it must write was reasoned by hand from document 01.
+#![tactic(auto)]
+
+use anyhow::Context;
 use fields::classes::Class;
 use fields::kinds::Kind;
 use fields::readings::Reading;
 use figures::parts::{Halves, Number};
 use judging::opening;
 use judging::opening::Open;
+use std::io;
 
 // The last field: what its own text says, and the field as the pass keeps it open, with no marks but those of its tail so far.
-#[derive(Drop)]
+#[derive(Clone, Copy)]
 struct Owner {
     said: Reading,
     open: Open,
 }
 
-fn word(w: &[u8]) {
-    io::write_all(1, b" ");
-    io::write_all(1, w);
+fn word(rt: &impl Print, w: &str) -> io::Result<()> {
+    print!(rt; " {w}")
 }
 
-fn number(n: u64) {
-    io::write_all(1, b" ");
-    io::print_decimal(1, n);
+fn number(rt: &impl Print, n: u64) -> io::Result<()> {
+    print!(rt; " {n}")
 }
 
-fn show_class(class: Class, ident: usize) {
+fn show_class(rt: &impl Print, class: Class, ident: usize) -> io::Result<()> {
     match class {
-        Class::Money => word(b"money"),
-        Class::Number => word(b"number"),
-        Class::Range => word(b"range"),
+        Class::Money => word(rt, "money"),
+        Class::Number => word(rt, "number"),
+        Class::Range => word(rt, "range"),
         Class::Group => {
-            word(b"group");
-            number(fields::classes::sum_group(ident) as u64);
+            word(rt, "group")?;
+            number(rt, fields::classes::sum_group(ident) as u64)
         }
-        Class::Account => word(b"account"),
-        Class::Text => word(b"text"),
-        Class::Free => word(b"free"),
+        Class::Account => word(rt, "account"),
+        Class::Text => word(rt, "text"),
+        Class::Free => word(rt, "free"),
     }
 }
 
-fn show_prefix(good: bool) {
+fn show_prefix(rt: &impl Print, good: bool) -> io::Result<()> {
     if good {
-        word(b"good");
+        word(rt, "good")
     } else {
-        word(b"failing");
+        word(rt, "failing")
     }
 }
 
-fn show_number(number: Number) {
+fn show_number(rt: &impl Print, number: Number) -> io::Result<()> {
     match number {
-        Number::Good => word(b"good"),
-        Number::Failing => word(b"failing"),
-        Number::Zero => word(b"zero"),
+        Number::Good => word(rt, "good"),
+        Number::Failing => word(rt, "failing"),
+        Number::Zero => word(rt, "zero"),
     }
 }
 
-fn show_halves(h: Halves) {
-    show_prefix(h.prefix);
+fn show_halves(rt: &impl Print, h: Halves) -> io::Result<()> {
+    show_prefix(rt, h.prefix)?;
     let number = h.number;
-    show_number(number);
+    show_number(rt, number)
 }
 
-fn show_reading(said: Reading) {
+fn show_reading(rt: &impl Print, said: Reading) -> io::Result<()> {
     match said {
-        Reading::Broken => word(b"broken"),
-        Reading::Plain => word(b"plain"),
+        Reading::Broken => word(rt, "broken"),
+        Reading::Plain => word(rt, "plain"),
         Reading::Paid(amount, day) => {
-            word(b"paid");
-            number(amount.0);
-            number(day as u64);
+            word(rt, "paid")?;
+            number(rt, amount.0)?;
+            number(rt, day as u64)
         }
         Reading::Span(first, last) => {
-            word(b"span");
-            number(first.0 as u64);
-            number(last.0 as u64);
+            word(rt, "span")?;
+            number(rt, first.0 as u64)?;
+            number(rt, last.0 as u64)
         }
         Reading::Stated(count, sum) => {
-            word(b"stated");
-            number(count as u64);
-            number(sum.0);
+            word(rt, "stated")?;
+            number(rt, count as u64)?;
+            number(rt, sum.0)
         }
-        Reading::Party(halves) => show_halves(halves),
+        Reading::Party(halves) => show_halves(rt, halves),
     }
 }
 
@@ -110,20 +112,20 @@ fn read(code: u8, line: &[u8]) -> Reading {
     fields::readings::read_plain(code, line)
 }
 
-fn show_field(ident: usize, line: &[u8]) -> Owner {
+fn show_field(rt: &impl Print, ident: usize, line: &[u8]) -> io::Result<Owner> {
     let code = code_at(ident);
     let class = class_by(code);
     let said = read(code, line);
-    word(b"field");
-    show_class(class, ident);
-    show_reading(said);
+    word(rt, "field")?;
+    show_class(rt, class, ident)?;
+    show_reading(rt, said)?;
     let open = Open {
         no: 1,
         marks: 0,
         class: code,
         tail: 0,
     };
-    Owner { said, open }
+    Ok(Owner { said, open })
 }
 
 // One continuation more; data/lines has fewer than the test allows.
@@ -134,31 +136,31 @@ fn continued(open: Open, length: usize) -> Open {
     open
 }
 
-fn show_continuation(owner: Owner, line: &[u8]) -> Owner {
+fn show_continuation(rt: &impl Print, owner: Owner, line: &[u8]) -> io::Result<Owner> {
     let said = owner.said;
     let before = owner.open;
     let open = continued(before, line.len());
-    word(b"continuation");
-    show_reading(fields::readings::if_fits(open.marks == 0, said));
-    Owner { said, open }
+    word(rt, "continuation")?;
+    show_reading(rt, fields::readings::if_fits(open.marks == 0, said))?;
+    Ok(Owner { said, open })
 }
 
-fn show_line(owner: Owner, line: &[u8]) -> Owner {
+fn show_line(rt: &impl Print, owner: Owner, line: &[u8]) -> io::Result<Owner> {
     match fields::kinds::kind_of(line) {
         Kind::Heading => {
-            word(b"heading");
-            owner
+            word(rt, "heading")?;
+            Ok(owner)
         }
-        Kind::Continuation => show_continuation(owner, line),
-        Kind::Field(ident) => show_field(ident, line),
+        Kind::Continuation => show_continuation(rt, owner, line),
+        Kind::Field(ident) => show_field(rt, ident, line),
         Kind::Other => {
-            word(b"none");
-            owner
+            word(rt, "none")?;
+            Ok(owner)
         }
     }
 }
 
-fn show_all(s: &[u8]) {
+fn show_all(rt: &impl Print, s: &[u8]) -> io::Result<()> {
     let open = opening::none_open();
     let mut owner = Owner {
         said: Reading::Plain,
@@ -169,15 +171,17 @@ fn show_all(s: &[u8]) {
     while at < s.len() {
         let end = data_file::find(s, at, 10);
         n += 1;
-        io::print_decimal(1, n);
-        owner = show_line(owner, &s[at..end]);
-        io::write_all(1, b"\n");
+        rt.print(n)?;
+        owner = show_line(rt, owner, &s[at..end])?;
+        rt.println("")?;
         at = end + 1;
     }
+    Ok(())
 }
 
-fn main() {
+fn main(rt: HostRuntime) -> anyhow::Result<()> {
     let mut input = [0u8; 16384];
-    let n = data_file::load(b"lines", &mut input);
-    show_all(&input[..n]);
+    let n = data_file::load(&rt, b"lines", &mut input).context("reading lines")?;
+    show_all(&rt, &input[..n])?;
+    Ok(())
 }

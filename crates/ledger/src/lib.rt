@@ -2,13 +2,15 @@
 // lines and, at one line, of rules. It promises that the slices hold the first pairs that fit, wherever they come from, beside each its
 // line's offset, that places after the last pair keep what they held, and that the total counts every pair. It names no rule: what a
 // fault is stands in `rules`, and its laws on `laws`.
+#![tactic(auto)]
+
 ghost use Rattle.std.specs.Prelude.{◌≡◌, [], ◌∷◌, ◌++◌, ◌+◌, ◌-◌, ◌*◌, ◌^◌, ◌<◌, ◌≤◌, min, length, take, drop};
 ghost use Rattle.rules.specs.Faults.{fault};
 ghost use Rattle.ledger.specs.Marks.{key, insert, marked};
 ghost use Rattle.ledger.specs.Slices.{opened, held, Ready, Put, Entered, Kept};
 
 // How many pairs the slices hold, and how many faults there are in all.
-#[derive(Drop)]
+#[derive(Clone, Copy)]
 pub struct Ledger {
     pub kept: usize,
     pub total: u64,

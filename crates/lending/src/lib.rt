@@ -2,6 +2,8 @@
 // `advance` lends a local course to `step`, for callers that hold theirs by value. Promised, for every course, item and basis: the course
 // and the marks that `course_model` of `account` says. It judges no rule; the rules as functions and the record of the account stand in
 // `blocks`, the account by value and its model in `account`.
+#![tactic(auto)]
+
 ghost use Rattle.std.specs.Prelude.{◌≡◌, ◌<◌, ◌^◌};
 ghost use Rattle.account.specs.Model.{course_model};
 

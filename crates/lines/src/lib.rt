@@ -1,6 +1,8 @@
 // How a file is cut into lines: at each CR LF. `line_from` gives the line at a place, and by the same look whether it holds a byte that
 // is not plain, by a reader that carries the lent file and that place; `line_near` gives the same, byte by byte. Promised, for every
 // file and place: they give what `lines` of specs/Lines.antt says. It stands on crates `laws`, `text` and `words`.
+#![tactic(auto)]
+
 ghost use Rattle.std.specs.Prelude.{◌≡◌, ◌+◌, ◌-◌, ◌<◌, length, drop};
 ghost use Rattle.lines.specs.Lines.{crlf};
 ghost use Rattle.lines.specs.Reading.{rest_to, after, line_at};
@@ -9,7 +11,7 @@ use words::{controls, has_high, odds, word};
 
 // A line that was found: where it ends, where the next one starts, whether CR LF stands between, and whether a byte that is not
 // plain stands in it.
-#[derive(Drop)]
+#[derive(Clone, Copy)]
 pub struct Found {
     pub end: usize,
     pub next: usize,
@@ -122,7 +124,7 @@ pub fn line_at(s: &[u8], at: usize) -> Found
 }
 
 // The line reader: the lent file, and its place in it.
-#[derive(Drop)]
+#[derive(Clone, Copy)]
 pub struct Reader<'a> {
     pub file: &'a [u8],
     pub at: usize,

@@ -5,7 +5,7 @@ ghost use Rattle.rules.specs.Terms.{is_code, is_accounting_day, input};
 ghost use Rattle.listing.specs.Checking.{are_level, Checks, Totals, unchecked_number, checked_number, checked_or};
 
 // Checking's own refusals, which other jobs answer too.
-#[derive(Drop)]
+#[derive(Clone, Copy)]
 pub enum Unchecked {
     BadCode,
     BadDay,
@@ -17,7 +17,7 @@ pub enum Unchecked {
 }
 
 // The total, or a refusal.
-#[derive(Drop)]
+#[derive(Clone, Copy)]
 pub enum Checked {
     Total(u64),
     Refused(Unchecked),

@@ -5,7 +5,7 @@ ghost use Rattle.listing_texts.specs.Job.{job_line_of, job_of};
 use text::forms::{has_form, part};
 
 // The code and the day that it gives.
-#[derive(Drop)]
+#[derive(Clone, Copy)]
 pub enum Job {
     Of(u32, u32),
     NoJob,

@@ -2,11 +2,13 @@
 // the end of the one before it, and if none does, the row closed up; that it is then the spans with the keys added one at a time, and that
 // it hits itself just where a number is used already, are laws (proofs/Members.antt, Clashes.antt). Stands on `register` for what spans and
 // adding are, and on `sorting` for what order is.
+#![tactic(auto)]
+
 ghost use Rattle.std.specs.Prelude.{◌≡◌, ◌+◌, ◌≤◌, ◌<◌, length, set};
 ghost use Rattle.merging.specs.Merging.{Takes, Merges};
 
 // The next of both rows, and how many of each have gone by with it.
-#[derive(Drop)]
+#[derive(Clone, Copy)]
 pub struct Turn {
     pub from: u64,
     pub to: u64,
@@ -14,7 +16,7 @@ pub struct Turn {
     pub spans: usize,
 }
 
-#[derive(Drop)]
+#[derive(Clone, Copy)]
 pub struct Merged {
     pub clash: bool,
     pub count: usize,

@@ -1,20 +1,22 @@
 // Numbers inside a text: digits from a place on, and two numbers with a space between. Promised, for every text: what specs/Numbers.antt
 // says; of two numbers that are an account's halves, what `figures` says of those (proofs/Halved.antt). Stands on the rows of parts of
 // `figures` and on the digits of `text`.
+#![tactic(auto)]
+
 ghost use Rattle.std.specs.Prelude.{◌≡◌, ◌≤◌, ◌<◌, ◌^◌, length};
 ghost use Rattle.number_reader.specs.Numbers.{number_at, two_of};
 
 use figures::parts::wide;
 
 // The number that digits stand for, and the place after them.
-#[derive(Drop)]
+#[derive(Clone, Copy)]
 pub struct Run {
     pub value: u64,
     pub end: usize,
 }
 
 // The first number, the place after it, the second, the place after that.
-#[derive(Drop)]
+#[derive(Clone, Copy)]
 pub enum Two {
     Found {
         first: u64,

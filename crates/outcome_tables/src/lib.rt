@@ -1,6 +1,8 @@
 // The tables of outcomes (document 01; 000, 4 and 5): the outgoing type of an input type and an outcome, the codes that go out, and the class
 // of an output number. Promised: what specs/Outcomes.antt has for each, and that type and class tell the input type and the outcome but for
 // an 01 and a 21 returned (proofs/Origins.antt). Stands on the types of `headings`, and on `laws`.
+#![tactic(auto)]
+
 ghost use Rattle.std.specs.Prelude.{◌≡◌, ◌≤◌};
 ghost use Rattle.outcome_tables.specs.Outcomes.{table, entries, packed, outgoing, three, codes, in_class};
 
@@ -8,7 +10,7 @@ use headings::item_types::is_priority;
 use headings::{Code, ItemNo};
 
 // A heading's three codes.
-#[derive(Drop)]
+#[derive(Clone, Copy)]
 pub struct Codes {
     pub first: Code,
     pub second: Code,

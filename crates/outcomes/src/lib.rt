@@ -4,6 +4,8 @@
 // Promised, for every text, outcome, standing, number and target: they refuse by document 01's numbers, 11 to 14 and 11 to 16, or
 // tell of and write the heading that the tables of `outcome_tables` give, and a refusal changes no lent byte. Stands on these two, on reading
 // and writing of `headings`, on the layouts of `text`, and on `laws`.
+#![tactic(auto)]
+
 ghost use Rattle.std.specs.Prelude.{◌≡◌, length};
 ghost use Rattle.laws.specs.Refusals.{first};
 ghost use Rattle.outcomes.specs.Deriving.{numbered, issue_refusals, issued_target, told_number, told_kind, told_recipient, Tells, derived_number, Derives};
@@ -15,7 +17,7 @@ use outcome_tables::in_class;
 use turning::{Turned, turn};
 
 // The outgoing type and the recipient's code, or why there is none.
-#[derive(Drop)]
+#[derive(Clone, Copy)]
 pub enum Told {
     Goes(u32, Code),
     NoHeading,
@@ -24,7 +26,7 @@ pub enum Told {
     NoEntry,
 }
 
-#[derive(Drop)]
+#[derive(Clone, Copy)]
 pub enum Derived {
     Done,
     NoHeading,
@@ -55,6 +57,7 @@ fn numbered(h: Heading, n: ItemNo) -> Heading
 }
 
 // The second step: the output number, by the class of the input type, and the 54 bytes.
+#[tactic(auto, unfolding(crate::specs::Deriving::issued_target))]
 pub fn issue(kind: u32, g: Heading, number: ItemNo, target: &mut [u8]) -> Derived
     ensures answer { derived_number result ≡ first (issue_refusals kind number (length target.old)) }
     ensures after { target.new ≡ issued_target kind g number target.old }

@@ -4,6 +4,8 @@
 // headings can be derived (specs/Outgoing.antt). `ec_bytes` answers with a part of the line or of the replacement, as the outcome says.
 // proofs/Items.antt: that every heading can be derived is the same asked of the lines and of the items that `rules` makes of them.
 // Stands on `outcomes` for the derived heading, on `lines` and `fields` for what a line is, on `rules` for the rows, on `text` and `laws`.
+#![tactic(auto)]
+
 ghost use Rattle.std.specs.Prelude.{◌≡◌, false, List, ◌++◌, ℕ, ◌+◌, ◌≤◌, ◌<◌, min, length, get_or};
 ghost use Rattle.lines.specs.Lines.{lines};
 ghost use Rattle.text.specs.Strings.{Wrote};
@@ -126,7 +128,7 @@ fn line_size(kind: Kind, line: &[u8], outcome: u32) -> u64
 
 // How many bytes the lines take that go out for a slice, up to a byte over the limit.
 pub fn size_of(s: &[u8], outcomes: &[u32]) -> u64
-    ensures { (standings : List ℕ) (start : ℕ) → min 4000000001 (length (items_text (record { outcomes = outcomes.entry.now; standings = standings; start = start }) s.now)) ≡ result }
+    ensures { (standings : List ℕ) (start : ℕ) → min 4000000001 (length (items_text (record { outcomes = outcomes.now; standings = standings; start = start }) s.now)) ≡ result }
 {
     let mut size: u64 = 0;
     let mut k = 0;
@@ -189,7 +191,7 @@ fn put_derived(
 ) -> usize
     requires line_value { underived (record { outcomes = outcomes.now; standings = standings.now; start = start }) k line.now ≡ false }
     requires ending_in_bounds { at + length (heading_after (record { outcomes = outcomes.now; standings = standings.now; start = start }) k line.now ++ ending) ≤ length out.old }
-    ensures { Wrote out.old at (heading_after (record { outcomes = outcomes.entry.now; standings = standings.now; start = start }) k line.now ++ ending) out.new result }
+    ensures { Wrote out.old at (heading_after (record { outcomes = outcomes.now; standings = standings.now; start = start }) k line.now ++ ending) out.new result }
 {
     let outcome = as_derived(at_or_zero(outcomes, k));
     let standing = at_or_zero(standings, k);
@@ -212,7 +214,7 @@ fn put_line(
 ) -> usize
     requires line_value { line_underived (record { outcomes = outcomes.now; standings = standings.now; start = start }) kind k line.now ≡ false }
     requires ending_in_bounds { at + length (line_after (record { outcomes = outcomes.now; standings = standings.now; start = start }) kind k outcome line.now ++ ending) ≤ length out.old }
-    ensures { Wrote out.old at (line_after (record { outcomes = outcomes.entry.now; standings = standings.now; start = start }) kind k outcome line.now ++ ending) out.new result }
+    ensures { Wrote out.old at (line_after (record { outcomes = outcomes.now; standings = standings.now; start = start }) kind k outcome line.now ++ ending) out.new result }
 {
     match kind {
         Kind::Heading => put_derived(out, at, line, outcomes, standings, start, k),
@@ -226,7 +228,7 @@ fn put_line(
 pub fn put_lines(out: &mut [u8], s: &[u8], outcomes: &[u32], standings: &[u32], start: u32) -> usize
     requires s_value { any_underived (record { outcomes = outcomes.now; standings = standings.now; start = start }) 0 (rows_from 1 (lines s.now)) ≡ false }
     requires s_in_bounds { length (items_text (record { outcomes = outcomes.now; standings = standings.now; start = start }) s.now) ≤ length out.old }
-    ensures { Wrote out.old 0 (items_text (record { outcomes = outcomes.entry.now; standings = standings.now; start = start }) s.now) out.new result }
+    ensures { Wrote out.old 0 (items_text (record { outcomes = outcomes.now; standings = standings.now; start = start }) s.now) out.new result }
 {
     let mut next = 0;
     let mut k = 0;

@@ -2,6 +2,8 @@
 // compared with limits that are reckoned once a file.
 // Each promises its result by a definition of specs/Model.antt, for every input; the crate `account` proves that these are the rules.
 // Stands on `days`, on the types and rules of `headings`, on `rules`, and on the marks of `blocks`.
+#![tactic(auto)]
+
 ghost use Rattle.std.specs.Prelude.{◌≡◌, ◌-◌, ◌<◌, ◌^◌};
 ghost use Rattle.laws.specs.Tests.{among};
 ghost use Rattle.days.specs.Days.{day_of};
@@ -20,7 +22,7 @@ use rules::FirstKc;
 // What a file is judged by: the submitter's code, and the limits that the accounting day sets, each a real day (or 0, where there is none
 // so early): the last that is not after it, the last that is at most thirty days after it, and the last that is more than ten days
 // before it. They are reckoned once a file.
-#[derive(Drop)]
+#[derive(Clone, Copy)]
 pub struct Basis {
     pub code: Code,
     pub last: u32,

@@ -1,5 +1,7 @@
 // The list of participants' codes. Promised: whether a list is fit (19 by document 02 where it is not), and the place of a code in it, from the
 // front or by a table made once, for every list. Stands on `fields` for places in a list, and on `laws`.
+#![tactic(auto)]
+
 ghost use Rattle.std.specs.Prelude.{◌≡◌, ◌≤◌, length};
 ghost use Rattle.fields.specs.Kinds.{place};
 ghost use Rattle.participants.specs.Participants.{is_list, is_fit};

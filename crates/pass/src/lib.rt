@@ -5,6 +5,8 @@
 // `finish`; fed one text after the other the pass goes on where it stood, and what it holds means the same (specs/Standing.antt).
 // It judges no rule: lines and fields are judged by `judging`, items by `closing`, and entered as they close by `shutting`. The list stands in `ledger`,
 // the cut in `lines`, the table of characters in `text`.
+#![tactic(auto)]
+
 ghost use Rattle.std.specs.Prelude.{◌≡◌, ◌+◌, ◌≤◌, length};
 ghost use Rattle.lines.specs.Lines.{offset_of};
 ghost use Rattle.rules.specs.Terms.{input};
@@ -41,7 +43,7 @@ fn no_heading() -> Heading {
 // All that the pass knows between two lines, but for what stands in the lent slices and in the array of identifiers: the list, the open
 // field and what it will claim, the line and the marks of the open heading, whether it reads and as what, its item's first KC, first IN
 // and first S0 to S9, the account, the heading that waits, where these lines start, and how many lines there were.
-#[derive(Drop)]
+#[derive(Clone, Copy)]
 pub struct Pass {
     pub ledger: Ledger,
     pub field: Open,

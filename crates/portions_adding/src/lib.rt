@@ -1,5 +1,7 @@
 // A portion of a file comes. `add` is an open job: it takes all bytes and every state, and refuses one that is not open with 18, which then
 // stays as it is. Promised: what specs/Adding.antt says. Stands on `portions` for the state, and on `going` for the body in pieces.
+#![tactic(auto)]
+
 ghost use Rattle.std.specs.Prelude.{◌≡◌, true, false, ◌+◌, ◌≤◌, length};
 ghost use Rattle.portions.specs.Usable.{is_open};
 ghost use Rattle.portions_adding.specs.Adding.{Adds, GoesOn, counting, adding_number};
@@ -8,7 +10,7 @@ use headings::Code;
 use portions::{Portions, usable};
 
 // Whether the portion was taken (if not: 18), and the state to go on with.
-#[derive(Drop)]
+#[derive(Clone, Copy)]
 pub struct Added {
     pub taken: bool,
     pub state: Portions,

@@ -2,6 +2,8 @@
 // document 01 or 02; however a file is cut, closing leaves what checking the whole leaves with room for 256 (`cut_anyhow`,
 // proofs/Arrived.antt). Stands on `portions` and `answering` for the jobs, on `stored` for the state, on `results` for a total behind a
 // pointer, and on `checking_face` for what checking leaves.
+#![tactic(auto)]
+
 ghost use Rattle.portions_face.specs.Arriving.{PortionsOpenedAt, PortionAddedAt, PortionsClosedAt};
 
 use results::store_total;
@@ -18,7 +20,7 @@ pub fn open(
     small: &mut [u8; 19],
     text: &mut [u8; 68],
 ) -> u32
-    ensures { PortionsOpenedAt code day (record { wide = wide.entry.now; length = length.old; narrow = narrow.old; frame = frame.old; small = small.old; text = text.old }) stood.old result (record { wide = wide.exit.now; length = length.new; narrow = narrow.new; frame = frame.new; small = small.new; text = text.new }) stood.new }
+    ensures { PortionsOpenedAt code day (record { wide = wide.old; length = length.old; narrow = narrow.old; frame = frame.old; small = small.old; text = text.old }) stood.old result (record { wide = wide.new; length = length.new; narrow = narrow.new; frame = frame.new; small = small.new; text = text.new }) stood.new }
 {
     let r = portions_opening::open(code, day, stood);
     let answer = r.answer;
@@ -51,7 +53,7 @@ pub fn add(
     small: &mut [u8; 19],
     text: &mut [u8; 68],
 ) -> u32
-    ensures { PortionAddedAt bytes.now (record { numbers = record { wide = wide.entry.now; length = length.old; narrow = narrow.old; frame = frame.old; small = small.old; text = text.old }; lines = lines.old; rules = rules.old; offsets = offsets.old; stood = stood.old }) result (record { numbers = record { wide = wide.exit.now; length = length.new; narrow = narrow.new; frame = frame.new; small = small.new; text = text.new }; lines = lines.new; rules = rules.new; offsets = offsets.new; stood = stood.new }) }
+    ensures { PortionAddedAt bytes.now (record { numbers = record { wide = wide.old; length = length.old; narrow = narrow.old; frame = frame.old; small = small.old; text = text.old }; lines = lines.old; rules = rules.old; offsets = offsets.old; stood = stood.old }) result (record { numbers = record { wide = wide.new; length = length.new; narrow = narrow.new; frame = frame.new; small = small.new; text = text.new }; lines = lines.new; rules = rules.new; offsets = offsets.new; stood = stood.new }) }
 {
     let before = stored::state_in(wide, *length, narrow, frame, small, text);
     let r = portions_adding::add(bytes, before, lines, rules, offsets, stood);
@@ -77,7 +79,7 @@ pub fn close(
     third: &mut [u32; 256],
     total: &mut u64,
 ) -> u32
-    ensures { PortionsClosedAt (record { numbers = record { wide = wide.entry.now; length = length.old; narrow = narrow.old; frame = frame.old; small = small.old; text = text.old }; lines = lines.old; rules = rules.old; offsets = offsets.old; stood = stood.old }) first.old second.old third.old total.old result (record { numbers = record { wide = wide.exit.now; length = length.new; narrow = narrow.new; frame = frame.new; small = small.new; text = text.new }; lines = lines.new; rules = rules.new; offsets = offsets.new; stood = stood.new }) first.new second.new third.new total.new }
+    ensures { PortionsClosedAt (record { numbers = record { wide = wide.old; length = length.old; narrow = narrow.old; frame = frame.old; small = small.old; text = text.old }; lines = lines.old; rules = rules.old; offsets = offsets.old; stood = stood.old }) first.old second.old third.old total.old result (record { numbers = record { wide = wide.new; length = length.new; narrow = narrow.new; frame = frame.new; small = small.new; text = text.new }; lines = lines.new; rules = rules.new; offsets = offsets.new; stood = stood.new }) first.new second.new third.new total.new }
 {
     let before = stored::state_in(wide, *length, narrow, frame, small, text);
     let r = answering::close(before, lines, rules, offsets, stood, first, second, third);

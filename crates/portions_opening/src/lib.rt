@@ -1,13 +1,15 @@
 // A file is to come in portions, for a submitter's code and an accounting day. `open` is an open job: it takes all numbers, and refuses
 // with 1 or 2. Promised: what specs/Opening.antt says. Stands on `portions` for the state, on `going` for its beginning, and on `listing`
 // for the terms.
+#![tactic(auto)]
+
 ghost use Rattle.std.specs.Prelude.{◌≡◌};
 ghost use Rattle.portions_opening.specs.Opening.{Opens, opening_number, BegunAs};
 
 use listing::checking;
 use portions::Portions;
 
-#[derive(Drop)]
+#[derive(Clone, Copy)]
 pub enum Opening {
     Open,
     BadCode,
@@ -15,7 +17,7 @@ pub enum Opening {
 }
 
 // The answer, and the state to go on with; on a refusal that is a closed one.
-#[derive(Drop)]
+#[derive(Clone, Copy)]
 pub struct Opened {
     pub answer: Opening,
     pub state: Portions,

@@ -3,4 +3,6 @@
 // way round (proofs/Rewritten.antt); ranges in order that hold the same numbers are the same ranges, so that the order in which numbers
 // come does not matter (proofs/Sets.antt). Stands on `text` and `days`, and on
 // `item_reader` for what an item is.
+#![tactic(auto)]
+
 pub mod bytes;

@@ -1,6 +1,8 @@
 // The C face of the register: numbers and bytes only. Promised: 0, or the number of the refusal by document 01 or 02, and behind the
 // pointers the register and its length, as `entering` promises; a refusal leaves all there as it was. Stands on `entering` for the jobs and
 // on `results` for a length behind a pointer.
+#![tactic(auto)]
+
 ghost use Rattle.register_face.specs.Face.{BlankedAt, EnteredAt};
 
 use entering::{blanking, entering as registering};

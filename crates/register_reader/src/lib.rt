@@ -1,5 +1,7 @@
 // Which bytes are a register: `is_register` answers just for the well-formed ones, of each version. Stands on `register` for what these are and
 // for numbers as bytes, on `days`, and on the fixed strings of `text`.
+#![tactic(auto)]
+
 ghost use Rattle.std.specs.Prelude.{◌≡◌, ◌&&◌, ◌||◌, ◌+◌, ◌*◌, ◌≤◌, length, drop, eqb, ltb};
 ghost use Rattle.days.specs.Days.{later as laterBy};
 ghost use Rattle.register.specs.Register.{most_of, is_version, has_layout, range_stands, all_stand, in_order, ranges_in, latest_with, is_register};

@@ -1,5 +1,7 @@
 // A register written into lent bytes, from the keys of its ranges. Promised: its bytes in version 2, and all other bytes stay. Stands on
 // `register` for what these are and for numbers as bytes, and on the fixed strings of `text`.
+#![tactic(auto)]
+
 ghost use Rattle.std.specs.Prelude.{◌≡◌, ◌+◌, ◌*◌, ◌≤◌, length};
 ghost use Rattle.text.specs.Strings.{Wrote};
 ghost use Rattle.register.specs.Register.{head_bytes, range_bytes, register_bytes};

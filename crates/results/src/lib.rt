@@ -1,5 +1,7 @@
 // A result behind a caller's pointer. Promised: it is stored where the job is done, else what stood there stays; it is never loaded. One
 // function for each width that a C host has pointers to. Stands on nothing.
+#![tactic(auto)]
+
 ghost use Rattle.std.specs.Prelude.{◌≡◌, cond};
 
 // A total behind a pointer, where the job is done.

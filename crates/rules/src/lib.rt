@@ -20,10 +20,12 @@
 // That the list is what is demanded is proved under `proofs/`: Demand.antt (every line once; just the broken rules; once and in order; no
 // other list; the total; nought when nothing is broken) and ByRule.antt, which says it by the rules' own definitions. docs/RULES.md has a row
 // for each rule. What the code keeps and computes is no part of this: its models stand in the crates above, and say so in their first line.
+#![tactic(auto)]
+
 use headings::{Amount, ItemNo, Read};
 
 // The first KC of an item: its amount and its day.
-#[derive(Drop)]
+#[derive(Clone, Copy)]
 pub enum FirstKc {
     NoKc,
     BrokenKc,
@@ -31,7 +33,7 @@ pub enum FirstKc {
 }
 
 // The first IN of an item: the first and the last number that it names.
-#[derive(Drop)]
+#[derive(Clone, Copy)]
 pub enum FirstIn {
     NoIn,
     BrokenIn,
@@ -39,26 +41,26 @@ pub enum FirstIn {
 }
 
 // The first Sd of an item: the count and the sum that it states.
-#[derive(Drop)]
+#[derive(Clone, Copy)]
 pub enum FirstSum {
     NoSum,
     BrokenSum,
     Says(u32, Amount),
 }
 
-#[derive(Drop)]
+#[derive(Clone, Copy)]
 pub struct Sum {
     pub stated: FirstSum,
 }
 
 // The first S0 to S9 of an item. Only a 51 is asked for them.
-#[derive(Drop)]
+#[derive(Clone, Copy)]
 pub struct Sums {
     pub groups: [Sum; 10],
 }
 
 // An item, as the rules at headings see it.
-#[derive(Drop)]
+#[derive(Clone, Copy)]
 pub struct Digest {
     pub head: Read,
     pub kc: FirstKc,

@@ -1,6 +1,8 @@
 // The C face of the turnover sheet: numbers and bytes only. Promised: 0, or the number of the refusal by document 02, and the turnovers that
 // `sheet` promises; a refusal leaves them as they were. (A turnover's text refuses nothing, and `sheet` has it as a C host asks for it.)
 // Stands on `sheet` for the jobs.
+#![tactic(auto)]
+
 ghost use Rattle.sheet_face.specs.Face.{OpenedAt, PostedAt};
 
 use sheet::{opening, posting};

@@ -2,6 +2,8 @@
 // entered in the lent slices, each beside where its line starts; and an array keeps at which line each identifier last stood. Promised:
 // what is entered is what `by_faults` of `closing` says, and the third slice stays a function of the lines. It stands on `closing`, `judging` and
 // `ledger`.
+#![tactic(auto)]
+
 ghost use Rattle.std.specs.Prelude.{◌≡◌, ◌++◌, ◌-◌, ◌≤◌, ◌<◌, ◌^◌, ltb, length, get_or, set, replicate};
 ghost use Rattle.ledger.specs.Slices.{Ready, Entered, Kept};
 ghost use Rattle.ledger.specs.Marks.{marked};
@@ -37,14 +39,14 @@ pub fn again(stood: &mut [u32; 1296], ident: usize, no: u32, since: u32) -> bool
 }
 
 // Where the lines start that are not entered yet: that of the open field, of the open heading, and of the heading that waits.
-#[derive(Drop)]
+#[derive(Clone, Copy)]
 pub struct Starts {
     pub field: u32,
     pub head: u32,
     pub wait: u32,
 }
 
-#[derive(Drop)]
+#[derive(Clone, Copy)]
 pub struct Closed {
     pub ledger: Ledger,
     pub course: Course,

@@ -1,6 +1,8 @@
 // The next line that begins with two letters and a colon, found without the ends of the lines between: its sign is CR LF, the two
 // letters, the colon. Each CR LF cuts, so a sign is always such a line. Promised by `sign_from`, for every text: the first place where a
 // sign stands (specs/Signs.antt). Stands on `text` for comparing.
+#![tactic(auto)]
+
 ghost use Rattle.std.specs.Prelude.{◌≡◌, true, false, ◌+◌, ◌<◌, ◌≤◌, length};
 ghost use Rattle.sign_finder.specs.Signs.{stands_at, Quiet, Apart, IsSign};
 

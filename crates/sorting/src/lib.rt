@@ -1,6 +1,8 @@
 // Numbers put in order in place, for any row whose numbers lie within two bounds. Promised (specs/Sorting.antt): none is below the one
 // before it, and each stands as often as before. It halves the range of the values, not the row: however the numbers lie, it is done
 // after as many halvings as the bounds have bits, and it needs no room of its own. Stands on nothing.
+#![tactic(auto)]
+
 ghost use Rattle.std.specs.Prelude.{◌≡◌, ◌<◌, length, get_or, set};
 ghost use Rattle.sorting.specs.Sorting.{Within, Parted, Ordered};
 

@@ -6,6 +6,8 @@
 //
 // Promised: a state that was stored reads back as itself; any numbers read as some state, and they are open only with the mark, which
 // closing takes away. It judges nothing; which states can go on is `portions`' to say.
+#![tactic(auto)]
+
 ghost use Rattle.std.specs.Prelude.{◌≡◌, cond, set};
 ghost use Rattle.stored.specs.Stored.{frame_of, state_in, Puts};
 

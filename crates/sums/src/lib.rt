@@ -1,10 +1,12 @@
 // Signed sums on turnovers. Promised: an amount more on one turnover or on two, exact for every i64 that stands there, or that the limit is
 // passed; no sum wraps. Stands on nothing.
+#![tactic(auto)]
+
 ghost use Rattle.std.specs.Prelude.{◌≡◌, ◌<◌, pos, nat_abs, ◌+ℤ◌, get_or};
 ghost use Rattle.sums.specs.Sums.{signed, beyond, sum_of, added, AddsBoth};
 
 // A turnover with an amount more, or that it would pass the limit.
-#[derive(Drop)]
+#[derive(Clone, Copy)]
 pub enum Turnover {
     Stands(i64),
     Beyond,

@@ -2,6 +2,8 @@
 // and the groups of their derived types. Promised by definitions of specs/Model.antt, which follow the code; specs/Items.antt has what is asked, for
 // the statement of `delivery`. Stands on `vetting` for an item's lines, on `turning` and `outcome_tables` for its derived heading, on `account` for
 // groups, and on `item_reader`.
+#![tactic(auto)]
+
 ghost use Rattle.std.specs.Prelude.{◌≡◌, ◌+◌, ◌≤◌, ◌<◌, min, length, replicate};
 ghost use Rattle.text.specs.Characters.{answers};
 ghost use Rattle.rules.specs.Terms.{Terms, input};
@@ -23,14 +25,14 @@ use turning::{Turned, turn};
 use vetting::{Taken, take_item, unstamped};
 
 // The type and the recipient of a derived heading, or that deriving refuses it.
-#[derive(Drop)]
+#[derive(Clone, Copy)]
 pub enum Way {
     Nowhere,
     Goes(u32, u32),
 }
 
 // What the first item says of all: the recipient, the class, and whether the derived type stands alone.
-#[derive(Drop)]
+#[derive(Clone, Copy)]
 pub struct Lead {
     pub to: u32,
     pub priority: bool,
@@ -38,14 +40,14 @@ pub struct Lead {
 }
 
 // One item: it is not sent; or the place of the next, and whether it is of another class than the first.
-#[derive(Drop)]
+#[derive(Clone, Copy)]
 pub enum Step {
     Stops,
     On(usize, bool),
 }
 
 // All items: one is not sent; or whether one is of another class than the first.
-#[derive(Drop)]
+#[derive(Clone, Copy)]
 pub enum Survey {
     NotSent,
     Sent(bool),
@@ -138,7 +140,7 @@ pub fn survey_all(
     sums: &mut [u64; 10],
 ) -> Survey
     requires { Headed s.now 0 × (0 < length s.now) × (length (items_of s.now) ≤ 30000) × (counts.old ≡ replicate 10 0) × (sums.old ≡ replicate 10 0) }
-    ensures { Surveys (record { outcomes = outcomes.entry.now; standings = standings.now; start = start }) (input code day) lead s.now result counts.new sums.new }
+    ensures { Surveys (record { outcomes = outcomes.now; standings = standings.now; start = start }) (input code day) lead s.now result counts.new sums.new }
 {
     let table = text::characters::table();
     let basis = basis_of(Code(code), day);

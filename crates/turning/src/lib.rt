@@ -1,6 +1,8 @@
 // The first step of telling and deriving: which outgoing type and codes a heading and an outcome give, for a sender of a standing. Promised,
 // for every heading, outcome and standing: it refuses by document 01's numbers, 12 to 14, or gives the heading of specs/Turning.antt. Stands
 // on `outcome_tables` for the tables, on the types and the rules of `headings`, and on `laws`.
+#![tactic(auto)]
+
 ghost use Rattle.std.specs.Prelude.{◌≡◌};
 ghost use Rattle.laws.specs.Refusals.{first};
 ghost use Rattle.turning.specs.Turning.{barred_to, is_outcome, is_standing, withheld, coded, turned, turn_refusals, turn_number, turn_heading};
@@ -11,7 +13,7 @@ use headings::item_types::is_trilateral;
 use outcome_tables::{Codes, arranged, outgoing};
 
 // The heading with its outgoing type and codes, or why there is none.
-#[derive(Drop)]
+#[derive(Clone, Copy)]
 pub enum Turned {
     To(Heading),
     Barred,

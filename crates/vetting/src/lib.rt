@@ -3,6 +3,8 @@
 // specs/Vetting.antt says of the item of `rules` that begins there. The slice may be longer than any file, so no lines are counted.
 // Stands on `lines` for the cut, on `headings` and `fields` for what lines say, on the rules of `blocks` and `judging`, and on
 // `item_reader` for the items of a slice.
+#![tactic(auto)]
+
 pub mod own_field;
 pub mod own_heading;
 pub mod own_line;
@@ -24,14 +26,14 @@ use own_rules::{Basis, breaks_fifteen};
 use rules::FirstKc;
 
 // What is taken of an item: its heading, the amount of its first KC, and the place of the next item; or that a line of it bars it.
-#[derive(Drop)]
+#[derive(Clone, Copy)]
 pub enum Taken {
     Sound(Heading, Amount, usize),
     Barred,
 }
 
 // Fields that break nothing: the first KC among them, and the place below them; or that a line of them bars the item.
-#[derive(Drop)]
+#[derive(Clone, Copy)]
 pub enum Passed {
     By(FirstKc, usize),
     Bars,

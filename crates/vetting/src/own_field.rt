@@ -21,7 +21,7 @@ use own_rules::Basis;
 use rules::FirstKc;
 
 // Where a field's continuations stop, or that they break it, or one of the lines a rule of its own.
-#[derive(Drop)]
+#[derive(Clone, Copy)]
 pub enum Stop {
     At(usize),
     Breaks,

@@ -12,7 +12,7 @@ use headings::{Heading, Read};
 use own_rules::{Basis, breaks_eleven};
 
 // A heading that breaks nothing so far, and where the line below it starts.
-#[derive(Drop)]
+#[derive(Clone, Copy)]
 pub enum Started {
     With(Heading, usize),
     Bars,
@@ -38,7 +38,8 @@ pub fn head_at(table: &[bool; 256], s: &[u8], at: usize, basis: Basis) -> Starte
     let read = headings::reading::read(&s[at..end]);
     match read {
         Read::Reads(h) => {
-            if l.bad | low | head_breaks(basis, h) {
+            let breaks = l.bad | low | head_breaks(basis, h);
+            if breaks {
                 return Started::Bars;
             }
             Started::With(h, next)

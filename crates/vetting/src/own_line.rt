@@ -8,7 +8,7 @@ use fields::kinds;
 use fields::kinds::Kind;
 
 // A line: where it ends, where the next one starts, and whether it breaks 1 or 4.
-#[derive(Drop)]
+#[derive(Clone, Copy)]
 pub struct Judged {
     pub end: usize,
     pub next: usize,

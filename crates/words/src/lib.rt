@@ -1,6 +1,8 @@
 // Eight bytes as one number, a word, the first byte lowest: `word` loads it, which callers compare too; `controls` and `odds` tell by high
 // bits, in one step each, the first of its bytes that is below 20, and the first above 7E. Promised: what specs/Words.antt says, for
 // every word. It stands on crates `laws` and `text`.
+#![tactic(auto)]
+
 ghost use Rattle.std.specs.Prelude.{◌≡◌, ◌+◌, ◌≤◌, length, take, drop};
 ghost use Rattle.words.specs.Words.{bytes_of, is_above, Tells, Marks, flagged};
 

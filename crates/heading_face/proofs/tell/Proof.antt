@@ -11,16 +11,16 @@ returns c =
     let first = code.before.before in
     let kind = first.before in
     let number = kind.before.before in
-    let told = number.before.tell.ensures in
-    let e = number.told-number.ensures ∙ told.number in
+    let told = number.tell-answer.ensures in
+    let e = number.told_number-refusal.ensures ∙ told.number in
     record {
       number = e;
-      kind = first.store-answer.ensures ∙ stored (λ (x : ℕ). x) _ 0 _ e (kind.told-kind.ensures ∙ told.kind 0);
-      code = c.store-answer2.ensures ∙ stored (λ (x : ℕ). x) _ 0 _ e (code.told-recipient.ensures ∙ told.code 0);
+      kind = first.store_answer.ensures ∙ stored (λ (x : ℕ). x) _ 0 _ e (kind.told_kind.ensures ∙ told.kind 0);
+      code = c.store_answer-2.ensures ∙ stored (λ (x : ℕ). x) _ 0 _ e (code.told_recipient.ensures ∙ told.code 0);
     }
 
-pub tell-spec : {M : Type 1} → statement M
-tell-spec =
+pub tell_spec : {M : Type 1} → statement M
+tell_spec =
     tie.close
     (tie.spec
     (λ c κs. search rules)

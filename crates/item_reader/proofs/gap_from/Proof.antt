@@ -14,43 +14,42 @@ use Rattle.item_reader.proofs.gap_from.Statement.{statement}
 use Rattle.item_reader.proofs.gap_from.Tie as tie
 
 -- what was asked at the place
-starts-there : (c : tie.After-starts) → begins (drop c.before.before.before.before.args.at c.before.before.before.before.args.s.now) (ascii "HD:") ≡ c.starts.result
+starts-there : (c : tie.After-starts) → begins (drop c.args.at c.args.s.now) (ascii "HD:") ≡ c.starts.result
 starts-there c =
-    let x = c.before.before.before.before.args in
+    let x = c.args in
     ap (λ (l : List ℕ). begins l (ascii "HD:")) (sym (rest_all x.s.now 0 0 x.at)) ∙ sym c.starts.ensures
 
-returns : tie.Need-returns
-returns c = inl (starts-there c.before ∙ c.if1.true, refl, refl)
+returns : tie.Need-returns-then-starts
+returns c = inl (starts-there c.before ∙ c.if-starts.true, refl, refl)
 
-sign-from-requires : tie.Need-sign-from-requires
-sign-from-requires c κs = (c.before.before.before.before.before.requires, omega arith)
+sign-from-requires : tie.Need-sign_from-end-requires
+sign-from-requires c κs = (c.requires, omega arith)
 
-add-t13 : tie.Need-overflow-add-t13
-add-t13 c = record { fits = omega (arith, c.if2.true, c.before.before.before.before.before.before.before.well-formed.0.0) }
+add-t13 : tie.Need-overflow_add-result
+add-t13 c = record { fits = omega (arith, c.if-end-s.true, c.well_formed.0.0) }
 
-returns-2 : tie.Need-returns-2
+returns-2 : tie.Need-returns-then-end-s
 returns-2 c =
-    let end = c.before.sign-from.result in
+    let end = c.sign_from-end.result in
     inr (
-      starts-there c.before.before.before ∙ c.before.before.if1.false,
-      c.before.sign-from.ensures,
-      sym (ap (λ (t : Bool). cond t (end + 2) end) (lt-ltb _ _ c.if2.true)),
+      starts-there c.before.before.before ∙ c.if-starts.false,
+      c.sign_from-end.ensures,
+      sym (ap (λ (t : Bool). cond t (end + 2) end) (lt-ltb _ _ c.if-end-s.true)),
     )
 
-returns-3 : tie.Need-returns-3
+returns-3 : tie.Need-returns
 returns-3 c =
-    let end = c.before.sign-from.result in
+    let end = c.sign_from-end.result in
     inr (
-      starts-there c.before.before.before ∙ c.before.before.if1.false,
-      c.before.sign-from.ensures,
-      sym (ap (λ (t : Bool). cond t (end + 2) end) (le-ltb _ _ c.if2.false)),
+      starts-there c.before.before.before ∙ c.if-starts.false,
+      c.sign_from-end.ensures,
+      sym (ap (λ (t : Bool). cond t (end + 2) end) (le-ltb _ _ c.if-end-s.false)),
     )
 
-pub gap-from-spec : {M : Type 1} → statement M
-gap-from-spec =
+pub gap_from_spec : {M : Type 1} → statement M
+gap_from_spec =
     tie.close
     (tie.spec
-    (λ c. search rules)
     (λ c. search rules)
     (λ c. search rules)
     (λ c. search rules)

@@ -12,57 +12,56 @@ use Rattle.item_reader.proofs.kc_within.Statement.{statement}
 use Rattle.item_reader.proofs.kc_within.Tie as tie
 
 -- what was asked at the place
-starts-there : (c : tie.After-starts) → begins (drop c.before.before.before.before.args.at c.before.before.before.before.args.s.now) (ascii "KC:") ≡ c.starts.result
+starts-there : (c : tie.After-starts) → begins (drop c.args.at c.args.s.now) (ascii "KC:") ≡ c.starts.result
 starts-there c =
-    let x = c.before.before.before.before.args in
+    let x = c.args in
     ap (λ (l : List ℕ). begins l (ascii "KC:")) (sym (rest_all x.s.now 0 0 x.at)) ∙ sym c.starts.ensures
 
-kc-at-requires : tie.Need-kc-at-requires
+kc-at-requires : tie.Need-kc_at-requires
 kc-at-requires c κs =
-    let x = c.before.before.before.before.before.args in
-    full x.s.now x.at (ascii "KC:") (omega arith) (starts-there c.before ∙ c.if1.true)
+    let x = c.args in
+    full x.s.now x.at (ascii "KC:") (omega arith) (starts-there c.before ∙ c.if-starts.true)
 
-returns : tie.Need-returns
+returns : tie.Need-returns-then-starts
 returns c =
     let asked = c.before.before in
-    let x = asked.before.before.before.before.args in
-    let e = starts-there asked ∙ c.before.if1.true in
-    λ n. kc_line_lem x.s.now x.at (full x.s.now x.at (ascii "KC:") (omega arith) e) e n ∙ sym c.kc-at.ensures
+    let x = asked.args in
+    let e = starts-there asked ∙ c.if-starts.true in
+    λ n. kc_line_lem x.s.now x.at (full x.s.now x.at (ascii "KC:") (omega arith) e) e n ∙ sym c.kc_at.ensures
 
-sign-from-requires : tie.Need-sign-from-requires
+sign-from-requires : tie.Need-sign_from-k-requires
 sign-from-requires c κs =
     let p = c.before.before.before.before.before in
     gap_ends p.args.s.now p.args.at p.requires.0 p.requires.1
 
-add-kc-at : tie.Need-overflow-add-kc-at
+add-kc-at : tie.Need-overflow_add-k
 add-kc-at c =
     let p = c.before.before.before.before.before.before.before in
-    record { fits = omega (arith, sign_size p.args.s.now 0x4b 0x43 c.before.sign-from.result (c.before.sign-from.ensures.there c.if2.true), p.well-formed.0.0) }
+    record { fits = omega (arith, sign_size p.args.s.now 0x4b 0x43 c.sign_from-k.result (c.sign_from-k.ensures.there c.if-k-stop.true), p.well_formed.0.0) }
 
-kc-at-requires-2 : tie.Need-kc-at-requires-2
+kc-at-requires-2 : tie.Need-kc_at-requires-then-k-stop
 kc-at-requires-2 c κs =
     let p = c.before.before.before.before.before.before.before in
-    omega (arith, sign_size p.args.s.now 0x4b 0x43 c.before.sign-from.result (c.before.sign-from.ensures.there c.if2.true))
+    omega (arith, sign_size p.args.s.now 0x4b 0x43 c.sign_from-k.result (c.sign_from-k.ensures.there c.if-k-stop.true))
 
-returns-2 : tie.Need-returns-2
+returns-2 : tie.Need-returns-then-k-stop
 returns-2 c =
     let found = c.before.before in
     let p = found.before.before.before.before.before.before in
     λ n.
-    kc_sign p.args.s.now p.args.at p.requires.0 p.requires.1 found.sign-from.ensures (starts-there found.before.before ∙ found.before.if1.false) c.before.if2.true n
-    ∙ sym c.kc-at2.ensures
+    kc_sign p.args.s.now p.args.at p.requires.0 p.requires.1 found.sign_from-k.ensures (starts-there found.before.before ∙ found.if-starts.false) c.if-k-stop.true n
+    ∙ sym c.kc_at-then-k-stop.ensures
 
-returns-3 : tie.Need-returns-3
+returns-3 : tie.Need-returns
 returns-3 c =
     let found = c.before in
     let p = found.before.before.before.before.before.before in
-    kc_nowhere p.args.s.now p.args.at p.requires.0 p.requires.1 found.sign-from.ensures (starts-there found.before.before ∙ found.before.if1.false) c.if2.false
+    kc_nowhere p.args.s.now p.args.at p.requires.0 p.requires.1 found.sign_from-k.ensures (starts-there found.before.before ∙ found.if-starts.false) c.if-k-stop.false
 
-pub kc-within-spec : {M : Type 1} → statement M
-kc-within-spec =
+pub kc_within_spec : {M : Type 1} → statement M
+kc_within_spec =
     tie.close
     (tie.spec
-    (λ c. search rules)
     (λ c. search rules)
     (λ c. search rules)
     (λ c. search rules)

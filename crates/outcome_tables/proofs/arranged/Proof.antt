@@ -28,38 +28,38 @@ by_two : (p : tie.Start) → let a = p.args in
     cond (ltb a.outcome 6) (three a.x a.y no_code) (three a.x a.x a.y) ≡ codes false a.outcome a.x a.y a.z
 by_two p = let a = p.args in of_two a.x a.y a.z a.outcome p.requires.0 p.requires.1
 
-returns : tie.Need-returns
+returns : tie.Need-returns-then-outcome-lt3
 returns c =
     let b = c.before in
     let i = b.before in
-    c.three.ensures ∙ rw i.if1.true (rw (lt-ltb _ 3 b.if2.true) at (by_three i.before))
+    c.three.ensures ∙ rw i.if-trilateral.true (rw (lt-ltb _ 3 b.if-outcome-lt3.true) at (by_three i.before))
 
-returns-2 : tie.Need-returns-2
+returns-2 : tie.Need-returns-then-outcome-lt5
 returns-2 c =
     let b = c.before in
     let i = b.before.before in
-    c.three2.ensures ∙ rw i.if1.true (rw (le-ltb _ 3 b.before.if2.false, lt-ltb _ 5 b.if3.true) at (by_three i.before))
+    c.three-then-outcome-lt5.ensures ∙ rw i.if-trilateral.true (rw (le-ltb _ 3 b.before.if-outcome-lt3.false, lt-ltb _ 5 b.if-outcome-lt5.true) at (by_three i.before))
 
-returns-3 : tie.Need-returns-3
+returns-3 : tie.Need-returns-then-trilateral
 returns-3 c =
     let b = c.before in
     let i = b.before.before in
-    c.three3.ensures ∙ rw i.if1.true (rw (le-ltb _ 3 b.before.if2.false, le-ltb _ 5 b.if3.false) at (by_three i.before))
+    c.three-then-trilateral.ensures ∙ rw i.if-trilateral.true (rw (le-ltb _ 3 b.before.if-outcome-lt3.false, le-ltb _ 5 b.if-outcome-lt5.false) at (by_three i.before))
 
-returns-4 : tie.Need-returns-4
+returns-4 : tie.Need-returns-then-outcome-lt6
 returns-4 c =
     let b = c.before in
     let i = b.before in
-    c.three4.ensures ∙ rw i.if1.false (rw (lt-ltb _ 6 b.if4.true) at (by_two i.before))
+    c.three-then-outcome-lt6.ensures ∙ rw i.if-trilateral.false (rw (lt-ltb _ 6 b.if-outcome-lt6.true) at (by_two i.before))
 
-returns-5 : tie.Need-returns-5
+returns-5 : tie.Need-returns
 returns-5 c =
     let b = c.before in
     let i = b.before in
-    c.three5.ensures ∙ rw i.if1.false (rw (le-ltb _ 6 b.if4.false) at (by_two i.before))
+    c.three-2.ensures ∙ rw i.if-trilateral.false (rw (le-ltb _ 6 b.if-outcome-lt6.false) at (by_two i.before))
 
-pub arranged-spec : {M : Type 1} → statement M
-arranged-spec =
+pub arranged_spec : {M : Type 1} → statement M
+arranged_spec =
     tie.close
     (tie.spec
     (λ c κs. search rules)

@@ -8,62 +8,62 @@ use borrow.Author.Rules.{rules}
 use Rattle.outgoing_lines.proofs.size_of.Statement.{statement}
 use Rattle.outgoing_lines.proofs.size_of.Tie as tie
 
-abbrev invariant-loop : tie.invariant-loop
-invariant-loop s outcomes size₀ k₀ o₀ at₀ size k o at = Sizing s outcomes size k o at
+abbrev invariant-loop-at : tie.invariant-loop-at
+invariant-loop-at s outcomes size₀ k₀ o₀ at₀ size k o at = Sizing s outcomes size k o at
 
-abbrev decreases-loop : tie.decreases-loop
-decreases-loop s outcomes size₀ k₀ o₀ at₀ size k o at = length s - at
+abbrev decreases-loop-at : tie.decreases-loop-at
+decreases-loop-at s outcomes size₀ k₀ o₀ at₀ size k o at = length s - at
 
 -- the line that was found
-next-line : (c : tie.After-line-at invariant-loop decreases-loop) → IsNext c.before.before.before.before.before.args.s.now c.before.before.loop.at c.line_at_lem.result
-next-line c = is_next _ _ _ c.line_at_lem.ensures c.before.loop-test.true
+next-line : (c : tie.After-line_at-f invariant-loop-at decreases-loop-at) → IsNext c.args.s.now c.loop-at.at c.line_at-f.result
+next-line c = is_next _ _ _ c.line_at-f.ensures c.loop-at-test.true
 
-loop-holds : tie.Need-loop-init invariant-loop decreases-loop
+loop-holds : tie.Need-loop-at-init invariant-loop-at decreases-loop-at
 loop-holds c = size_start _ _
 
-sub-kind-of : tie.Need-overflow-sub-kind-of invariant-loop decreases-loop
+sub-kind-of : tie.Need-slice_bounds-kind_of-count invariant-loop-at decreases-loop-at
 sub-kind-of c = omega (arith, (next-line c).starts, (next-line c).closes, (next-line c).within)
 
-part-kind-of-start : tie.Need-slice-bounds-kind-of-start invariant-loop decreases-loop
+part-kind-of-start : tie.Need-slice_bounds-kind_of-start invariant-loop-at decreases-loop-at
 part-kind-of-start c = omega (arith, (next-line c).starts, (next-line c).closes, (next-line c).within)
 
-part-kind-of-end : tie.Need-slice-bounds-kind-of-end invariant-loop decreases-loop
+part-kind-of-end : tie.Need-slice_bounds-kind_of-end invariant-loop-at decreases-loop-at
 part-kind-of-end c = omega (arith, (next-line c).starts, (next-line c).closes, (next-line c).within)
 
-sub-line-size : tie.Need-overflow-sub-line-size invariant-loop decreases-loop
+sub-line-size : tie.Need-slice_bounds-line_size-count invariant-loop-at decreases-loop-at
 sub-line-size c = let n = next-line c.before.before in omega (arith, n.starts, n.closes, n.within)
 
-part-line-size-start : tie.Need-slice-bounds-line-size-start invariant-loop decreases-loop
+part-line-size-start : tie.Need-slice_bounds-line_size-start invariant-loop-at decreases-loop-at
 part-line-size-start c = let n = next-line c.before.before in omega (arith, n.starts, n.closes, n.within)
 
-part-line-size-end : tie.Need-slice-bounds-line-size-end invariant-loop decreases-loop
+part-line-size-end : tie.Need-slice_bounds-line_size-end invariant-loop-at decreases-loop-at
 part-line-size-end c = let n = next-line c.before.before in omega (arith, n.starts, n.closes, n.within)
 
-grown-requires : tie.Need-grown-requires invariant-loop decreases-loop
-grown-requires c κs = c.before.before.before.before.before.before.loop.invariant.small
+grown-requires : tie.Need-grown-size-requires invariant-loop-at decreases-loop-at
+grown-requires c κs = c.loop-at.invariant.small
 
-count-in-requires : tie.Need-count-in-requires invariant-loop decreases-loop
-count-in-requires c κs = omega (arith, c.before.before.before.before.before.before.before.before.loop.invariant.few, c.before.before.before.before.before.before.before.loop-test.true)
+count-in-requires : tie.Need-count_in-k-requires invariant-loop-at decreases-loop-at
+count-in-requires c κs = omega (arith, c.loop-at.invariant.few, c.loop-at-test.true)
 
-loop-less : tie.Need-loop-smaller invariant-loop decreases-loop
+loop-less : tie.Need-loop-at-smaller invariant-loop-at decreases-loop-at
 loop-less c = let n = next-line c.before.before.before.before.before.before.before in omega (arith, n.moves, n.within)
 
-loop-again : tie.Need-loop-preserved invariant-loop decreases-loop
+loop-again : tie.Need-loop-at-preserved invariant-loop-at decreases-loop-at
 loop-again c =
     let g = c.before.before in
     let k = g.before.before.before in
     let f = k.before.before in
-    size_more _ _ f.before.before.loop.invariant (next-line f) k.kind_of_lem.ensures g.before.line-size.ensures g.grown.ensures c.count-in.ensures c.before.outcome-in.ensures
+    size_more _ _ f.loop-at.invariant (next-line c.before.before.before.before.before.before.before) k.kind_of-kind.ensures g.line_size.ensures g.grown-size.ensures c.count_in-k.ensures c.outcome_in-o.ensures
 
-returns : tie.Need-returns invariant-loop decreases-loop
-returns c = λ standings start. size_end _ _ c.before.loop.invariant c.loop-test.false standings start
+returns : tie.Need-returns invariant-loop-at decreases-loop-at
+returns c = λ standings start. size_end _ _ c.loop-at.invariant c.loop-at-test.false standings start
 
-pub size-of-spec : {M : Type 1} → statement M
-size-of-spec =
+pub size_of_spec : {M : Type 1} → statement M
+size_of_spec =
     tie.close
     (tie.spec
-    invariant-loop
-    decreases-loop
+    invariant-loop-at
+    decreases-loop-at
     loop-holds
     (λ c κs. search rules)
     sub-kind-of

@@ -1,5 +1,4 @@
 use mathlib.Core.Path.{◌≡◌, refl, sym, ap, ◌∙◌}
-use mathlib.Core.Logic.{⊎_elim}
 use mathlib.Core.Bool.{true}
 use mathlib.Core.List.{List, ◌++◌}
 use Prim.Native.Nat.{suc, ◌+◌, ◌-◌, ◌≤◌, ◌<◌, ◌^◌}
@@ -22,398 +21,409 @@ use Rattle.pass.proofs.Walk.{own_at, claims_kept, groups_took, groups_left, shut
 use Rattle.pass.proofs.Feeding.{Feeding, bounded_room, bounded_tail, feed_start, feed_close, feed_end, feed_other, feed_more, feed_field, feed_head}
 use borrow.Author.Rules.{rules}
 use Rattle.pass.proofs.feed.Statement.{statement}
+use Rattle.pass.proofs.feed.Lts.{then-open-ge5, else-open-ge5, then-open-ge5-2, else-open-ge5-2, then-reads-h, else-reads-h}
 use Rattle.pass.proofs.feed.Tie as tie
 
-abbrev invariant-loop : tie.invariant-loop
-invariant-loop s base basis lines₀ rules₀ offsets₀ stood₀ places table codes g₀ open₀ pend₀ since₀ top₀ reads₀ h₀ kc₀ span₀ stated₀ course₀ counts₀ sums₀ wait₀ starts₀ at₀ n₀ lines rules offsets stood g «open» pend since top reads h kc span stated course counts sums wait starts at n =
+abbrev invariant-loop-at : tie.invariant-loop-at
+invariant-loop-at s base basis lines₀ rules₀ offsets₀ stood₀ places table codes g₀ open₀ pend₀ since₀ top₀ reads₀ h₀ kc₀ span₀ stated₀ course₀ counts₀ sums₀ wait₀ starts₀ at₀ n₀ lines rules offsets stood g «open» pend since top reads h kc span stated course counts sums wait starts at n =
     Feeding s base basis lines₀ rules₀ offsets₀ stood₀ (record { ledger = g₀; field = open₀; pend = pend₀; since = since₀; top = top₀; reads = reads₀; heading = h₀; kc = kc₀; span = span₀; stated = stated₀; block = block_of course₀ counts₀ sums₀; wait = wait₀; starts = starts₀; n = n₀ })
     lines rules offsets stood (record { ledger = g; field = «open»; pend = pend; since = since; top = top; reads = reads; heading = h; kc = kc; span = span; stated = stated; block = block_of course counts sums; wait = wait; starts = starts; n = n }) at
 
-abbrev decreases-loop : tie.decreases-loop
-decreases-loop s base basis lines₀ rules₀ offsets₀ stood₀ places table codes g₀ open₀ pend₀ since₀ top₀ reads₀ h₀ kc₀ span₀ stated₀ course₀ counts₀ sums₀ wait₀ starts₀ at₀ n₀ lines rules offsets stood g «open» pend since top reads h kc span stated course counts sums wait starts at n =
+abbrev decreases-loop-at : tie.decreases-loop-at
+decreases-loop-at s base basis lines₀ rules₀ offsets₀ stood₀ places table codes g₀ open₀ pend₀ since₀ top₀ reads₀ h₀ kc₀ span₀ stated₀ course₀ counts₀ sums₀ wait₀ starts₀ at₀ n₀ lines rules offsets stood g «open» pend since top reads h kc span stated course counts sums wait starts at n =
     length s - at
 
 -- the line that was found
-next : (c : tie.After-line-from invariant-loop decreases-loop) → IsNext c.before.before.before.before.before.before.before.before.before.before.before.before.before.before.before.before.before.before.before.before.before.args.s.now c.before.before.loop.at c.line-from.result
-next c = is_next _ _ _ c.line-from.ensures c.before.loop-test.true
+next : (c : tie.After-line_from-f invariant-loop-at decreases-loop-at) → IsNext c.args.s.now c.loop-at.at c.line_from-f.result
+next c = is_next _ _ _ c.line_from-f.ensures c.loop-at-test.true
 
 -- the text, and what is counted with, are within their bounds
-within : (c : tie.After-line-from invariant-loop decreases-loop) → c.before.before.before.before.before.before.before.before.before.before.before.before.before.before.before.before.before.before.before.before.before.args.base + c.before.before.loop.at ≤ 10000000
-within c = omega (arith, c.before.before.loop.invariant.to, c.before.before.before.before.before.before.before.before.before.before.before.before.before.before.before.before.before.before.before.before.before.requires.0)
+within : (c : tie.After-line_from-f invariant-loop-at decreases-loop-at) → c.args.base + c.loop-at.at ≤ 10000000
+within c = omega (arith, c.loop-at.invariant.to, c.requires.0)
 
 -- marks 1 and 4 of it
-own_is : (c : tie.After-line-marks invariant-loop decreases-loop)
-    → c.line-marks.result ≡ line_marks (record { no = suc c.before.before.before.before.before.before.loop.n; bytes = span c.before.before.before.before.before.before.loop.at c.before.before.before.before.line-from.result.end c.before.before.before.before.before.before.before.before.before.before.before.before.before.before.before.before.before.before.before.before.before.before.before.before.before.args.s.now; ended = c.before.before.before.before.line-from.result.ended })
-own_is c = own_at (next c.before.before.before.before) _ c.before.holds-inadmissible.ensures c.line-marks.ensures.0
+own_is : (c : tie.After-line_marks-own invariant-loop-at decreases-loop-at)
+    → c.line_marks-own.result ≡ line_marks (record { no = suc c.loop-at.n; bytes = span c.loop-at.at c.line_from-f.result.end c.args.s.now; ended = c.line_from-f.result.ended })
+own_is c = own_at (next c.before.before.before.before) _ c.holds_inadmissible-bad.ensures c.line_marks-own.ensures.0
 
 -- the claims are touched only where the open field makes one
-claims-at-heading : (c : tie.Joined1 invariant-loop decreases-loop) → let at-loop = c.before.before.before.before.before.before.before.before.before.before.before.before.before in (c.if1.span ≡ span_closed at-loop.loop.span at-loop.loop.«open» at-loop.loop.pend) × (c.if1.stated ≡ stated_closed at-loop.loop.stated at-loop.loop.«open» at-loop.loop.pend)
+claims-at-heading : (c : tie.Joined-open-ge5 invariant-loop-at decreases-loop-at)
+    → (c.if-open-ge5.span ≡ span_closed c.loop-at.span c.loop-at.«open» c.loop-at.pend) × (c.if-open-ge5.stated ≡ stated_closed c.loop-at.stated c.loop-at.«open» c.loop-at.pend)
 claims-at-heading c =
-    let at-loop = c.before.before.before.before.before.before.before.before.before.before.before.before.before in
-    ⊎_elim (λ w. (w.3 ∙ w.1.ensures, w.4 ∙ w.2.ensures))
-    (λ w. let kept = claims_kept at-loop.loop.«open» at-loop.loop.pend at-loop.loop.span at-loop.loop.stated w.0.left in (w.1 ∙ kept.0, w.2 ∙ kept.1)) c.if1.branch
+    elim c.if-open-ge5.branch [
+      | then-open-ge5 w ↦ (w.span-is ∙ w.span_closed-span.ensures, w.stated-is ∙ w.stated_closed-stated.ensures)
+      | else-open-ge5 w ↦
+          let kept = claims_kept c.loop-at.«open» c.loop-at.pend c.loop-at.span c.loop-at.stated w.if-open-ge5.false in
+          (w.span-is ∙ kept.0, w.stated-is ∙ kept.1)
+    ]
 
-claims-at-field : (c : tie.Joined3 invariant-loop decreases-loop) → let at-loop = c.before.before.before.before.before.before.before.before.before.before.before.before.before.before.before.before.before.before.before.before.before.before.before.before in (c.if3.span ≡ span_closed at-loop.loop.span at-loop.loop.«open» at-loop.loop.pend) × (c.if3.stated ≡ stated_closed at-loop.loop.stated at-loop.loop.«open» at-loop.loop.pend)
+claims-at-field : (c : tie.Joined-open-ge5-2 invariant-loop-at decreases-loop-at)
+    → (c.if-open-ge5-2.span ≡ span_closed c.loop-at.span c.loop-at.«open» c.loop-at.pend) × (c.if-open-ge5-2.stated ≡ stated_closed c.loop-at.stated c.loop-at.«open» c.loop-at.pend)
 claims-at-field c =
-    let at-loop = c.before.before.before.before.before.before.before.before.before.before.before.before.before.before.before.before.before.before.before.before.before.before.before.before in
-    ⊎_elim (λ w. (w.3 ∙ w.1.ensures, w.4 ∙ w.2.ensures))
-    (λ w. let kept = claims_kept at-loop.loop.«open» at-loop.loop.pend at-loop.loop.span at-loop.loop.stated w.0.left in (w.1 ∙ kept.0, w.2 ∙ kept.1)) c.if3.branch
+    elim c.if-open-ge5-2.branch [
+      | then-open-ge5-2 w ↦ (w.span-is ∙ w.span_closed-span-then-open-ge5-2.ensures, w.stated-is ∙ w.stated_closed-stated-then-open-ge5-2.ensures)
+      | else-open-ge5-2 w ↦
+          let kept = claims_kept c.loop-at.«open» c.loop-at.pend c.loop-at.span c.loop-at.stated w.if-open-ge5-2.false in
+          (w.span-is ∙ kept.0, w.stated-is ∙ kept.1)
+    ]
 
 -- 30 to 39 of the item that closes, and how many they are at most
-groups_are : (c : tie.Joined2 invariant-loop decreases-loop)
-    → (c.if2.groups ≡ groups_on c.before.before.before.before.before.before.before.before.before.before.before.before.before.before.before.loop.counts c.before.before.before.before.before.before.before.before.before.before.before.before.before.before.before.loop.sums c.before.before.if1.stated (read_as c.before.before.before.before.before.before.before.before.before.before.before.before.before.before.before.loop.reads c.before.before.before.before.before.before.before.before.before.before.before.before.before.before.before.loop.h))
-    × (c.if2.groups ≤ 2 ^ 40 - 2 ^ 30)
+groups_are : (c : tie.Joined-reads-h invariant-loop-at decreases-loop-at)
+    → (c.if-reads-h.groups ≡ groups_on c.loop-at.counts c.loop-at.sums c.if-open-ge5.stated (read_as c.loop-at.reads c.loop-at.h))
+    × (c.if-reads-h.groups ≤ 2 ^ 40 - 2 ^ 30)
 groups_are c =
-    let at-loop = c.before.before.before.before.before.before.before.before.before.before.before.before.before.before.before in
-    let stated = c.before.before.if1.stated in
-    ⊎_elim (λ w. (groups_took at-loop.loop.counts at-loop.loop.sums stated at-loop.loop.reads at-loop.loop.h w.0.taken (w.2 ∙ w.1.ensures.0), omega (arith, w.2, w.1.ensures.1)))
-    (λ w. (groups_left at-loop.loop.counts at-loop.loop.sums stated at-loop.loop.reads at-loop.loop.h w.0.left w.1, omega (arith, w.1))) c.if2.branch
+    let l = c.loop-at in
+    let stated = c.if-open-ge5.stated in
+    elim c.if-reads-h.branch [
+      | then-reads-h w ↦ (
+        groups_took l.counts l.sums stated l.reads l.h w.if-reads-h.true (w.groups-is ∙ w.group_marks_of-groups.ensures.0),
+        omega (arith, w.groups-is, w.group_marks_of-groups.ensures.1),
+      )
+      | else-reads-h w ↦ (groups_left l.counts l.sums stated l.reads l.h w.if-reads-h.false w.groups-is, omega (arith, w.groups-is))
+    ]
 
-places-requires : tie.Need-places-requires invariant-loop decreases-loop
+places-requires : tie.Need-places-places-requires invariant-loop-at decreases-loop-at
 places-requires c κs = search rules
 
-table-requires : tie.Need-table-requires invariant-loop decreases-loop
+table-requires : tie.Need-table-table-requires invariant-loop-at decreases-loop-at
 table-requires c κs = search rules
 
-codes-requires : tie.Need-codes-requires invariant-loop decreases-loop
+codes-requires : tie.Need-codes-codes-requires invariant-loop-at decreases-loop-at
 codes-requires c κs = search rules
 
-course-of-requires : tie.Need-course-of-requires invariant-loop decreases-loop
+course-of-requires : tie.Need-course_of-course-requires invariant-loop-at decreases-loop-at
 course-of-requires c κs = search rules
 
-loop-holds : tie.Need-loop-init invariant-loop decreases-loop
+loop-holds : tie.Need-loop-at-init invariant-loop-at decreases-loop-at
 loop-holds c =
-    feed_start c.before.before.before.before.before.before.before.before.before.before.before.before.before.before.before.before.before.before.requires.1
+    feed_start c.requires.1
 
-line-from-requires : tie.Need-line-from-requires invariant-loop decreases-loop
+line-from-requires : tie.Need-line_from-f-requires invariant-loop-at decreases-loop-at
 line-from-requires c κs = search rules
 
-cast-here : tie.Need-overflow-cast-here invariant-loop decreases-loop
+cast-here : tie.Need-overflow_cast-here invariant-loop-at decreases-loop-at
 cast-here c =
     omega (arith, within c)
 
-add-here : tie.Need-overflow-add-here invariant-loop decreases-loop
+add-here : tie.Need-overflow_add-here invariant-loop-at decreases-loop-at
 add-here c =
     omega (arith, within c)
 
-add-n : tie.Need-overflow-add-n invariant-loop decreases-loop
+add-n : tie.Need-overflow_add-n invariant-loop-at decreases-loop-at
 add-n c =
-    omega (arith, c.before.before.loop.invariant.bounded.few, within c)
+    omega (arith, c.loop-at.invariant.bounded.few, within c)
 
-sub-holds-inadmissible : tie.Need-overflow-sub-holds-inadmissible invariant-loop decreases-loop
+sub-holds-inadmissible : tie.Need-slice_bounds-holds_inadmissible-count invariant-loop-at decreases-loop-at
 sub-holds-inadmissible c =
     let found = next c.before in
     omega (arith, found.starts, found.closes, found.within)
 
-part-holds-inadmissible-start : tie.Need-slice-bounds-holds-inadmissible-start invariant-loop decreases-loop
+part-holds-inadmissible-start : tie.Need-slice_bounds-holds_inadmissible-start invariant-loop-at decreases-loop-at
 part-holds-inadmissible-start c =
     let found = next c.before in
     omega (arith, found.starts, found.closes, found.within)
 
-part-holds-inadmissible-end : tie.Need-slice-bounds-holds-inadmissible-end invariant-loop decreases-loop
+part-holds-inadmissible-end : tie.Need-slice_bounds-holds_inadmissible-end invariant-loop-at decreases-loop-at
 part-holds-inadmissible-end c =
     let found = next c.before in
     omega (arith, found.starts, found.closes, found.within)
 
-holds-inadmissible-requires : tie.Need-holds-inadmissible-requires invariant-loop decreases-loop
+holds-inadmissible-requires : tie.Need-holds_inadmissible-bad-requires invariant-loop-at decreases-loop-at
 holds-inadmissible-requires c κs =
-    c.before.before.before.before.before.before.before.before.before.before.before.before.before.before.before.before.before.table.ensures
+    c.table-table.ensures
 
-line-marks-requires : tie.Need-line-marks-requires invariant-loop decreases-loop
+line-marks-requires : tie.Need-line_marks-own-requires invariant-loop-at decreases-loop-at
 line-marks-requires c κs = search rules
 
-sub-kind-from : tie.Need-overflow-sub-kind-from invariant-loop decreases-loop
+sub-kind-from : tie.Need-slice_bounds-kind_from-count invariant-loop-at decreases-loop-at
 sub-kind-from c =
     let found = next c.before.before.before.before.before in
     omega (arith, found.starts, found.closes, found.within)
 
-part-kind-from-start : tie.Need-slice-bounds-kind-from-start invariant-loop decreases-loop
+part-kind-from-start : tie.Need-slice_bounds-kind_from-start invariant-loop-at decreases-loop-at
 part-kind-from-start c =
     let found = next c.before.before.before.before.before in
     omega (arith, found.starts, found.closes, found.within)
 
-part-kind-from-end : tie.Need-slice-bounds-kind-from-end invariant-loop decreases-loop
+part-kind-from-end : tie.Need-slice_bounds-kind_from-end invariant-loop-at decreases-loop-at
 part-kind-from-end c =
     let found = next c.before.before.before.before.before in
     omega (arith, found.starts, found.closes, found.within)
 
-kind-from-requires : tie.Need-kind-from-requires invariant-loop decreases-loop
+kind-from-requires : tie.Need-kind_from-x-requires invariant-loop-at decreases-loop-at
 kind-from-requires c κs =
-    c.before.before.before.before.before.before.before.before.before.before.before.before.before.before.before.before.before.before.before.before.before.before.places.ensures
+    c.places-places.ensures
 
-enum_told : tie.Need-enum-told invariant-loop decreases-loop
+enum_told : tie.Need-enum_told-1 invariant-loop-at decreases-loop-at
 enum_told c = search rules
 
-span-closed-requires : tie.Need-span-closed-requires invariant-loop decreases-loop
+span-closed-requires : tie.Need-span_closed-span-requires invariant-loop-at decreases-loop-at
 span-closed-requires c κs = search rules
 
-stated-closed-requires : tie.Need-stated-closed-requires invariant-loop decreases-loop
+stated-closed-requires : tie.Need-stated_closed-stated-requires invariant-loop-at decreases-loop-at
 stated-closed-requires c κs = search rules
 
-group-marks-of-requires : tie.Need-group-marks-of-requires invariant-loop decreases-loop
+group-marks-of-requires : tie.Need-group_marks_of-groups-requires invariant-loop-at decreases-loop-at
 group-marks-of-requires c κs = search rules
 
-shut-all-requires : tie.Need-shut-all-requires invariant-loop decreases-loop
+shut-all-requires : tie.Need-shut_all-t-requires invariant-loop-at decreases-loop-at
 shut-all-requires c κs =
-    let B = c.before.before.before.before.before.before.before.before.before.before.before.before.before.before.before.before.before.before.loop.invariant.bounded in
-    let room = bounded_room (within c.before.before.before.before.before.before.before.before.before.before.before.before.before.before.before.before) B in
+    let B = c.loop-at.invariant.bounded in
+    let room = bounded_room (within c.before.before.before.before.before.before.before.before.before.before.before.before.before.before.before) B in
     (B.ready, (B.level, (omega (arith, room), B.calm, B.top_few, (groups_are c.before.before.before).1)))
 
-count-item-requires : tie.Need-count-item-requires invariant-loop decreases-loop
+count-item-requires : tie.Need-count_item-requires invariant-loop-at decreases-loop-at
 count-item-requires c κs = search rules
 
-no-sums-requires : tie.Need-no-sums-requires invariant-loop decreases-loop
+no-sums-requires : tie.Need-no_sums-stated-requires invariant-loop-at decreases-loop-at
 no-sums-requires c κs = search rules
 
-none-open-requires : tie.Need-none-open-requires invariant-loop decreases-loop
+none-open-requires : tie.Need-none_open-open-requires invariant-loop-at decreases-loop-at
 none-open-requires c κs = search rules
 
-sub_read : tie.Need-overflow-sub-read invariant-loop decreases-loop
+sub_read : tie.Need-slice_bounds-read-count invariant-loop-at decreases-loop-at
 sub_read c =
-    let found = next c.before.before.before.before.before.before.before.before.before.before.before.before.before.before.before.before.before.before.before.before.before.before.before.before.before.before.before.before.before.before.before in
+    let found = next c.before.before.before.before.before.before.before.before.before.before.before.before.before.before.before.before.before.before.before.before.before.before.before.before.before.before.before.before.before.before in
     omega (arith, found.starts, found.closes, found.within)
 
-part-read-start : tie.Need-slice-bounds-read-start invariant-loop decreases-loop
+part-read-start : tie.Need-slice_bounds-read-start invariant-loop-at decreases-loop-at
 part-read-start c =
-    let found = next c.before.before.before.before.before.before.before.before.before.before.before.before.before.before.before.before.before.before.before.before.before.before.before.before.before.before.before.before.before.before.before in
+    let found = next c.before.before.before.before.before.before.before.before.before.before.before.before.before.before.before.before.before.before.before.before.before.before.before.before.before.before.before.before.before.before in
     omega (arith, found.starts, found.closes, found.within)
 
-part-read-end : tie.Need-slice-bounds-read-end invariant-loop decreases-loop
+part-read-end : tie.Need-slice_bounds-read-end invariant-loop-at decreases-loop-at
 part-read-end c =
-    let found = next c.before.before.before.before.before.before.before.before.before.before.before.before.before.before.before.before.before.before.before.before.before.before.before.before.before.before.before.before.before.before.before in
+    let found = next c.before.before.before.before.before.before.before.before.before.before.before.before.before.before.before.before.before.before.before.before.before.before.before.before.before.before.before.before.before.before in
     omega (arith, found.starts, found.closes, found.within)
 
-read-requires : tie.Need-read-requires invariant-loop decreases-loop
+read-requires : tie.Need-read-read-requires invariant-loop-at decreases-loop-at
 read-requires c κs = search rules
 
-heading-in-requires : tie.Need-heading-in-requires invariant-loop decreases-loop
+heading-in-requires : tie.Need-heading_in-h-requires invariant-loop-at decreases-loop-at
 heading-in-requires c κs = search rules
 
-does-read-requires : tie.Need-does-read-requires invariant-loop decreases-loop
+does-read-requires : tie.Need-does_read-reads-requires invariant-loop-at decreases-loop-at
 does-read-requires c κs = search rules
 
-loop-less : tie.Need-loop-smaller invariant-loop decreases-loop
+loop-less : tie.Need-loop-at-smaller-in-Heading invariant-loop-at decreases-loop-at
 loop-less c =
-    let found = next c.before.before.before.before.before.before.before.before.before.before.before.before.before.before.before.before.before.before.before.before.before.before.before.before.before.before.before.before.before.before.before.before.before.before.before in
+    let found = next c.before.before.before.before.before.before.before.before.before.before.before.before.before.before.before.before.before.before.before.before.before.before.before.before.before.before.before.before.before.before.before.before.before.before in
     omega (arith, found.moves, found.within)
 
-loop-again : tie.Need-loop-preserved invariant-loop decreases-loop
+loop-again : tie.Need-loop-at-preserved-in-Heading invariant-loop-at decreases-loop-at
 loop-again c =
-    let shut = c.before.before.before.before.before.before.before.before.before.before.before.before.before.before.before.before.before.before.shut-all.ensures in
-    let counted = c.before.before.before.before.before.before.before.before.before.count-item.ensures in
-    let here = c.before.before.before.before.before.before.before.before.before.before.before.before.before.before.before.before.before.before.before.before.before.before.before.before.before.before.before.before.before.before.before.before.before.before.before.before.before.loop in
-    let basis = c.before.before.before.before.before.before.before.before.before.before.before.before.before.before.before.before.before.before.before.before.before.before.before.before.before.before.before.before.before.before.before.before.before.before.before.before.before.before.before.before.before.before.before.before.before.before.before.before.before.before.before.before.before.before.before.before.args.basis in
+    let shut = c.shut_all-t.ensures in
+    let counted = c.count_item.ensures in
+    let here = c.loop-at in
+    let basis = c.args.basis in
     let read = read_as here.reads here.h in
     let closes = claims-at-heading c.before.before.before.before.before.before.before.before.before.before.before.before.before.before.before.before.before.before.before.before.before.before.before.before in
-    let claims : claims_as here.kc c.before.before.before.before.before.before.before.before.before.before.before.before.before.before.before.before.before.before.before.before.before.before.before.before.if1.span c.before.before.before.before.before.before.before.before.before.before.before.before.before.before.before.before.before.before.before.before.before.before.before.before.if1.stated ≡ close_claims (claims_as here.kc here.span here.stated) here.«open» here.pend = λ i. claims_as here.kc (closes.0 i) (closes.1 i) in
+    let claims : claims_as here.kc c.if-open-ge5.span c.if-open-ge5.stated ≡ close_claims (claims_as here.kc here.span here.stated) here.«open» here.pend = λ i. claims_as here.kc (closes.0 i) (closes.1 i) in
     let groups = (groups_are c.before.before.before.before.before.before.before.before.before.before.before.before.before.before.before.before.before.before.before.before.before.before).0 in
-    feed_head c.before.before.before.before.before.before.before.before.before.before.before.before.before.before.before.before.before.before.before.before.before.before.before.before.before.before.before.before.before.before.before.before.before.before.before.before.before.loop.invariant (next c.before.before.before.before.before.before.before.before.before.before.before.before.before.before.before.before.before.before.before.before.before.before.before.before.before.before.before.before.before.before.before.before.before.before.before) c.before.before.before.before.before.before.before.before.before.before.before.before.before.before.before.before.before.before.before.before.before.before.before.before.before.before.before.before.kind-from.ensures (own_is c.before.before.before.before.before.before.before.before.before.before.before.before.before.before.before.before.before.before.before.before.before.before.before.before.before.before.before.before.before.before.before) c.before.before.before.before.before.before.before.before.before.before.before.before.before.before.before.before.before.before.before.before.before.before.before.before.before.before.enum_told.given.1 c.before.before.read.ensures.1 c.before.before.before.before.none_open.ensures c.before.heading-in.ensures c.does-read.ensures c.before.before.before.before.before.no-sums.ensures
+    feed_head c.loop-at.invariant (next c.before.before.before.before.before.before.before.before.before.before.before.before.before.before.before.before.before.before.before.before.before.before.before.before.before.before.before.before.before.before.before.before.before.before) c.kind_from-x.ensures (own_is c.before.before.before.before.before.before.before.before.before.before.before.before.before.before.before.before.before.before.before.before.before.before.before.before.before.before.before.before.before.before) c.in-Heading.is c.read-read.ensures.1 c.none_open-open.ensures c.heading_in-h.ensures c.does_read-reads.ensures c.no_sums-stated.ensures
     (shut_block basis here.course here.counts here.sums here.wait here.since here.top read claims groups shut.1.0.0 counted.0 counted.1)
     (shut_wait basis here.course here.counts here.sums here.wait here.since here.top read claims groups shut.1.0.1) shut.1.0.2
-    (entered_list (ap (λ (xs : List Fault). marked here.«open».no here.«open».marks ++ xs) (shut_faults basis here.course here.counts here.sums here.wait here.since here.top read claims groups)) shut.0) shut.1.1.0 shut.1.1.1 c.before.before.before.before.before.before.before.before.before.before.before.before.before.before.before.before.before.before.shut-all.auto.1.1.0
+    (entered_list (ap (λ (xs : List Fault). marked here.«open».no here.«open».marks ++ xs) (shut_faults basis here.course here.counts here.sums here.wait here.since here.top read claims groups)) shut.0) shut.1.1.0 shut.1.1.1 c.shut_all-t.auto.offsets
 
-enum-told-2 : tie.Need-enum-told-2 invariant-loop decreases-loop
+enum-told-2 : tie.Need-enum_told-in-Continuation invariant-loop-at decreases-loop-at
 enum-told-2 c = search rules
 
-low-marks-requires : tie.Need-low-marks-requires invariant-loop decreases-loop
+low-marks-requires : tie.Need-low_marks-requires invariant-loop-at decreases-loop-at
 low-marks-requires c κs = search rules
 
-enter-requires : tie.Need-enter-requires invariant-loop decreases-loop
+enter-requires : tie.Need-enter-g-requires invariant-loop-at decreases-loop-at
 enter-requires c κs =
-    let B = c.before.before.before.before.before.before.before.before.before.before.before.before.before.before.before.loop.invariant.bounded in
-    let room = bounded_room (within c.before.before.before.before.before.before.before.before.before.before.before.before.before) B in
+    let B = c.loop-at.invariant.bounded in
+    let room = bounded_room (within c.before.before.before.before.before.before.before.before.before.before.before.before) B in
     (B.ready, (B.level, omega (arith, room)))
 
-sub-with-low : tie.Need-overflow-sub-with-low invariant-loop decreases-loop
+sub-with-low : tie.Need-overflow_sub-end invariant-loop-at decreases-loop-at
 sub-with-low c =
-    let found = next c.before.before.before.before.before.before.before.before.before.before.before.before.before.before.before.before.before.before.before.before.before in
+    let found = next c.before.before.before.before.before.before.before.before.before.before.before.before.before.before.before.before.before.before.before.before in
     omega (arith, found.starts, found.closes, found.within)
 
-with-low-requires : tie.Need-with-low-requires invariant-loop decreases-loop
+with-low-requires : tie.Need-with_low-open-requires invariant-loop-at decreases-loop-at
 with-low-requires c κs =
-    bounded_tail (within c.before.before.before.before.before.before.before.before.before.before.before.before.before.before.before.before.before.before.before.before.before) c.before.before.before.before.before.before.before.before.before.before.before.before.before.before.before.before.before.before.before.before.before.before.before.loop.invariant.bounded
+    bounded_tail (within c.before.before.before.before.before.before.before.before.before.before.before.before.before.before.before.before.before.before.before.before) c.loop-at.invariant.bounded
 
-loop-less-2 : tie.Need-loop-smaller-2 invariant-loop decreases-loop
+loop-less-2 : tie.Need-loop-at-smaller-in-Continuation invariant-loop-at decreases-loop-at
 loop-less-2 c =
-    let found = next c.before.before.before.before.before.before.before.before.before.before.before.before.before.before.before.before.before.before.before.before.before.before in
+    let found = next c.before.before.before.before.before.before.before.before.before.before.before.before.before.before.before.before.before.before.before.before.before in
     omega (arith, found.moves, found.within)
 
-loop-again-2 : tie.Need-loop-preserved-2 invariant-loop decreases-loop
+loop-again-2 : tie.Need-loop-at-preserved-in-Continuation invariant-loop-at decreases-loop-at
 loop-again-2 c =
-    feed_more c.before.before.before.before.before.before.before.before.before.before.before.before.before.before.before.before.before.before.before.before.before.before.before.before.loop.invariant (next c.before.before.before.before.before.before.before.before.before.before.before.before.before.before.before.before.before.before.before.before.before.before) c.before.before.before.before.before.before.before.before.before.before.before.before.before.before.before.kind-from.ensures (own_is c.before.before.before.before.before.before.before.before.before.before.before.before.before.before.before.before.before.before) c.before.before.before.before.before.before.before.before.before.before.before.before.before.enum-told2.given.1 c.before.before.before.before.before.before.before.before.before.low-marks.ensures (c.with-low.ensures ∙ ap (low_open true c.before.before.before.before.before.before.before.before.before.before.before.before.before.before.before.before.before.before.before.before.before.before.before.before.loop.«open») (span_long (next c.before.before.before.before.before.before.before.before.before.before.before.before.before.before.before.before.before.before.before.before.before.before))) c.before.before.before.before.before.before.before.before.enter.ensures.0 c.before.before.before.before.before.before.before.before.enter.ensures.1.1 c.before.before.before.before.before.before.before.before.enter.auto.1.1.0
+    feed_more c.loop-at.invariant (next c.before.before.before.before.before.before.before.before.before.before.before.before.before.before.before.before.before.before.before.before.before) c.kind_from-x.ensures (own_is c.before.before.before.before.before.before.before.before.before.before.before.before.before.before.before.before.before) c.in-Continuation.is c.low_marks.ensures (c.with_low-open.ensures ∙ ap (low_open true c.loop-at.«open») (span_long (next c.before.before.before.before.before.before.before.before.before.before.before.before.before.before.before.before.before.before.before.before.before))) c.enter-g.ensures.0 c.enter-g.ensures.1.1 c.enter-g.auto.offsets
 
-enum-known-x : tie.Need-enum-known-x invariant-loop decreases-loop
+enum-known-x : tie.Need-enum_known-x invariant-loop-at decreases-loop-at
 enum-known-x c = search rules
 
-enter-requires-2 : tie.Need-enter-requires-2 invariant-loop decreases-loop
+enter-requires-2 : tie.Need-enter-g-requires-in-Field invariant-loop-at decreases-loop-at
 enter-requires-2 c κs =
-    let B = c.before.before.before.before.before.before.before.before.before.before.before.before.before.before.before.loop.invariant.bounded in
-    let room = bounded_room (within c.before.before.before.before.before.before.before.before.before.before.before.before.before) B in
+    let B = c.loop-at.invariant.bounded in
+    let room = bounded_room (within c.before.before.before.before.before.before.before.before.before.before.before) B in
     (B.ready, (B.level, omega (arith, room)))
 
-span-closed-requires-2 : tie.Need-span-closed-requires-2 invariant-loop decreases-loop
+span-closed-requires-2 : tie.Need-span_closed-span-requires-then-open-ge5-2 invariant-loop-at decreases-loop-at
 span-closed-requires-2 c κs = search rules
 
-stated-closed-requires-2 : tie.Need-stated-closed-requires-2 invariant-loop decreases-loop
+stated-closed-requires-2 : tie.Need-stated_closed-stated-requires-then-open-ge5-2 invariant-loop-at decreases-loop-at
 stated-closed-requires-2 c κs = search rules
 
-again-requires : tie.Need-again-requires invariant-loop decreases-loop
+again-requires : tie.Need-again-stands-requires invariant-loop-at decreases-loop-at
 again-requires c κs =
-    ident_few (span c.before.before.before.before.before.before.before.before.before.before.before.before.before.before.before.before.before.before.before.before.before.before.before.before.before.loop.at c.before.before.before.before.before.before.before.before.before.before.before.before.before.before.before.before.before.before.before.before.before.before.before.line-from.result.end c.before.before.before.before.before.before.before.before.before.before.before.before.before.before.before.before.before.before.before.before.before.before.before.before.before.before.before.before.before.before.before.before.before.before.before.before.before.before.before.before.before.before.before.before.args.s.now) c.before.before.before.before.before.before.before.before.before.before.before.before.before.before.before.before.kind-from.ensures c.before.before.before.before.before.before.before.before.before.before.before.before.before.before.x.given.0.0 c.before.before.before.before.before.before.before.before.before.before.before.before.before.before.x.given.1
+    ident_few (span c.loop-at.at c.line_from-f.result.end c.args.s.now) c.kind_from-x.ensures c.in-Field.ident c.in-Field.is
 
 -- the field's identifier, and the number of its class
-few-is : (c : tie.After-again invariant-loop decreases-loop) → c.before.before.before.before.before.before.before.before.before.before.before.before.before.before.before.x.given.0.0 < 1296
-few-is c = ident_few (span c.before.before.before.before.before.before.before.before.before.before.before.before.before.before.before.before.before.before.before.before.before.before.before.before.before.before.loop.at c.before.before.before.before.before.before.before.before.before.before.before.before.before.before.before.before.before.before.before.before.before.before.before.before.line-from.result.end c.before.before.before.before.before.before.before.before.before.before.before.before.before.before.before.before.before.before.before.before.before.before.before.before.before.before.before.before.before.before.before.before.before.before.before.before.before.before.before.before.before.before.before.before.before.args.s.now) c.before.before.before.before.before.before.before.before.before.before.before.before.before.before.before.before.before.kind-from.ensures c.before.before.before.before.before.before.before.before.before.before.before.before.before.before.before.x.given.0.0 c.before.before.before.before.before.before.before.before.before.before.before.before.before.before.before.x.given.1
+few-is : (c : tie.After-again-stands invariant-loop-at decreases-loop-at) → c.in-Field.ident < 1296
+few-is c = ident_few (span c.loop-at.at c.line_from-f.result.end c.args.s.now) c.kind_from-x.ensures c.in-Field.ident c.in-Field.is
 
-number_is : (c : tie.After-again invariant-loop decreases-loop) → get_or c.before.before.before.before.before.before.before.before.before.before.before.before.before.before.before.before.before.before.before.before.before.before.before.before.before.before.before.before.before.before.before.before.before.before.before.before.before.before.codes.result c.before.before.before.before.before.before.before.before.before.before.before.before.before.before.before.x.given.0.0 0 ≡ code_of c.before.before.before.before.before.before.before.before.before.before.before.before.before.before.before.x.given.0.0
-number_is c = c.before.before.before.before.before.before.before.before.before.before.before.before.before.before.before.before.before.before.before.before.before.before.before.before.before.before.before.before.before.before.before.before.before.before.before.before.before.before.codes.ensures c.before.before.before.before.before.before.before.before.before.before.before.before.before.before.before.x.given.0.0 (few-is c)
+number_is : (c : tie.After-again-stands invariant-loop-at decreases-loop-at) → get_or c.codes-codes.result c.in-Field.ident 0 ≡ code_of c.in-Field.ident
+number_is c = c.codes-codes.ensures c.in-Field.ident (few-is c)
 
-array-read-class : tie.Need-array-read-class invariant-loop decreases-loop
+array-read-class : tie.Need-bounds-codes-ident invariant-loop-at decreases-loop-at
 array-read-class c =
     few-is c
 
-sub-read-claim : tie.Need-overflow-sub-read-claim invariant-loop decreases-loop
+sub-read-claim : tie.Need-slice_bounds-read_claim-count invariant-loop-at decreases-loop-at
 sub-read-claim c =
-    let found = next c.before.before.before.before.before.before.before.before.before.before.before.before.before.before.before.before.before.before.before.before.before.before.before.before.before in
+    let found = next c.before.before.before.before.before.before.before.before.before.before.before.before.before.before.before.before.before.before.before.before.before.before.before in
     omega (arith, found.starts, found.closes, found.within)
 
-part-read-claim-start : tie.Need-slice-bounds-read-claim-start invariant-loop decreases-loop
+part-read-claim-start : tie.Need-slice_bounds-read_claim-start invariant-loop-at decreases-loop-at
 part-read-claim-start c =
-    let found = next c.before.before.before.before.before.before.before.before.before.before.before.before.before.before.before.before.before.before.before.before.before.before.before.before.before in
+    let found = next c.before.before.before.before.before.before.before.before.before.before.before.before.before.before.before.before.before.before.before.before.before.before.before in
     omega (arith, found.starts, found.closes, found.within)
 
-part-read-claim-end : tie.Need-slice-bounds-read-claim-end invariant-loop decreases-loop
+part-read-claim-end : tie.Need-slice_bounds-read_claim-end invariant-loop-at decreases-loop-at
 part-read-claim-end c =
-    let found = next c.before.before.before.before.before.before.before.before.before.before.before.before.before.before.before.before.before.before.before.before.before.before.before.before.before in
+    let found = next c.before.before.before.before.before.before.before.before.before.before.before.before.before.before.before.before.before.before.before.before.before.before.before in
     omega (arith, found.starts, found.closes, found.within)
 
-read-claim-requires : tie.Need-read-claim-requires invariant-loop decreases-loop
+read-claim-requires : tie.Need-read_claim-said-requires invariant-loop-at decreases-loop-at
 read-claim-requires c κs = search rules
 
-field-open-requires : tie.Need-field-open-requires invariant-loop decreases-loop
+field-open-requires : tie.Need-field_open-open-requires invariant-loop-at decreases-loop-at
 field-open-requires c κs =
-    (number_is c.before.before.before, c.before.before.before.before.before.before.before.before.before.before.before.before.before.before.before.before.before.before.before.before.before.before.before.line-marks.ensures.1)
+    (number_is c.before.before.before, c.line_marks-own.ensures.1)
 
-kc-own-requires : tie.Need-kc-own-requires invariant-loop decreases-loop
+kc-own-requires : tie.Need-kc_own-kc-requires invariant-loop-at decreases-loop-at
 kc-own-requires c κs = search rules
 
-keep-own-requires : tie.Need-keep-own-requires invariant-loop decreases-loop
+keep-own-requires : tie.Need-keep_own-pend-requires invariant-loop-at decreases-loop-at
 keep-own-requires c κs =
     number_is c.before.before.before.before.before.before
 
 -- what a field says that claims something
-said-is : (c : tie.After-read-claim invariant-loop decreases-loop)
-    → c.read-claim.result ≡ reading_of (class_of c.before.before.before.before.before.before.before.before.before.before.before.before.before.before.before.before.before.before.x.given.0.0) (text_of (span c.before.before.before.before.before.before.before.before.before.before.before.before.before.before.before.before.before.before.before.before.before.before.before.before.before.before.before.before.before.loop.at c.before.before.before.before.before.before.before.before.before.before.before.before.before.before.before.before.before.before.before.before.before.before.before.before.before.before.before.line-from.result.end c.before.before.before.before.before.before.before.before.before.before.before.before.before.before.before.before.before.before.before.before.before.before.before.before.before.before.before.before.before.before.before.before.before.before.before.before.before.before.before.before.before.before.before.before.before.before.before.before.args.s.now))
+said-is : (c : tie.After-read_claim-said invariant-loop-at decreases-loop-at)
+    → c.read_claim-said.result ≡ reading_of (class_of c.in-Field.ident) (text_of (span c.loop-at.at c.line_from-f.result.end c.args.s.now))
 unfolding code_of
-said-is c = c.read-claim.ensures (class_of c.before.before.before.before.before.before.before.before.before.before.before.before.before.before.before.before.before.before.x.given.0.0) (sym (number_is c.before.before.before)) c.before.before.if4.true
+said-is c = c.read_claim-said.ensures (class_of c.in-Field.ident) (sym (number_is c.before.before.before)) c.if-class.true
 
-loop-less-3 : tie.Need-loop-smaller-3 invariant-loop decreases-loop
+loop-less-3 : tie.Need-loop-at-smaller-then-since-ne0 invariant-loop-at decreases-loop-at
 loop-less-3 c =
-    let found = next c.before.before.before.before.before.before.before.before.before.before.before.before.before.before.before.before.before.before.before.before.before.before.before.before.before.before.before.before.before.before.before in
-    omega (arith, found.moves, found.within)
-
-loop-again-3 : tie.Need-loop-preserved-3 invariant-loop decreases-loop
-loop-again-3 c =
-    let at-loop = c.before.before.before.before.before.before.before.before.before.before.before.before.before.before.before.before.before.before.before.before.before.before.before.before.before.before.before.before.before.before.before.before.before in
-    let closes = claims-at-field c.before.before.before.before.before.before.before.before.before in
-    let asked = c.before.before.before.before.before.before.before.again.ensures in
-    let own = own_inside at-loop.loop.since c.before.before.before.before.before.before.before.before.before.before.before.before.before.before.before.before.before.before.before.before.before.before.x.given.0.0 c.before.before.before.before.read-claim.result at-loop.loop.kc at-loop.loop.pend c.before.before.if5.true c.before.kc-own.ensures c.keep-own.ensures in
-    feed_field c.before.before.before.before.before.before.before.before.before.before.before.before.before.before.before.before.before.before.before.before.before.before.before.before.before.before.before.before.before.before.before.before.before.loop.invariant (next c.before.before.before.before.before.before.before.before.before.before.before.before.before.before.before.before.before.before.before.before.before.before.before.before.before.before.before.before.before.before.before) c.before.before.before.before.before.before.before.before.before.before.before.before.before.before.before.before.before.before.before.before.before.before.before.before.kind-from.ensures (own_is c.before.before.before.before.before.before.before.before.before.before.before.before.before.before.before.before.before.before.before.before.before.before.before.before.before.before.before) c.before.before.before.before.before.before.before.before.before.before.before.before.before.before.before.before.before.before.before.before.before.before.x.given.0.0 c.before.before.before.before.before.before.before.before.before.before.before.before.before.before.before.before.before.before.before.before.before.before.x.given.1 closes.0 closes.1 asked.0 (said-is c.before.before.before.before) c.before.before.before.field_open.ensures own.0 own.1 asked.1 c.before.before.before.before.before.before.before.before.before.before.before.before.before.before.before.before.before.enter2.ensures.0 c.before.before.before.before.before.before.before.before.before.before.before.before.before.before.before.before.before.enter2.ensures.1.1 c.before.before.before.before.before.before.before.before.before.before.before.before.before.before.before.before.before.enter2.auto.1.1.0
-
-loop-less-4 : tie.Need-loop-smaller-4 invariant-loop decreases-loop
-loop-less-4 c =
     let found = next c.before.before.before.before.before.before.before.before.before.before.before.before.before.before.before.before.before.before.before.before.before.before.before.before.before.before.before.before.before in
     omega (arith, found.moves, found.within)
 
-loop-again-4 : tie.Need-loop-preserved-4 invariant-loop decreases-loop
-loop-again-4 c =
-    let at-loop = c.before.before.before.before.before.before.before.before.before.before.before.before.before.before.before.before.before.before.before.before.before.before.before.before.before.before.before.before.before.before.before in
-    let closes = claims-at-field c.before.before.before.before.before.before.before in
-    let asked = c.before.before.before.before.before.again.ensures in
-    let own = own_above at-loop.loop.since c.before.before.before.before.before.before.before.before.before.before.before.before.before.before.before.before.before.before.before.before.x.given.0.0 c.before.before.read-claim.result at-loop.loop.kc at-loop.loop.pend c.if5.false in
-    feed_field c.before.before.before.before.before.before.before.before.before.before.before.before.before.before.before.before.before.before.before.before.before.before.before.before.before.before.before.before.before.before.before.loop.invariant (next c.before.before.before.before.before.before.before.before.before.before.before.before.before.before.before.before.before.before.before.before.before.before.before.before.before.before.before.before.before) c.before.before.before.before.before.before.before.before.before.before.before.before.before.before.before.before.before.before.before.before.before.before.kind-from.ensures (own_is c.before.before.before.before.before.before.before.before.before.before.before.before.before.before.before.before.before.before.before.before.before.before.before.before.before) c.before.before.before.before.before.before.before.before.before.before.before.before.before.before.before.before.before.before.before.before.x.given.0.0 c.before.before.before.before.before.before.before.before.before.before.before.before.before.before.before.before.before.before.before.before.x.given.1 closes.0 closes.1 asked.0 (said-is c.before.before) c.before.field_open.ensures own.0 own.1 asked.1 c.before.before.before.before.before.before.before.before.before.before.before.before.before.before.before.enter2.ensures.0 c.before.before.before.before.before.before.before.before.before.before.before.before.before.before.before.enter2.ensures.1.1 c.before.before.before.before.before.before.before.before.before.before.before.before.before.before.before.enter2.auto.1.1.0
+loop-again-3 : tie.Need-loop-at-preserved-then-since-ne0 invariant-loop-at decreases-loop-at
+loop-again-3 c =
+    let closes = claims-at-field c.before.before.before.before.before.before.before.before.before in
+    let asked = c.again-stands.ensures in
+    let own = own_inside c.loop-at.since c.in-Field.ident c.read_claim-said.result c.loop-at.kc c.loop-at.pend c.if-since-ne0.true c.kc_own-kc.ensures c.keep_own-pend.ensures in
+    feed_field c.loop-at.invariant (next c.before.before.before.before.before.before.before.before.before.before.before.before.before.before.before.before.before.before.before.before.before.before.before.before.before.before.before.before.before) c.kind_from-x.ensures (own_is c.before.before.before.before.before.before.before.before.before.before.before.before.before.before.before.before.before.before.before.before.before.before.before.before.before) c.in-Field.ident c.in-Field.is closes.0 closes.1 asked.0 (said-is c.before.before.before.before) c.field_open-open.ensures own.0 own.1 asked.1 c.enter-g-in-Field.ensures.0 c.enter-g-in-Field.ensures.1.1 c.enter-g-in-Field.auto.offsets
 
-sub-plain-open : tie.Need-overflow-sub-plain-open invariant-loop decreases-loop
-sub-plain-open c =
-    let found = next c.before.before.before.before.before.before.before.before.before.before.before.before.before.before.before.before.before.before.before.before.before.before.before.before.before in
-    omega (arith, found.starts, found.closes, found.within)
-
-part-plain-open-start : tie.Need-slice-bounds-plain-open-start invariant-loop decreases-loop
-part-plain-open-start c =
-    let found = next c.before.before.before.before.before.before.before.before.before.before.before.before.before.before.before.before.before.before.before.before.before.before.before.before.before in
-    omega (arith, found.starts, found.closes, found.within)
-
-part-plain-open-end : tie.Need-slice-bounds-plain-open-end invariant-loop decreases-loop
-part-plain-open-end c =
-    let found = next c.before.before.before.before.before.before.before.before.before.before.before.before.before.before.before.before.before.before.before.before.before.before.before.before.before in
-    omega (arith, found.starts, found.closes, found.within)
-
-plain-open-requires : tie.Need-plain-open-requires invariant-loop decreases-loop
-plain-open-requires c κs =
-    c.before.before.before.before.before.before.before.before.before.before.before.before.before.before.before.before.before.before.before.before.before.before.line-marks.ensures.1
-
-loop-less-5 : tie.Need-loop-smaller-5 invariant-loop decreases-loop
-loop-less-5 c =
+loop-less-4 : tie.Need-loop-at-smaller-else-since-ne0 invariant-loop-at decreases-loop-at
+loop-less-4 c =
     let found = next c.before.before.before.before.before.before.before.before.before.before.before.before.before.before.before.before.before.before.before.before.before.before.before.before.before.before.before in
     omega (arith, found.moves, found.within)
 
-loop-again-5 : tie.Need-loop-preserved-5 invariant-loop decreases-loop
-loop-again-5 c =
-    let at-loop = c.before.before.before.before.before.before.before.before.before.before.before.before.before.before.before.before.before.before.before.before.before.before.before.before.before.before.before.before.before in
-    let closes = claims-at-field c.before.before.before.before.before in
-    let asked = c.before.before.before.again.ensures in
-    let own = own_plain at-loop.loop.since c.before.before.before.before.before.before.before.before.before.before.before.before.before.before.before.before.before.before.x.given.0.0 (reading_of (class_of c.before.before.before.before.before.before.before.before.before.before.before.before.before.before.before.before.before.before.x.given.0.0) (text_of (span c.before.before.before.before.before.before.before.before.before.before.before.before.before.before.before.before.before.before.before.before.before.before.before.before.before.before.before.before.before.loop.at c.before.before.before.before.before.before.before.before.before.before.before.before.before.before.before.before.before.before.before.before.before.before.before.before.before.before.before.line-from.result.end c.before.before.before.before.before.before.before.before.before.before.before.before.before.before.before.before.before.before.before.before.before.before.before.before.before.before.before.before.before.before.before.before.before.before.before.before.before.before.before.before.before.before.before.before.before.before.before.before.args.s.now))) at-loop.loop.kc at-loop.loop.pend (number_is c.before.before.before) c.before.before.if4.false in
-    feed_field c.before.before.before.before.before.before.before.before.before.before.before.before.before.before.before.before.before.before.before.before.before.before.before.before.before.before.before.before.before.loop.invariant (next c.before.before.before.before.before.before.before.before.before.before.before.before.before.before.before.before.before.before.before.before.before.before.before.before.before.before.before) c.before.before.before.before.before.before.before.before.before.before.before.before.before.before.before.before.before.before.before.before.kind-from.ensures (own_is c.before.before.before.before.before.before.before.before.before.before.before.before.before.before.before.before.before.before.before.before.before.before.before) c.before.before.before.before.before.before.before.before.before.before.before.before.before.before.before.before.before.before.x.given.0.0 c.before.before.before.before.before.before.before.before.before.before.before.before.before.before.before.before.before.before.x.given.1 closes.0 closes.1 asked.0 refl (c.plain-open.ensures c.before.before.before.before.before.before.before.before.before.before.before.before.before.before.before.before.before.before.before.before.before.before.before.before.before.before.before.before.before.before.before.before.before.before.before.before.before.before.before.before.before.before.before.before.before.before.before.before.args.basis c.before.before.before.before.before.before.before.before.before.before.before.before.before.before.before.before.before.before.before.before.before.before.before.before.before.before.before.before.before.loop.kc (read_as at-loop.loop.reads at-loop.loop.h) c.before.before.before.before.before.before.before.before.before.before.before.before.before.before.before.before.before.before.x.given.0.0 (number_is c.before.before.before) c.before.before.if4.false) own.0 own.1 asked.1 c.before.before.before.before.before.before.before.before.before.before.before.before.before.enter2.ensures.0 c.before.before.before.before.before.before.before.before.before.before.before.before.before.enter2.ensures.1.1 c.before.before.before.before.before.before.before.before.before.before.before.before.before.enter2.auto.1.1.0
+loop-again-4 : tie.Need-loop-at-preserved-else-since-ne0 invariant-loop-at decreases-loop-at
+loop-again-4 c =
+    let closes = claims-at-field c.before.before.before.before.before.before.before in
+    let asked = c.again-stands.ensures in
+    let own = own_above c.loop-at.since c.in-Field.ident c.read_claim-said.result c.loop-at.kc c.loop-at.pend c.if-since-ne0.false in
+    feed_field c.loop-at.invariant (next c.before.before.before.before.before.before.before.before.before.before.before.before.before.before.before.before.before.before.before.before.before.before.before.before.before.before.before) c.kind_from-x.ensures (own_is c.before.before.before.before.before.before.before.before.before.before.before.before.before.before.before.before.before.before.before.before.before.before.before) c.in-Field.ident c.in-Field.is closes.0 closes.1 asked.0 (said-is c.before.before) c.field_open-open.ensures own.0 own.1 asked.1 c.enter-g-in-Field.ensures.0 c.enter-g-in-Field.ensures.1.1 c.enter-g-in-Field.auto.offsets
 
-enum-told-3 : tie.Need-enum-told-3 invariant-loop decreases-loop
-enum-told-3 c = search rules
+sub-plain-open : tie.Need-slice_bounds-plain_open-count invariant-loop-at decreases-loop-at
+sub-plain-open c =
+    let found = next c.before.before.before.before.before.before.before.before.before.before.before.before.before.before.before.before.before.before.before.before.before.before.before in
+    omega (arith, found.starts, found.closes, found.within)
 
-low-marks-requires-2 : tie.Need-low-marks-requires-2 invariant-loop decreases-loop
-low-marks-requires-2 c κs = search rules
+part-plain-open-start : tie.Need-slice_bounds-plain_open-start invariant-loop-at decreases-loop-at
+part-plain-open-start c =
+    let found = next c.before.before.before.before.before.before.before.before.before.before.before.before.before.before.before.before.before.before.before.before.before.before.before in
+    omega (arith, found.starts, found.closes, found.within)
 
-enter-requires-3 : tie.Need-enter-requires-3 invariant-loop decreases-loop
-enter-requires-3 c κs =
-    let B = c.before.before.before.before.before.before.before.before.before.before.before.before.before.before.before.loop.invariant.bounded in
-    let room = bounded_room (within c.before.before.before.before.before.before.before.before.before.before.before.before.before) B in
-    (B.ready, (B.level, omega (arith, room)))
+part-plain-open-end : tie.Need-slice_bounds-plain_open-end invariant-loop-at decreases-loop-at
+part-plain-open-end c =
+    let found = next c.before.before.before.before.before.before.before.before.before.before.before.before.before.before.before.before.before.before.before.before.before.before.before in
+    omega (arith, found.starts, found.closes, found.within)
 
-loop-less-6 : tie.Need-loop-smaller-6 invariant-loop decreases-loop
-loop-less-6 c =
-    let found = next c.before.before.before.before.before.before.before.before.before.before.before.before.before.before.before.before.before.before.before.before in
+plain-open-requires : tie.Need-plain_open-open-requires invariant-loop-at decreases-loop-at
+plain-open-requires c κs =
+    c.line_marks-own.ensures.1
+
+loop-less-5 : tie.Need-loop-at-smaller-else-class invariant-loop-at decreases-loop-at
+loop-less-5 c =
+    let found = next c.before.before.before.before.before.before.before.before.before.before.before.before.before.before.before.before.before.before.before.before.before.before.before.before.before in
     omega (arith, found.moves, found.within)
 
-loop-again-6 : tie.Need-loop-preserved-6 invariant-loop decreases-loop
-loop-again-6 c =
-    feed_other c.before.before.before.before.before.before.before.before.before.before.before.before.before.before.before.before.before.before.before.before.before.before.loop.invariant (next c.before.before.before.before.before.before.before.before.before.before.before.before.before.before.before.before.before.before.before.before) c.before.before.before.before.before.before.before.before.before.before.before.before.before.kind-from.ensures (own_is c.before.before.before.before.before.before.before.before.before.before.before.before.before.before.before.before) c.before.before.before.before.before.before.before.before.before.before.before.enum-told3.given.1 c.before.before.before.before.before.before.before.low-marks2.ensures c.before.before.before.before.before.before.enter3.ensures.0 c.before.before.before.before.before.before.enter3.ensures.1.1 c.before.before.before.before.before.before.enter3.auto.1.1.0
+loop-again-5 : tie.Need-loop-at-preserved-else-class invariant-loop-at decreases-loop-at
+loop-again-5 c =
+    let closes = claims-at-field c.before.before.before.before.before in
+    let asked = c.again-stands.ensures in
+    let own = own_plain c.loop-at.since c.in-Field.ident (reading_of (class_of c.in-Field.ident) (text_of (span c.loop-at.at c.line_from-f.result.end c.args.s.now))) c.loop-at.kc c.loop-at.pend (number_is c.before.before.before) c.if-class.false in
+    feed_field c.loop-at.invariant (next c.before.before.before.before.before.before.before.before.before.before.before.before.before.before.before.before.before.before.before.before.before.before.before.before.before) c.kind_from-x.ensures (own_is c.before.before.before.before.before.before.before.before.before.before.before.before.before.before.before.before.before.before.before.before.before) c.in-Field.ident c.in-Field.is closes.0 closes.1 asked.0 refl (c.plain_open-open.ensures c.args.basis c.loop-at.kc (read_as c.loop-at.reads c.loop-at.h) c.in-Field.ident (number_is c.before.before.before) c.if-class.false) own.0 own.1 asked.1 c.enter-g-in-Field.ensures.0 c.enter-g-in-Field.ensures.1.1 c.enter-g-in-Field.auto.offsets
 
-block-of-requires : tie.Need-block-of-requires invariant-loop decreases-loop
+enum-told-3 : tie.Need-enum_told-in-Other invariant-loop-at decreases-loop-at
+enum-told-3 c = search rules
+
+low-marks-requires-2 : tie.Need-low_marks-requires-in-Other invariant-loop-at decreases-loop-at
+low-marks-requires-2 c κs = search rules
+
+enter-requires-3 : tie.Need-enter-g-requires-in-Other invariant-loop-at decreases-loop-at
+enter-requires-3 c κs =
+    let B = c.loop-at.invariant.bounded in
+    let room = bounded_room (within c.before.before.before.before.before.before.before.before.before.before.before.before) B in
+    (B.ready, (B.level, omega (arith, room)))
+
+loop-less-6 : tie.Need-loop-at-smaller invariant-loop-at decreases-loop-at
+loop-less-6 c =
+    let found = next c.before.before.before.before.before.before.before.before.before.before.before.before.before.before.before.before.before.before.before in
+    omega (arith, found.moves, found.within)
+
+loop-again-6 : tie.Need-loop-at-preserved invariant-loop-at decreases-loop-at
+loop-again-6 c =
+    feed_other c.loop-at.invariant (next c.before.before.before.before.before.before.before.before.before.before.before.before.before.before.before.before.before.before.before) c.kind_from-x.ensures (own_is c.before.before.before.before.before.before.before.before.before.before.before.before.before.before.before) c.in-Other.is c.low_marks-in-Other.ensures c.enter-g-in-Other.ensures.0 c.enter-g-in-Other.ensures.1.1 c.enter-g-in-Other.auto.offsets
+
+block-of-requires : tie.Need-block_of-block-requires invariant-loop-at decreases-loop-at
 block-of-requires c κs = search rules
 
-same_length : tie.Need-same-length invariant-loop decreases-loop
+same_length : tie.Need-shape_of-lines invariant-loop-at decreases-loop-at
 same_length c =
-    c.before.before.loop.invariant.lines_long
+    c.loop-at.invariant.lines_long
 
-same-length-2 : tie.Need-same-length-2 invariant-loop decreases-loop
+same-length-2 : tie.Need-shape_of-rules invariant-loop-at decreases-loop-at
 same-length-2 c =
-    c.before.before.loop.invariant.rules_long
+    c.loop-at.invariant.rules_long
 
-same-length-3 : tie.Need-same-length-3 invariant-loop decreases-loop
+same-length-3 : tie.Need-shape_of-offsets invariant-loop-at decreases-loop-at
 same-length-3 c =
-    c.before.before.loop.invariant.places_long
+    c.loop-at.invariant.places_long
 
-returns : tie.Need-returns invariant-loop decreases-loop
+returns : tie.Need-returns invariant-loop-at decreases-loop-at
 returns c =
-    let here = c.before.before.loop in
-    let start = c.before.before.before.before.before.before.before.before.before.before.before.before.before.before.before.before.before.before.before.before.before.args in
+    let here = c.loop-at in
+    let start = c.args in
     feed_close start.s.now start.base start.basis start.p (record { ledger = here.g; field = here.«open»; pend = here.pend; since = here.since; top = here.top; reads = here.reads; heading = here.h; kc = here.kc; span = here.span; stated = here.stated; block = block_of here.course here.counts here.sums; wait = here.wait; starts = here.starts; n = here.n })
-    c.before.before.before.before.before.before.before.course-of.ensures c.Block-of.ensures (feed_end here.invariant (omega (arith, c.before.loop-test)))
+    c.course_of-course.ensures c.block_of-block.ensures (feed_end here.invariant (omega (arith, c.loop-at-test)))
 
-pub feed-spec : {M : Type 1} → statement M
-feed-spec =
+pub feed_spec : {M : Type 1} → statement M
+feed_spec =
     tie.close
     (tie.spec
-    invariant-loop
-    decreases-loop
+    invariant-loop-at
+    decreases-loop-at
     places-requires
     table-requires
     codes-requires

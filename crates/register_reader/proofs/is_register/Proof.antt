@@ -12,35 +12,32 @@ use borrow.Author.Rules.{rules}
 use Rattle.register_reader.proofs.is_register.Statement.{statement}
 use Rattle.register_reader.proofs.is_register.Tie as tie
 
-abbrev S : tie.Else1 → List ℕ
-S e = e.before.before.before.args.s.now
+lay : (e : tie.Else-not-has_layout) → has_layout e.args.s.now ≡ true
+lay e = sym e.has_layout.ensures ∙ e.if-not-has_layout.false
 
-lay : (e : tie.Else1) → has_layout (S e) ≡ true
-lay e = sym e.before.has-layout.ensures ∙ not-false _ e.if1.false
+size : (e : tie.Else-not-has_layout) → length e.args.s.now ≡ 13 + 12 * big_at 2 11 e.args.s.now
+size e = long e.args.s.now (lay e)
 
-size : (e : tie.Else1) → length (S e) ≡ 13 + 12 * big_at 2 11 (S e)
-size e = long (S e) (lay e)
+returns : tie.Need-returns-then-not-has_layout
+returns c = no_layout _ (sym c.has_layout.ensures ∙ c.if-not-has_layout.true)
 
-returns : tie.Need-returns
-returns c = no_layout _ (sym c.before.has-layout.ensures ∙ not-true _ c.if1.true)
-
-read-requires : tie.Need-read-requires
+read-requires : tie.Need-read-code-requires
 read-requires c κs = (omega (arith, size c), omega arith)
 
-read-requires-2 : tie.Need-read-requires-2
+read-requires-2 : tie.Need-read-latest-requires
 read-requires-2 c κs = (omega (arith, size c.before), omega arith)
 
-read-requires-3 : tie.Need-read-requires-3
+read-requires-3 : tie.Need-read-n-requires
 read-requires-3 c κs = (omega (arith, size c.before.before), omega arith)
 
-ranges-stand-requires : tie.Need-ranges-stand-requires
-ranges-stand-requires c κs = omega (arith, size c.before.before.before.before, c.before.read3.ensures)
+ranges-stand-requires : tie.Need-ranges_stand-requires
+ranges-stand-requires c κs = omega (arith, size c.before.before.before.before, c.read-n.ensures)
 
-returns-2 : tie.Need-returns-2
-returns-2 c = register_is (S c.before.before.before.before.before) (lay c.before.before.before.before.before) c.before.before.before.before.read.ensures c.before.before.before.read2.ensures c.before.before.read3.ensures c.before.latest-stands.ensures c.ranges-stand.ensures
+returns-2 : tie.Need-returns
+returns-2 c = register_is c.args.s.now (lay c.before.before.before.before.before) c.read-code.ensures c.read-latest.ensures c.read-n.ensures c.latest_stands.ensures c.ranges_stand.ensures
 
-pub is-register-spec : {M : Type 1} → statement M
-is-register-spec =
+pub is_register_spec : {M : Type 1} → statement M
+is_register_spec =
     tie.close
     (tie.spec
     (λ c κs. search rules)

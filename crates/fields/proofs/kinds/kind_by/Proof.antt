@@ -11,42 +11,42 @@ use Rattle.fields.proofs.kinds.kind_by.Statement.{statement}
 use Rattle.fields.proofs.kinds.kind_by.Tie as tie
 
 -- both places are below 36
-few : (c : tie.Then1) → let s = c.before.before.before in (s.args.a < 36) × (s.args.b < 36)
+few : (c : tie.Then-a-b) → let s = c.before.before.before in (s.args.a < 36) × (s.args.b < 36)
 few c =
     let s = c.before.before.before in
-    let p = and_parts (ltb s.args.a 36) (ltb s.args.b 36) (and_parts (ltb s.args.a 36 && ltb s.args.b 36) _ c.if1.true).0 in
+    let p = and_parts (ltb s.args.a 36) (ltb s.args.b 36) (and_parts (ltb s.args.a 36 && ltb s.args.b 36) _ c.if-a-b.true).0 in
     (ltb-true _ _ p.0, ltb-true _ _ p.1)
 
-mul-ident : tie.Need-overflow-mul-ident
+mul-ident : tie.Need-overflow_mul-ident
 mul-ident c = omega (arith, (few c).0)
 
-add-ident : tie.Need-overflow-add-ident
+add-ident : tie.Need-overflow_add-ident
 add-ident c = omega (arith, (few c).0, (few c).1)
 
-returns : tie.Need-returns
+returns : tie.Need-returns-then-ident-eq-HD
 returns c =
     let s = c.before.before.before.before in
-    as_heading s.args.line.now _ _ s.requires.1.0 s.requires.1.1 c.before.if1.true c.if2.true
+    as_heading s.args.line.now _ _ s.requires.1.0 s.requires.1.1 c.before.if-a-b.true c.if-ident-eq-HD.true
 
-returns-2 : tie.Need-returns-2
+returns-2 : tie.Need-returns-then-a-b
 returns-2 c =
     let s = c.before.before.before.before in
-    as_field s.args.line.now _ _ s.requires.1.0 s.requires.1.1 c.before.if1.true c.if2.false
+    as_field s.args.line.now _ _ s.requires.1.0 s.requires.1.1 c.before.if-a-b.true c.if-ident-eq-HD.false
 
-returns-3 : tie.Need-returns-3
+returns-3 : tie.Need-returns-then-starts
 returns-3 c =
     let e = c.before.before.before in
     let s = e.before.before.before in
-    as_low s.args.line.now _ _ s.requires.1.0 s.requires.1.1 e.if1.false (sym c.if3.true ∙ c.before.starts.ensures)
+    as_low s.args.line.now _ _ s.requires.1.0 s.requires.1.1 e.if-a-b.false (sym c.if-starts.true ∙ c.before.starts.ensures)
 
-returns-4 : tie.Need-returns-4
+returns-4 : tie.Need-returns
 returns-4 c =
     let e = c.before.before.before in
     let s = e.before.before.before in
-    as_low s.args.line.now _ _ s.requires.1.0 s.requires.1.1 e.if1.false (sym c.if3.false ∙ c.before.starts.ensures)
+    as_low s.args.line.now _ _ s.requires.1.0 s.requires.1.1 e.if-a-b.false (sym c.if-starts.false ∙ c.before.starts.ensures)
 
-pub kind-by-spec : {M : Type 1} → statement M
-kind-by-spec =
+pub kind_by_spec : {M : Type 1} → statement M
+kind_by_spec =
     tie.close
     (tie.spec
     (λ c. search rules)
@@ -54,7 +54,6 @@ kind-by-spec =
     add-ident
     returns
     returns-2
-    (λ c. search rules)
     (λ c κs. search rules)
     returns-3
     returns-4)

@@ -11,42 +11,39 @@ use Rattle.headings.proofs.Places.{found, lost}
 use Rattle.headings.proofs.reading.read.Statement.{statement}
 use Rattle.headings.proofs.reading.read.Tie as tie
 
-abbrev S : tie.Then1 → List ℕ
-S c = c.before.before.before.before.args.text.now
-
-form : (c : tie.Then1) → is_heading (S c) ≡ true
+form : (c : tie.Then-has_form) → is_heading c.before.before.before.before.args.text.now ≡ true
 unfolding template
-form c = sym c.before.has-form.ensures ∙ c.if1.true
+form c = sym c.before.has_form.ensures ∙ c.if-has_form.true
 
 part-requires : tie.Need-part-requires
 unfolding template
-part-requires c κs = ready (template layout) (S c) 3 2 (form c) refl refl (omega arith)
+part-requires c κs = ready (template layout) c.before.before.before.before.args.text.now 3 2 (form c) refl refl (omega arith)
 
-part-requires-2 : tie.Need-part-requires-2
+part-requires-2 : tie.Need-part-requires-then-has_form
 unfolding template
-part-requires-2 c κs = let p = c.before in ready (template layout) (S p) 6 8 (form p) refl refl (omega arith)
+part-requires-2 c κs = let p = c.before in ready (template layout) p.before.before.before.before.args.text.now 6 8 (form p) refl refl (omega arith)
 
-part-requires-3 : tie.Need-part-requires-3
+part-requires-3 : tie.Need-part-requires-then-has_form-2
 unfolding template
-part-requires-3 c κs = let p = c.before.before in ready (template layout) (S p) 15 7 (form p) refl refl (omega arith)
+part-requires-3 c κs = let p = c.before.before in ready (template layout) p.before.before.before.before.args.text.now 15 7 (form p) refl refl (omega arith)
 
-part-requires-4 : tie.Need-part-requires-4
+part-requires-4 : tie.Need-part-requires-then-has_form-3
 unfolding template
-part-requires-4 c κs = let p = c.before.before.before in ready (template layout) (S p) 23 7 (form p) refl refl (omega arith)
+part-requires-4 c κs = let p = c.before.before.before in ready (template layout) p.before.before.before.before.args.text.now 23 7 (form p) refl refl (omega arith)
 
-part-requires-5 : tie.Need-part-requires-5
+part-requires-5 : tie.Need-part-requires-then-has_form-4
 unfolding template
-part-requires-5 c κs = let p = c.before.before.before.before in ready (template layout) (S p) 31 7 (form p) refl refl (omega arith)
+part-requires-5 c κs = let p = c.before.before.before.before in ready (template layout) p.before.before.before.before.args.text.now 31 7 (form p) refl refl (omega arith)
 
-part-requires-6 : tie.Need-part-requires-6
+part-requires-6 : tie.Need-part-requires-then-has_form-5
 unfolding template
-part-requires-6 c κs = let p = c.before.before.before.before.before in ready (template layout) (S p) 39 7 (form p) refl refl (omega arith)
+part-requires-6 c κs = let p = c.before.before.before.before.before in ready (template layout) p.before.before.before.before.args.text.now 39 7 (form p) refl refl (omega arith)
 
-part-requires-7 : tie.Need-part-requires-7
+part-requires-7 : tie.Need-part-requires-then-has_form-6
 unfolding template
-part-requires-7 c κs = let p = c.before.before.before.before.before.before in ready (template layout) (S p) 47 7 (form p) refl refl (omega arith)
+part-requires-7 c κs = let p = c.before.before.before.before.before.before in ready (template layout) p.before.before.before.before.args.text.now 47 7 (form p) refl refl (omega arith)
 
-returns : tie.Need-returns
+returns : tie.Need-returns-then-has_form
 returns c =
     let p6 = c.before in
     let p5 = p6.before in
@@ -54,18 +51,17 @@ returns c =
     let p3 = p4.before in
     let p2 = p3.before in
     let p1 = p2.before in
-    let f = found (S p1.before) (form p1.before) in
-    (f.0, rw (p1.part.ensures, p2.part2.ensures, p3.part3.ensures, p4.part4.ensures, p5.part5.ensures, p6.part6.ensures, c.part7.ensures) f.1)
+    let f = found p1.before.before.before.before.before.args.text.now (form p1.before) in
+    (f.0, rw (p1.part.ensures, p2.part-then-has_form.ensures, p3.part-then-has_form-2.ensures, p4.part-then-has_form-3.ensures, p5.part-then-has_form-4.ensures, p6.part-then-has_form-5.ensures, c.part-then-has_form-6.ensures) f.1)
 
-returns-2 : tie.Need-returns-2
+returns-2 : tie.Need-returns-else-has_form
 unfolding template
-returns-2 c = lost _ (sym c.before.has-form.ensures ∙ c.if1.false)
+returns-2 c = lost _ (sym c.before.has_form.ensures ∙ c.if-has_form.false)
 
 pub read_spec : {M : Type 1} → statement M
 read_spec =
     tie.close
     (tie.spec
-    (λ c. search rules)
     (λ c κs. search rules)
     part-requires
     part-requires-2

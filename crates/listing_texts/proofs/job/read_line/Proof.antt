@@ -11,33 +11,29 @@ use Rattle.listing_texts.proofs.Jobs.{found, lost}
 use Rattle.listing_texts.proofs.job.read_line.Statement.{statement}
 use Rattle.listing_texts.proofs.job.read_line.Tie as tie
 
-abbrev L : tie.Then1 → List ℕ
-L c = c.before.before.before.before.args.line.now
-
-form : (c : tie.Then1) → is_job_line (L c) ≡ true
+form : (c : tie.Then-has_form) → is_job_line c.args.line.now ≡ true
 unfolding template
-form c = sym c.before.has-form.ensures ∙ c.if1.true
+form c = sym c.has_form.ensures ∙ c.if-has_form.true
 
 part-requires : tie.Need-part-requires
 unfolding template
-part-requires c κs = ready (template job_layout) (L c) 0 4 (form c) refl refl (omega arith)
+part-requires c κs = ready (template job_layout) c.args.line.now 0 4 (form c) refl refl (omega arith)
 
-part-requires-2 : tie.Need-part-requires-2
+part-requires-2 : tie.Need-part-requires-then-has_form
 unfolding template
-part-requires-2 c κs = let t = c.before in ready (template job_layout) (L t) 5 8 (form t) refl refl (omega arith)
+part-requires-2 c κs = let t = c.before in ready (template job_layout) t.args.line.now 5 8 (form t) refl refl (omega arith)
 
-returns : tie.Need-returns
-returns c = let t = c.before.before in rw (c.before.part.ensures, c.part2.ensures) (found (L t) (form t))
+returns : tie.Need-returns-then-has_form
+returns c = let t = c.before.before in rw (c.part.ensures, c.part-then-has_form.ensures) (found t.args.line.now (form t))
 
-returns-2 : tie.Need-returns-2
+returns-2 : tie.Need-returns-else-has_form
 unfolding template
-returns-2 c = lost _ (sym c.before.has-form.ensures ∙ c.if1.false)
+returns-2 c = lost _ (sym c.has_form.ensures ∙ c.if-has_form.false)
 
-pub read-line-spec : {M : Type 1} → statement M
-read-line-spec =
+pub read_line_spec : {M : Type 1} → statement M
+read_line_spec =
     tie.close
     (tie.spec
-    (λ c. search rules)
     (λ c κs. search rules)
     part-requires
     part-requires-2

@@ -6,25 +6,25 @@ use borrow.Author.Rules.{rules}
 use Rattle.vetting.proofs.own_line.judged_at.Statement.{statement}
 use Rattle.vetting.proofs.own_line.judged_at.Tie as tie
 
-next : (c : tie.After-line-at) → IsNext c.before.before.args.s.now c.before.before.args.at c.line_at_lem.result
-next c = is_next _ _ _ c.line_at_lem.ensures c.before.before.requires.1
+next : (c : tie.After-line_at-f) → IsNext c.args.s.now c.args.at c.line_at-f.result
+next c = is_next _ _ _ c.line_at-f.ensures c.requires.1
 
-sub-holds-inadmissible : tie.Need-overflow-sub-holds-inadmissible
+sub-holds-inadmissible : tie.Need-slice_bounds-holds_inadmissible-count
 sub-holds-inadmissible c = omega (arith, (next c).starts, (next c).closes, (next c).within)
 
-part-holds-inadmissible-start : tie.Need-slice-bounds-holds-inadmissible-start
+part-holds-inadmissible-start : tie.Need-slice_bounds-holds_inadmissible-start
 part-holds-inadmissible-start c = omega (arith, (next c).starts, (next c).closes, (next c).within)
 
-part-holds-inadmissible-end : tie.Need-slice-bounds-holds-inadmissible-end
+part-holds-inadmissible-end : tie.Need-slice_bounds-holds_inadmissible-end
 part-holds-inadmissible-end c = omega (arith, (next c).starts, (next c).closes, (next c).within)
 
 returns : tie.Need-returns
 returns c =
     let found = c.before.before.before in
-    judged_is _ _ found.line_at_lem.ensures found.before.before.requires.1 c.before.holds-inadmissible.ensures
+    judged_is _ _ found.line_at-f.ensures found.requires.1 c.holds_inadmissible-inadmissible.ensures
 
-pub judged-at-spec : {M : Type 1} → statement M
-judged-at-spec =
+pub judged_at_spec : {M : Type 1} → statement M
+judged_at_spec =
     tie.close
     (tie.spec
     (λ c κs. search rules)

@@ -1,0 +1,5 @@
+use Rattle.fields.proofs.LineKinds.{short}
+use Rattle.fields.proofs.kinds.kind_of.Goals as goal
+
+pub returns-then-line-lt3 : goal.returns-then-line-lt3
+returns-then-line-lt3 c = short _ c.if-line-lt3.true
