@@ -1,7 +1,10 @@
 // The C face: numbers and bytes only. Each function answers 0, or the number of the refusal by document 01 or 02, and a refusal leaves
 // everything behind the pointers as it was: a total or an answer is stored where nothing is refused, and is never loaded. The promises
 // are those of the jobs below, said with numbers, and each function is one call of the crate that proves them: `checking_face`,
-// `heading_face`, `account_face`, `sheet_face`, `register_face`, `portions_face`, and `showing` for a turnover's text.
+// `heading_face`, `account_face`, `sheet_face`, `register_face`, `portions_face`, and `showing` for a turnover's text. `host_c` exports
+// them.
+#![tactic(auto)]
+
 ghost use Rattle.showing.specs.Shown.{Shows};
 ghost use Rattle.checking_face.specs.Face.{TotalAt, CheckedAt};
 ghost use Rattle.heading_face.specs.Face.{ToldAt, DerivedAt};
@@ -10,15 +13,13 @@ ghost use Rattle.sheet_face.specs.Face.{OpenedAt, PostedAt};
 ghost use Rattle.register_face.specs.Face.{BlankedAt, EnteredAt};
 ghost use Rattle.portions_face.specs.Arriving.{PortionsOpenedAt, PortionAddedAt, PortionsClosedAt};
 
-#[unsafe(no_mangle)]
-pub extern "C" fn certis_total(file: &[u8], code: u32, day: u32, total: &mut u64) -> u32
+pub fn certis_total(file: &[u8], code: u32, day: u32, total: &mut u64) -> u32
     ensures { TotalAt file.now code day total.old result total.new }
 {
     checking_face::total(file, code, day, total)
 }
 
-#[unsafe(no_mangle)]
-pub extern "C" fn certis_check(
+pub fn certis_check(
     file: &[u8],
     code: u32,
     day: u32,
@@ -32,8 +33,7 @@ pub extern "C" fn certis_check(
     checking_face::check(file, code, day, lines, rules, offsets, total)
 }
 
-#[unsafe(no_mangle)]
-pub extern "C" fn certis_tell(
+pub fn certis_tell(
     heading: &[u8],
     outcome: u32,
     standing: u32,
@@ -45,8 +45,7 @@ pub extern "C" fn certis_tell(
     heading_face::tell(heading, outcome, standing, kind, recipient)
 }
 
-#[unsafe(no_mangle)]
-pub extern "C" fn certis_derive(
+pub fn certis_derive(
     heading: &[u8],
     outcome: u32,
     standing: u32,
@@ -59,13 +58,7 @@ pub extern "C" fn certis_derive(
 }
 
 // Behind `first` stands the answer for the prefix, behind `second` that for the number.
-#[unsafe(no_mangle)]
-pub extern "C" fn certis_account(
-    prefix: &[u8],
-    number: &[u8],
-    first: &mut u32,
-    second: &mut u32,
-) -> u32
+pub fn certis_account(prefix: &[u8], number: &[u8], first: &mut u32, second: &mut u32) -> u32
     ensures { AccountAt prefix.now number.now first.old second.old result first.new second.new }
 {
     account_face::check(prefix, number, first, second)
@@ -73,16 +66,14 @@ pub extern "C" fn certis_account(
 
 // A new sheet for at most 64 participants: of participant i, [4 * i] is the debit, [4 * i + 1] the credit, and the next two the same on
 // the second sheet.
-#[unsafe(no_mangle)]
-pub extern "C" fn certis_sheet_open(codes: &[u32], turnovers: &mut [i64; 256]) -> u32
+pub fn certis_sheet_open(codes: &[u32], turnovers: &mut [i64; 256]) -> u32
     ensures { OpenedAt codes.now turnovers.old result turnovers.new }
 {
     sheet_face::open(codes, turnovers)
 }
 
 // Posts a file on an open sheet; the list is the one that it was opened with.
-#[unsafe(no_mangle)]
-pub extern "C" fn certis_sheet_post(
+pub fn certis_sheet_post(
     codes: &[u32],
     turnovers: &mut [i64; 256],
     file: &[u8],
@@ -95,23 +86,20 @@ pub extern "C" fn certis_sheet_post(
 }
 
 // Writes a turnover with its sign at the front of 20 bytes, and answers how many it took. It refuses nothing.
-#[unsafe(no_mangle)]
-pub extern "C" fn certis_turnover_text(turnover: i64, target: &mut [u8; 20]) -> usize
+pub fn certis_turnover_text(turnover: i64, target: &mut [u8; 20]) -> usize
     ensures { Shows target.old turnover target.new result }
 {
     showing::show(turnover, target)
 }
 
 // A new register: 13 bytes.
-#[unsafe(no_mangle)]
-pub extern "C" fn certis_register_new(code: u32, target: &mut [u8]) -> u32
+pub fn certis_register_new(code: u32, target: &mut [u8]) -> u32
     ensures { BlankedAt code target.old result target.new }
 {
     register_face::blank(code, target)
 }
 
-#[unsafe(no_mangle)]
-pub extern "C" fn certis_register_enter(
+pub fn certis_register_enter(
     register: &[u8],
     file: &[u8],
     code: u32,
@@ -125,8 +113,7 @@ pub extern "C" fn certis_register_enter(
 }
 
 // Opens a file that is to come in portions; of `struct certis_portions` the three lists are not asked for.
-#[unsafe(no_mangle)]
-pub extern "C" fn certis_open_portions(
+pub fn certis_open_portions(
     code: u32,
     day: u32,
     wide: &mut [u64; 38],
@@ -137,14 +124,13 @@ pub extern "C" fn certis_open_portions(
     small: &mut [u8; 19],
     text: &mut [u8; 68],
 ) -> u32
-    ensures { PortionsOpenedAt code day (record { wide = wide.entry.now; length = length.old; narrow = narrow.old; frame = frame.old; small = small.old; text = text.old }) stood.old result (record { wide = wide.exit.now; length = length.new; narrow = narrow.new; frame = frame.new; small = small.new; text = text.new }) stood.new }
+    ensures { PortionsOpenedAt code day (record { wide = wide.old; length = length.old; narrow = narrow.old; frame = frame.old; small = small.old; text = text.old }) stood.old result (record { wide = wide.new; length = length.new; narrow = narrow.new; frame = frame.new; small = small.new; text = text.new }) stood.new }
 {
     portions_face::open(code, day, wide, length, narrow, frame, stood, small, text)
 }
 
 // A portion comes.
-#[unsafe(no_mangle)]
-pub extern "C" fn certis_add_portion(
+pub fn certis_add_portion(
     bytes: &[u8],
     wide: &mut [u64; 38],
     length: &mut u64,
@@ -157,7 +143,7 @@ pub extern "C" fn certis_add_portion(
     small: &mut [u8; 19],
     text: &mut [u8; 68],
 ) -> u32
-    ensures { PortionAddedAt bytes.now (record { numbers = record { wide = wide.entry.now; length = length.old; narrow = narrow.old; frame = frame.old; small = small.old; text = text.old }; lines = lines.old; rules = rules.old; offsets = offsets.old; stood = stood.old }) result (record { numbers = record { wide = wide.exit.now; length = length.new; narrow = narrow.new; frame = frame.new; small = small.new; text = text.new }; lines = lines.new; rules = rules.new; offsets = offsets.new; stood = stood.new }) }
+    ensures { PortionAddedAt bytes.now (record { numbers = record { wide = wide.old; length = length.old; narrow = narrow.old; frame = frame.old; small = small.old; text = text.old }; lines = lines.old; rules = rules.old; offsets = offsets.old; stood = stood.old }) result (record { numbers = record { wide = wide.new; length = length.new; narrow = narrow.new; frame = frame.new; small = small.new; text = text.new }; lines = lines.new; rules = rules.new; offsets = offsets.new; stood = stood.new }) }
 {
     portions_face::add(
         bytes, wide, length, narrow, frame, lines, rules, offsets, stood, small, text,
@@ -165,8 +151,7 @@ pub extern "C" fn certis_add_portion(
 }
 
 // No more comes: `first`, `second` and `third` take the line numbers, the rules and the offsets.
-#[unsafe(no_mangle)]
-pub extern "C" fn certis_close_portions(
+pub fn certis_close_portions(
     wide: &mut [u64; 38],
     length: &mut u64,
     narrow: &mut [u32; 33],
@@ -182,7 +167,7 @@ pub extern "C" fn certis_close_portions(
     third: &mut [u32; 256],
     total: &mut u64,
 ) -> u32
-    ensures { PortionsClosedAt (record { numbers = record { wide = wide.entry.now; length = length.old; narrow = narrow.old; frame = frame.old; small = small.old; text = text.old }; lines = lines.old; rules = rules.old; offsets = offsets.old; stood = stood.old }) first.old second.old third.old total.old result (record { numbers = record { wide = wide.exit.now; length = length.new; narrow = narrow.new; frame = frame.new; small = small.new; text = text.new }; lines = lines.new; rules = rules.new; offsets = offsets.new; stood = stood.new }) first.new second.new third.new total.new }
+    ensures { PortionsClosedAt (record { numbers = record { wide = wide.old; length = length.old; narrow = narrow.old; frame = frame.old; small = small.old; text = text.old }; lines = lines.old; rules = rules.old; offsets = offsets.old; stood = stood.old }) first.old second.old third.old total.old result (record { numbers = record { wide = wide.new; length = length.new; narrow = narrow.new; frame = frame.new; small = small.new; text = text.new }; lines = lines.new; rules = rules.new; offsets = offsets.new; stood = stood.new }) first.new second.new third.new total.new }
 {
     portions_face::close(
         wide, length, narrow, frame, lines, rules, offsets, stood, small, text, first, second,
