@@ -18,16 +18,13 @@ use Rattle.headings.specs.declared.Code.{Code}
 use Rattle.headings.specs.declared.Amount.{Amount}
 use Rattle.headings.specs.declared.ItemNo.{ItemNo}
 use Rattle.headings.specs.declared.Heading.{Heading}
-use Rattle.headings.specs.declared.Read.{Read}
-use Rattle.headings.specs.declared.Read.TheVariants.{Reads, Unreadable}
 use Rattle.headings.specs.ItemTypes.{is_payment, is_priority, is_input, group_of}
 use Rattle.headings.specs.HeadRules.{rule10, rule13, rule14}
-use Rattle.rules.specs.declared.FirstKc.{FirstKc}
-use Rattle.rules.specs.declared.FirstKc.TheVariants.{NoKc, BrokenKc, Pays}
-use Rattle.rules.specs.declared.FirstIn.{FirstIn}
-use Rattle.rules.specs.declared.FirstIn.TheVariants.{NoIn, BrokenIn, Runs}
-use Rattle.rules.specs.declared.FirstSum.{FirstSum}
-use Rattle.rules.specs.declared.FirstSum.TheVariants.{NoSum, BrokenSum, Says}
+use Rattle.rules.specs.declared.First.{First}
+use Rattle.rules.specs.declared.First.TheVariants.{Missing, Unread, Says}
+use Rattle.rules.specs.declared.Payment.{Payment}
+use Rattle.rules.specs.declared.Range.{Range}
+use Rattle.rules.specs.declared.Statement.{Statement}
 use Rattle.rules.specs.declared.Sums.{Sums}
 use Rattle.rules.specs.declared.Digest.{Digest}
 use Rattle.rules.specs.Terms.{Terms}
@@ -39,9 +36,10 @@ use Rattle.rules.specs.Spots.{own_tests, block_tests}
 use Rattle.blocks.specs.Model.{breaks18, skips_to, breaks20, breaks21, tells_capped, misstated_capped, group_breaks, group_marks, open_marks, ending_marks, closing_marks, course_of, count_cap, sum_cap}
 use Rattle.own_rules.specs.Model.{basis_of, breaks8, breaks11, own_marks}
 use Rattle.group_sums.specs.Model.{plus_at}
-use Rattle.account.specs.Model.{counts_after, sums_after, kc_block, heading_block, touched_block, empty_block, read_block, read_marks, close_at, close_model}
+use Rattle.account.specs.Model.{counts_after, sums_after, kc_block, heading_block, heading_course, touched_block, empty_block, read_block, read_marks, close_at, close_model}
 use Rattle.account.specs.Summary.{priority_first, day_first, number_first, number_last, ten, summary, marks_by}
 use Rattle.account.proofs.Ten.{cap_cap, get_ten, set_ten, same_ten}
+use Rattle.std.specs.Prelude.{None, Option, Some}
 
 -- ---- days by limits: what `breaks_eleven` and `breaks_eight` say
 -- the last day itself is not after the accounting day; and where it is not real, it is 0
@@ -105,11 +103,11 @@ same_skips : (hs : List Heading) (n : ItemNo) → skips_to (not (empty hs)) (num
 same_skips [] n = refl
 same_skips (g ∷ gs) n = refl
 
-same_span : (hs : List Heading) (s : FirstIn) → breaks21 (not (empty hs)) (number_first hs) (number_last hs) s ≡ span_wrong hs s
-same_span hs NoIn = refl
-same_span hs BrokenIn = refl
-same_span [] (Runs a b) = refl
-same_span (g ∷ gs) (Runs a b) = refl
+same_span : (hs : List Heading) (s : First Range) → breaks21 (not (empty hs)) (number_first hs) (number_last hs) s ≡ span_wrong hs s
+same_span hs Missing = refl
+same_span hs Unread = refl
+same_span [] (Says p) = refl
+same_span (g ∷ gs) (Says p) = refl
 
 alike : (p : Bool) → unlike p p ≡ false
 alike true = refl
@@ -121,20 +119,20 @@ same_class [] k = ap (λ (b : Bool). is_payment k && b) (sym (alike (is_priority
 same_class (u ∷ us) k = refl
 
 -- ---- an Sd has 7 digits for the count and 17 for the sum, so caps there change nothing
-abbrev pub Within : FirstSum → Type 0
-Within NoSum = Unit {0}
-Within BrokenSum = Unit {0}
-Within (Says c s) = (c < count_cap) × (s.0 < sum_cap)
+abbrev pub Within : First Statement → Type 0
+Within Missing = Unit {0}
+Within Unread = Unit {0}
+Within (Says p) = (p.count < count_cap) × (p.sum.0 < sum_cap)
 
 -- each of the ten does
 abbrev pub AllWithin : Sums → Type 0
 AllWithin stated = (d : ℕ) → Within (stated_in stated.groups d)
 
 -- 'a true sum of 10^17 or more equals no Sd', nor does a count of 10^7 or more
-pub large_sum : (n t c : ℕ) (s : Amount) → Within (Says c s) → sum_cap ≤ t → misstated n t (Says c s) ≡ true
+pub large_sum : (n t c : ℕ) (s : Amount) → Within (Says (record { count = c; sum = s })) → sum_cap ≤ t → misstated n t (Says (record { count = c; sum = s })) ≡ true
 large_sum n t c s w h = rw (ne_eqb s.0 t (λ e. omega (arith, w.1)), and-false (eqb c n))
 
-pub large_count : (n t c : ℕ) (s : Amount) → Within (Says c s) → count_cap ≤ n → misstated n t (Says c s) ≡ true
+pub large_count : (n t c : ℕ) (s : Amount) → Within (Says (record { count = c; sum = s })) → count_cap ≤ n → misstated n t (Says (record { count = c; sum = s })) ≡ true
 large_count n t c s w h = rw (ne_eqb c n (λ e. omega (arith, w.0)))
 
 below_cap : (c n : ℕ) → n < c → min c n ≡ n
@@ -154,10 +152,10 @@ same_told n t c s hc hs = go (ltb n count_cap) refl (ltb t sum_cap) refl
         (sym (and-false (eqb c n)))
     go true e true f = rw (below_cap count_cap n (ltb-true n count_cap e), below_cap sum_cap t (ltb-true t sum_cap f), e, f)
 
-same_group : (n t : ℕ) (s : FirstSum) → Within s → misstated_capped (min count_cap n) (min sum_cap t) s ≡ misstated n t s
-same_group n t NoSum w = ap not (same_told n t 0 0 (omega arith) (omega arith))
-same_group n t BrokenSum w = refl
-same_group n t (Says c s) w = ap not (same_told n t c s.0 w.0 w.1)
+same_group : (n t : ℕ) (s : First Statement) → Within s → misstated_capped (min count_cap n) (min sum_cap t) s ≡ misstated n t s
+same_group n t Missing w = ap not (same_told n t 0 0 (omega arith) (omega arith))
+same_group n t Unread w = refl
+same_group n t (Says p) w = ap not (same_told n t p.count p.sum.0 w.0 w.1)
 
 -- ---- the account after one heading more
 same_classed_after : (ts : List ℕ) (k : ℕ) (p : Bool) → (not (empty ts) || p) ≡ not (empty (cond p (k ∷ ts) ts))
@@ -209,25 +207,25 @@ module _ (cap a inc : ℕ) (μ : List ℕ → ℕ) (law : (ns : List ℕ) → μ
   amount_ten t true = plus_ten t
   amount_ten t false = refl
 
-same_counts : (is : List Digest) (k : ℕ) (kc : FirstKc)
+same_counts : (is : List Digest) (k : ℕ) (kc : First Payment)
     → counts_after (ten (λ d. min count_cap (length (amounts d is)))) k kc
     ≡ ten (λ d. min count_cap (length (with_amount kc (is_payment k && eqb (group_of k) d) (amounts d is))))
 unfolding counts_after
-same_counts is k NoKc = refl
-same_counts is k BrokenKc = refl
-same_counts is k (Pays a day) = amount_ten count_cap a.0 1 length (λ ns. omega arith) is (group_of k) (is_payment k)
+same_counts is k Missing = refl
+same_counts is k Unread = refl
+same_counts is k (Says p) = amount_ten count_cap p.amount.0 1 length (λ ns. omega arith) is (group_of k) (is_payment k)
 
-same_sums : (is : List Digest) (k : ℕ) (kc : FirstKc)
+same_sums : (is : List Digest) (k : ℕ) (kc : First Payment)
     → sums_after (ten (λ d. min sum_cap (sum (amounts d is)))) k kc
     ≡ ten (λ d. min sum_cap (sum (with_amount kc (is_payment k && eqb (group_of k) d) (amounts d is))))
 unfolding sums_after
-same_sums is k NoKc = refl
-same_sums is k BrokenKc = refl
-same_sums is k (Pays a day) = amount_ten sum_cap a.0 a.0 sum (λ ns. omega arith) is (group_of k) (is_payment k)
+same_sums is k Missing = refl
+same_sums is k Unread = refl
+same_sums is k (Says p) = amount_ten sum_cap p.amount.0 p.amount.0 sum (λ ns. omega arith) is (group_of k) (is_payment k)
 
 -- ---- the account after an item, and its marks
-module _ (terms : Terms) (above : List Digest) (kc : FirstKc) (span : FirstIn) (sums : Sums) (within : AllWithin sums) where
-  abbrev item : Read → Digest
+module _ (terms : Terms) (above : List Digest) (kc : First Payment) (span : First Range) (sums : Sums) (within : AllWithin sums) where
+  abbrev item : Option Heading → Digest
   item hd = record { head = hd; kc = kc; span = span; sums = sums }
 
   abbrev blk : List Digest
@@ -237,8 +235,8 @@ module _ (terms : Terms) (above : List Digest) (kc : FirstKc) (span : FirstIn) (
   abbrev closing : ℕ → Code → ItemNo → Code → ItemNo → Code → Heading
   closing d f n s o t = record { kind = 51; day = d; first = f; number = n; second = s; output = o; third = t }
 
-  block_open : (h : Heading) → eqb h.kind 51 ≡ false → kc_block (heading_block (summary above) h) h.kind kc ≡ summary (item (Reads h) ∷ above)
-  unfolding kc_block heading_block summary
+  block_open : (h : Heading) → eqb h.kind 51 ≡ false → kc_block (heading_block (summary above) h) h.kind kc ≡ summary (item (Some h) ∷ above)
+  unfolding kc_block heading_block heading_course summary
   block_open h e =
       simp (
         e,
@@ -251,7 +249,7 @@ module _ (terms : Terms) (above : List Digest) (kc : FirstKc) (span : FirstIn) (
       )
 
   block_closing : (d : ℕ) (f : Code) (n : ItemNo) (s : Code) (o : ItemNo) (t : Code)
-      → empty_block (summary above).classed (summary above).priority ≡ summary (item (Reads (closing d f n s o t)) ∷ above)
+      → empty_block (summary above).course.classed (summary above).course.priority ≡ summary (item (Some (closing d f n s o t)) ∷ above)
   unfolding empty_block summary is_payment is_input
   block_closing d f n s o t = refl
 
@@ -262,7 +260,7 @@ module _ (terms : Terms) (above : List Digest) (kc : FirstKc) (span : FirstIn) (
   own_are h = rw (same_eleven terms h)
 
   marks_open : (h : Heading) → eqb h.kind 51 ≡ false
-      → own_marks (basis_of terms) h kc + open_marks (course_of (summary above)) h ≡ marks_by terms above (item (Reads h)) (Reads h)
+      → own_marks (basis_of terms) h kc + open_marks (course_of (summary above)) h ≡ marks_by terms above (item (Some h)) (Some h)
   unfolding open_marks own_tests block_tests summary
   marks_open h e =
       simp (
@@ -276,7 +274,7 @@ module _ (terms : Terms) (above : List Digest) (kc : FirstKc) (span : FirstIn) (
 
   marks_closing : (d : ℕ) (f : Code) (n : ItemNo) (s : Code) (o : ItemNo) (t : Code)
       → own_marks (basis_of terms) (closing d f n s o t) kc + closing_marks (summary above) (closing d f n s o t) span sums
-      ≡ marks_by terms above (item (Reads (closing d f n s o t))) (Reads (closing d f n s o t))
+      ≡ marks_by terms above (item (Some (closing d f n s o t))) (Some (closing d f n s o t))
   unfolding closing_marks ending_marks group_marks group_breaks own_tests block_tests summary is_payment is_input
   marks_closing d f n s o t =
       simp (
@@ -303,40 +301,40 @@ module _ (terms : Terms) (above : List Digest) (kc : FirstKc) (span : FirstIn) (
           ≡ misstated (length (amounts d blk)) (sum (amounts d blk)) (stated_in sums.groups d)
       group d = same_group (length (amounts d blk)) (sum (amounts d blk)) (stated_in sums.groups d) (within d)
 
-  abbrev Holds : Read → Type 0
+  abbrev Holds : Option Heading → Type 0
   Holds hd =
       close_at (basis_of terms) (summary above) (item hd) hd
       ≡ record { block = summary (item hd ∷ above); marks = marks_by terms above (item hd) hd }
 
-  block_unreadable : (k : FirstKc) → touched_block (summary above) ≡ summary (record { head = Unreadable; kc = k; span = span; sums = sums } ∷ above)
+  block_unreadable : (k : First Payment) → touched_block (summary above) ≡ summary (record { head = None; kc = k; span = span; sums = sums } ∷ above)
   unfolding touched_block summary
-  block_unreadable NoKc = refl
-  block_unreadable BrokenKc = refl
-  block_unreadable (Pays a day) = refl
+  block_unreadable Missing = refl
+  block_unreadable Unread = refl
+  block_unreadable (Says p) = refl
 
-  holds_unreadable : Holds Unreadable
+  holds_unreadable : Holds None
   unfolding close_at own_tests block_tests
   holds_unreadable = rw (block_unreadable kc)
 
-  holds_open : (h : Heading) → eqb h.kind 51 ≡ false → Holds (Reads h)
+  holds_open : (h : Heading) → eqb h.kind 51 ≡ false → Holds (Some h)
   unfolding close_at read_block read_marks
   holds_open h e = rw (e, block_open h e, marks_open h e)
 
-  holds_closing : (d : ℕ) (f : Code) (n : ItemNo) (s : Code) (o : ItemNo) (t : Code) → Holds (Reads (closing d f n s o t))
+  holds_closing : (d : ℕ) (f : Code) (n : ItemNo) (s : Code) (o : ItemNo) (t : Code) → Holds (Some (closing d f n s o t))
   unfolding close_at read_block read_marks
   holds_closing d f n s o t = rw (block_closing d f n s o t, marks_closing d f n s o t)
 
-  holds_read : (h : Heading) (b : Bool) → eqb h.kind 51 ≡ b → Holds (Reads h)
+  holds_read : (h : Heading) (b : Bool) → eqb h.kind 51 ≡ b → Holds (Some h)
   holds_read h true e =
       subst
-      (λ (k : ℕ). Holds (Reads (record { kind = k; day = h.day; first = h.first; number = h.number; second = h.second; output = h.output; third = h.third })))
+      (λ (k : ℕ). Holds (Some (record { kind = k; day = h.day; first = h.first; number = h.number; second = h.second; output = h.output; third = h.third })))
       (sym (eqb-true h.kind 51 e))
       (holds_closing h.day h.first h.number h.second h.output h.third)
   holds_read h false e = holds_open h e
 
-  holds : (hd : Read) → Holds hd
-  holds Unreadable = holds_unreadable
-  holds (Reads h) = holds_read h (eqb h.kind 51) refl
+  holds : (hd : Option Heading) → Holds hd
+  holds None = holds_unreadable
+  holds (Some h) = holds_read h (eqb h.kind 51) refl
 
 -- the theorem: from the account of the items above, the step makes the account with the item, and the marks that the rules say
 pub account : (terms : Terms) (above : List Digest) (it : Digest) → AllWithin it.sums

@@ -1,3 +1,4 @@
+mod Counting
 pub mod Ten
 pub mod Accounting
 pub mod Parts

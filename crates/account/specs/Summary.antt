@@ -1,9 +1,8 @@
 -- Model of the code, not part of the statement: the running account, as what it says of the items above.
-use Rattle.std.specs.Prelude.{ℕ, min, Bool, false, not, List, [], ◌∷◌, ◌++◌, length}
+use Rattle.std.specs.Prelude.{ℕ, min, Bool, false, not, List, [], ◌∷◌, ◌++◌, length, Option}
 use Rattle.laws.specs.Lists.{sum}
 use Rattle.headings.specs.declared.ItemNo.{ItemNo}
 use Rattle.headings.specs.declared.Heading.{Heading}
-use Rattle.headings.specs.declared.Read.{Read}
 use Rattle.headings.specs.ItemTypes.{is_priority}
 use Rattle.rules.specs.declared.Digest.{Digest}
 use Rattle.rules.specs.Blocks.{empty, oldest, block_above, readable, payments, amounts}
@@ -37,13 +36,15 @@ ten f = f 0 ∷ f 1 ∷ f 2 ∷ f 3 ∷ f 4 ∷ f 5 ∷ f 6 ∷ f 7 ∷ f 8 ∷ 
 abbrev pub block_of : List ℕ → List Digest → List Heading → Block
 block_of ts is hs =
     record {
-      classed = not (empty ts);
-      priority = priority_first ts;
-      any = not (empty is);
-      some = not (empty hs);
-      day = day_first hs;
-      first = number_first hs;
-      last = number_last hs;
+      course = record {
+        classed = not (empty ts);
+        priority = priority_first ts;
+        any = not (empty is);
+        some = not (empty hs);
+        day = day_first hs;
+        first = number_first hs;
+        last = number_last hs;
+      };
       counts = ten (λ d. min count_cap (length (amounts d is)));
       sums = ten (λ d. min sum_cap (sum (amounts d is)));
     }
@@ -54,5 +55,5 @@ summary above = block_of (payments (readable above)) (block_above above) (readab
 
 -- the marks of 10 to 15, 17 to 21 and 30 to 39 at an item's heading, as one set: what the account is to give. 16 is not one: it needs the
 -- items below
-abbrev pub marks_by : Terms → List Digest → Digest → Read → ℕ
+abbrev pub marks_by : Terms → List Digest → Digest → Option Heading → ℕ
 marks_by terms above it hd = set_of (own_tests terms it hd ++ block_tests above it hd)

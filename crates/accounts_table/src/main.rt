@@ -4,107 +4,46 @@
 // Writes how many accounts it agrees on, and every line that it does not.
 #![tactic(auto)]
 
-ghost use Rattle.std.specs.Prelude.{◌≤◌};
-
 use anyhow::Context;
-use figures::accounts::Account;
-use figures::parts::{Halves, Number};
+use figures::accounts;
+use figures::parts::Number;
 use std::io;
 
-// Whether the check agrees with a line's verdict, and whether it says that both halves are good.
-#[derive(Clone, Copy)]
-struct Found {
-    agrees: bool,
-    holds: bool,
-}
-
-fn is_good(number: Number) -> bool {
-    match number {
-        Number::Good => true,
-        Number::Failing => false,
-        Number::Zero => false,
-    }
-}
-
-fn both_good(h: Halves) -> bool {
-    let number = h.number;
-    h.prefix & is_good(number)
-}
-
-fn sign(good: bool) -> u8 {
-    if good { b'+' } else { b'-' }
-}
-
-fn compared(answer: Account, verdict: u8) -> Found {
-    match answer {
-        Account::Judged(halves) => {
-            let holds = both_good(halves);
-            Found {
-                agrees: verdict == sign(holds),
-                holds,
-            }
-        }
-        Account::NotDigits => Found {
-            agrees: false,
-            holds: false,
-        },
-    }
-}
-
-// What the check makes of a line. One that is not laid out as said above agrees with nothing.
-fn judged(line: &[u8]) -> Found {
-    let dash = data_file::find(line, 0, b'-');
-    if line.len() <= dash {
-        return compared(Account::NotDigits, 0);
-    }
-    let gap = data_file::find(line, dash + 1, b' ');
-    if line.len() <= gap + 1 {
-        return compared(Account::NotDigits, 0);
-    }
-    compared(
-        figures::accounts::check(&line[0..dash], &line[dash + 1..gap]),
-        line[gap + 1],
-    )
-}
-
-fn one_if(t: bool) -> u64
-    ensures { result ≤ 1 }
-{
-    if t {
-        return 1;
-    }
-    0
-}
-
-fn show_unless(rt: &impl Print, agrees: bool, line: &[u8]) -> io::Result<()> {
-    if !agrees {
-        rt.write_all(line)?;
-        rt.write_all(b" differs\n")?;
-    }
-    Ok(())
-}
-
-fn show(rt: &impl Print, what: &str, n: u64) -> io::Result<()> {
-    println!(rt; "{what} {n}")
+// Whether both halves of a line's account are good, by the check and by the line's verdict; `None` where the two differ, or where the
+// line is not laid out as said above.
+fn agreed(line: &[u8]) -> Option<bool> {
+    let dash = line.iter().position(|&b| b == b'-')?;
+    let rest = &line[dash + 1..];
+    let gap = rest.iter().position(|&b| b == b' ')?;
+    let verdict = *rest.get(gap + 1)?;
+    let halves = accounts::check(&line[..dash], &rest[..gap]).ok()?;
+    let good = halves.prefix && halves.number == Number::Good;
+    (verdict == if good { b'+' } else { b'-' }).then_some(good)
 }
 
 fn show_all(rt: &impl Print, s: &[u8]) -> io::Result<()> {
-    let mut hold: u64 = 0;
-    let mut fail: u64 = 0;
-    let mut differ: u64 = 0;
+    let mut hold: usize = 0;
+    let mut fail: usize = 0;
+    let mut differ: usize = 0;
     let mut at = 0;
+    // A `for` over `split_inclusive` was tried: the invariant that bounds the counts by its iterator does not check.
     while at < s.len() {
-        let end = data_file::find(s, at, 10);
-        let found = judged(&s[at..end]);
-        show_unless(rt, found.agrees, &s[at..end])?;
-        hold += one_if(found.agrees & found.holds);
-        fail += one_if(found.agrees & !found.holds);
-        differ += one_if(!found.agrees);
+        let end = data_file::find(s, at, b'\n');
+        let line = &s[at..end];
+        match agreed(line) {
+            Some(true) => hold += 1,
+            Some(false) => fail += 1,
+            None => {
+                rt.write_all(line)?;
+                rt.write_all(b" differs\n")?;
+                differ += 1;
+            }
+        }
         at = end + 1;
     }
-    show(rt, "both hold", hold)?;
-    show(rt, "both fail", fail)?;
-    show(rt, "differ", differ)
+    println!(rt; "both hold {hold}")?;
+    println!(rt; "both fail {fail}")?;
+    println!(rt; "differ {differ}")
 }
 
 fn main(rt: HostRuntime) -> anyhow::Result<()> {

@@ -17,18 +17,18 @@ use Rattle.register.specs.Register.{Register, size_of, register_bytes, count_in,
 use Rattle.register.specs.Entering.{kept}
 use Rattle.register.specs.Spans.{Span, spans_of, froms, tos, ranges_of}
 use Rattle.register.proofs.RoundTrip.{length_register}
-use Rattle.merging.specs.declared.Merged.{Merged}
-use Rattle.adding.specs.declared.Entered.{Entered}
-use Rattle.adding.specs.declared.Entered.TheVariants.{Written, UsedAlready, TooMany, TooShort}
+use Rattle.std.specs.Prelude.{Result, Ok, Err, Option, None, Some}
+use Rattle.adding.specs.declared.EnterError.{EnterError}
+use Rattle.adding.specs.declared.EnterError.TheVariants.{UsedAlready, TooMany, TooShort}
 use Rattle.gathering.specs.Keys.{Kept}
-use Rattle.merging.specs.Merging.{paired, weave, hits, closed, Merges}
+use Rattle.merging.specs.Merging.{paired, weave, hits, closed, Closes, Merges}
 use Rattle.adding.specs.Answers.{entered_number, written_or, target_after, size_after, Answers}
 use Rattle.adding.specs.Steps.{closed_up, keys_refusals, keys_register, EntersKeys}
 
 -- ---- an answer
 module _ {refusals : List Refusal} {g : Register} {before : List ℕ} where
   -- a refusal leaves the target as it was
-  pub refused : (r : Entered) → entered_number r ≡ first refusals → 1 ≤ entered_number r → ((old : ℕ) → written_or r old ≡ old) → Answers refusals g before r before
+  pub refused : (r : Result ℕ EnterError) → entered_number r ≡ first refusals → 1 ≤ entered_number r → ((old : ℕ) → written_or r old ≡ old) → Answers refusals g before r before
   refused r e h w =
       let z = ne_eqb (first refusals) 0 (λ q. omega (arith, e, h, q)) in
       record {
@@ -37,7 +37,7 @@ module _ {refusals : List Refusal} {g : Register} {before : List ℕ} where
         target = sym (ap (λ (b : Bool). cond b (register_bytes g ++ drop (size_of (length g.ranges)) before) before) z);
       }
 
-  pub done : first refusals ≡ 0 → {after : List ℕ} {n : ℕ} → Wrote before 0 (register_bytes g) after n → Answers refusals g before (Written n) after
+  pub done : first refusals ≡ 0 → {after : List ℕ} {n : ℕ} → Wrote before 0 (register_bytes g) after n → Answers refusals g before (Ok n) after
   done e {after} {n} w =
       let z = eq-eqb (first refusals) 0 e in
       let s = length_register g in
@@ -51,7 +51,7 @@ module _ {refusals : List Refusal} {g : Register} {before : List ℕ} where
       }
 
   -- the same answer to other refusals, of which the same comes first, and to the same register
-  pub answers_as : {refusals' : List Refusal} {g' : Register} {r : Entered} {after : List ℕ} → first refusals ≡ first refusals' → (first refusals ≡ 0 → g ≡ g')
+  pub answers_as : {refusals' : List Refusal} {g' : Register} {r : Result ℕ EnterError} {after : List ℕ} → first refusals ≡ first refusals' → (first refusals ≡ 0 → g ≡ g')
       → Answers refusals g before r after → Answers refusals' g' before r after
   answers_as {refusals'} {g'} {r} {after} e f A = record {
     number = A.number ∙ e;
@@ -70,22 +70,20 @@ paired_back [] = refl
 paired_back (s ∷ ss) = ap (λ (l : List Span). s ∷ l) (paired_back ss)
 
 -- what a merge says of the spans whose ends it was lent
-pub record MergedOf (ss : List Span) (keys : List ℕ) (m : Merged) (xs ys : List ℕ) : Type 0 where
-  pub clash : m.clash ≡ hits 0 (weave ss keys)
-  pub count : m.clash ≡ false → m.count ≡ length (closed_up ss keys)
-  pub firsts : m.clash ≡ false → m.count ≤ length xs → take m.count xs ≡ froms (closed_up ss keys)
-  pub lasts : m.clash ≡ false → m.count ≤ length ys → take m.count ys ≡ tos (closed_up ss keys)
+pub record MergedOf (ss : List Span) (keys : List ℕ) (count : ℕ) (xs ys : List ℕ) : Type 0 where
+  pub apart : hits 0 (weave ss keys) ≡ false
+  pub closes : Closes (weave ss keys) count xs ys
 
-pub merged_of : {ss : List Span} {k : ℕ} {starts ends : List ℕ} → Kept ss k starts ends → {keys : List ℕ} {m : Merged} {xs ys : List ℕ} → Merges keys (take k starts) (take k ends) m xs ys → MergedOf ss keys m xs ys
-merged_of {ss} {k} {starts} {ends} K {keys} {m} {xs} {ys} M =
-    let M' : Merges keys (froms ss) (tos ss) m xs ys = rw (K.starts_at, K.ends_at) at M in
-    let e = paired_back ss in
-    record {
-      clash = M'.clash ∙ ap (λ (l : List Span). hits 0 (weave l keys)) e;
-      count = λ c. M'.count c ∙ ap (λ (l : List Span). length (closed 0 0 (weave l keys))) e;
-      firsts = λ c h. M'.firsts c h ∙ ap (λ (l : List Span). froms (closed 0 0 (weave l keys))) e;
-      lasts = λ c h. M'.lasts c h ∙ ap (λ (l : List Span). tos (closed 0 0 (weave l keys))) e;
-    }
+module _ {ss : List Span} {k : ℕ} {starts ends : List ℕ} (K : Kept ss k starts ends) (keys : List ℕ) {m : Option ℕ} (xs ys : List ℕ) where
+  pub merged_clash : Merges keys (take k starts) (take k ends) m xs ys → m ≡ None → hits 0 (weave ss keys) ≡ true
+  merged_clash M e =
+      let M' : Merges keys (froms ss) (tos ss) None xs ys = rw (K.starts_at, K.ends_at, e) at M in
+      ap (λ (l : List Span). hits 0 (weave l keys)) (sym (paired_back ss)) ∙ M'
+
+  pub merged_of : {count : ℕ} → Merges keys (take k starts) (take k ends) m xs ys → m ≡ Some count → MergedOf ss keys count xs ys
+  merged_of {count} M e =
+      let M' : Merges keys (froms ss) (tos ss) (Some count) xs ys = rw (K.starts_at, K.ends_at, e) at M in
+      subst (λ (l : List Span). MergedOf l keys count xs ys) (paired_back ss) (record { apart = M'.0; closes = M'.1 })
 
 -- the ranges read by their count are the register's
 pub kept_as : (reg : List ℕ) (day : ℕ) {n : ℕ} → n ≡ count_in reg → {k : ℕ} {starts ends : List ℕ} → Kept (spans_of (kept day (ranges_in n (drop 13 reg)))) k starts ends
@@ -112,38 +110,38 @@ tos_drop : (ss : List Span) → drop 1 (tos ss) ≡ tos (drop 1 ss)
 tos_drop [] = refl
 tos_drop (s ∷ ss) = refl
 
-module _ {ss : List Span} {keys : List ℕ} (code day : ℕ) (before : List ℕ) {m : Merged} {xs ys : List ℕ} (M : MergedOf ss keys m xs ys) where
-  pub keys_clash : m.clash ≡ true → EntersKeys ss keys code day before UsedAlready before
-  keys_clash c = let e : hits 0 (weave ss keys) ≡ true = sym M.clash ∙ c in refused UsedAlready (rw e) (omega arith) (λ old. refl)
+module _ (ss : List Span) (keys : List ℕ) (code day : ℕ) (before : List ℕ) where
+  pub keys_clash : hits 0 (weave ss keys) ≡ true → EntersKeys ss keys code day before (Err UsedAlready) before
+  keys_clash e = refused (Err UsedAlready) (rw e) (omega arith) (λ old. refl)
 
-  module _ (c : m.clash ≡ false) where
-    e : hits 0 (weave ss keys) ≡ false
-    e = sym M.clash ∙ c
+module _ {ss : List Span} {keys : List ℕ} (code day : ℕ) (before : List ℕ) {count : ℕ} {xs ys : List ℕ} (M : MergedOf ss keys count xs ys) where
+  e : hits 0 (weave ss keys) ≡ false
+  e = M.apart
 
-    n : m.count ≡ length (closed_up ss keys)
-    n = M.count c
+  n : count ≡ length (closed_up ss keys)
+  n = M.closes.count
 
-    pub keys_some : 1 ≤ m.count
-    keys_some = omega (arith, n, some_closed 0 0 (weave ss keys))
+  pub keys_some : 1 ≤ count
+  keys_some = omega (arith, n, some_closed 0 0 (weave ss keys))
 
-    pub keys_many : 1025 < m.count → EntersKeys ss keys code day before TooMany before
-    keys_many h = let f : ltb 1025 (length (closed_up ss keys)) ≡ true = lt-ltb 1025 (length (closed_up ss keys)) (omega (arith, n, h)) in refused TooMany (rw (e, f)) (omega arith) (λ old. refl)
+  pub keys_many : 1025 < count → EntersKeys ss keys code day before (Err TooMany) before
+  keys_many h = let f : ltb 1025 (length (closed_up ss keys)) ≡ true = lt-ltb 1025 (length (closed_up ss keys)) (omega (arith, n, h)) in refused (Err TooMany) (rw (e, f)) (omega arith) (λ old. refl)
 
-    module _ (h : m.count ≤ 1025) where
-      f : ltb 1025 (length (closed_up ss keys)) ≡ false
-      f = le-ltb 1025 (length (closed_up ss keys)) (omega (arith, n, h))
+  module _ (h : count ≤ 1025) where
+    f : ltb 1025 (length (closed_up ss keys)) ≡ false
+    f = le-ltb 1025 (length (closed_up ss keys)) (omega (arith, n, h))
 
-      pub keys_short : length before < 13 + 12 * (m.count - 1) → EntersKeys ss keys code day before TooShort before
-      keys_short l =
-          let s : ltb (length before) (size_of (length (closed_up ss keys) - 1)) ≡ true = lt-ltb (length before) (size_of (length (closed_up ss keys) - 1)) (omega (arith, n, l)) in
-          refused TooShort (rw (e, f, s)) (omega arith) (λ old. refl)
+    pub keys_short : length before < 13 + 12 * (count - 1) → EntersKeys ss keys code day before (Err TooShort) before
+    keys_short l =
+        let s : ltb (length before) (size_of (length (closed_up ss keys) - 1)) ≡ true = lt-ltb (length before) (size_of (length (closed_up ss keys) - 1)) (omega (arith, n, l)) in
+        refused (Err TooShort) (rw (e, f, s)) (omega arith) (λ old. refl)
 
-      pub keys_done : 13 + 12 * (m.count - 1) ≤ length before → m.count ≤ length xs → m.count ≤ length ys → {after : List ℕ} {size : ℕ}
-          → Wrote before 0 (register_bytes (record { code = code; latest = day; ranges = ranges_of (take (m.count - 1) (drop 1 xs)) (take (m.count - 1) (drop 1 ys)) })) after size
-          → EntersKeys ss keys code day before (Written size) after
-      keys_done l hx hy {after} {size} w =
-          let s : ltb (length before) (size_of (length (closed_up ss keys) - 1)) ≡ false = le-ltb (length before) (size_of (length (closed_up ss keys) - 1)) (omega (arith, n, l)) in
-          let a : take (m.count - 1) (drop 1 xs) ≡ froms (drop 1 (closed_up ss keys)) = sym (drop_take m.count xs keys_some) ∙ ap (drop 1) (M.firsts c hx) ∙ froms_drop (closed_up ss keys) in
-          let b : take (m.count - 1) (drop 1 ys) ≡ tos (drop 1 (closed_up ss keys)) = sym (drop_take m.count ys keys_some) ∙ ap (drop 1) (M.lasts c hy) ∙ tos_drop (closed_up ss keys) in
-          done {refusals = keys_refusals ss keys (length before)} {g = keys_register ss keys code day} {before = before} (rw (e, f, s))
-          (subst (λ (g : Register). Wrote before 0 (register_bytes g) after size) (λ i. record { code = code; latest = day; ranges = ranges_of (a i) (b i) }) w)
+    pub keys_done : 13 + 12 * (count - 1) ≤ length before → count ≤ length xs → count ≤ length ys → {after : List ℕ} {size : ℕ}
+        → Wrote before 0 (register_bytes (record { code = code; latest = day; ranges = ranges_of (take (count - 1) (drop 1 xs)) (take (count - 1) (drop 1 ys)) })) after size
+        → EntersKeys ss keys code day before (Ok size) after
+    keys_done l hx hy {after} {size} w =
+        let s : ltb (length before) (size_of (length (closed_up ss keys) - 1)) ≡ false = le-ltb (length before) (size_of (length (closed_up ss keys) - 1)) (omega (arith, n, l)) in
+        let a : take (count - 1) (drop 1 xs) ≡ froms (drop 1 (closed_up ss keys)) = sym (drop_take count xs keys_some) ∙ ap (drop 1) (M.closes.firsts hx) ∙ froms_drop (closed_up ss keys) in
+        let b : take (count - 1) (drop 1 ys) ≡ tos (drop 1 (closed_up ss keys)) = sym (drop_take count ys keys_some) ∙ ap (drop 1) (M.closes.lasts hy) ∙ tos_drop (closed_up ss keys) in
+        done {refusals = keys_refusals ss keys (length before)} {g = keys_register ss keys code day} {before = before} (rw (e, f, s))
+        (subst (λ (g : Register). Wrote before 0 (register_bytes g) after size) (λ i. record { code = code; latest = day; ranges = ranges_of (a i) (b i) }) w)

@@ -14,8 +14,6 @@ use Rattle.days.specs.Days.{later}
 use Rattle.days.proofs.Order.{real_parts}
 use Rattle.text.specs.Forms.{numbers_fit}
 use Rattle.headings.specs.declared.Heading.{Heading}
-use Rattle.headings.specs.declared.Read.{Read}
-use Rattle.headings.specs.declared.Read.TheVariants.{Reads, Unreadable}
 use Rattle.headings.specs.Reading.{heading_of}
 use Rattle.heading_writer.specs.Writing.{fits_heading}
 use Rattle.heading_writer.proofs.RoundTrips.{fits_read}
@@ -31,7 +29,8 @@ use Rattle.register.proofs.Spans.{weaken}
 use Rattle.register.proofs.Sets.{order_strung, all_sound, all_spans}
 use Rattle.register.proofs.Keys.{ranges_back}
 use Rattle.register.proofs.Formed.{range_parts, stand_sound, Formed, formed}
-use Rattle.adding.specs.declared.Entered.{Entered}
+use Rattle.std.specs.Prelude.{Result}
+use Rattle.adding.specs.declared.EnterError.{EnterError}
 use Rattle.gathering.specs.Keys.{Dated}
 use Rattle.merging.specs.Merging.{one, weave, hits}
 use Rattle.adding.specs.Answers.{uses_refusals}
@@ -39,6 +38,7 @@ use Rattle.adding.specs.Steps.{closed_up, keys_refusals, keys_register, EntersKe
 use Rattle.merging.proofs.Members.{Among, first as first_of, later as laterOf, among_is, count_no, count_same, closed_is}
 use Rattle.merging.proofs.Clashes.{clash_is}
 use Rattle.adding.proofs.Answered.{answers_as}
+use Rattle.std.specs.Prelude.{None, Option, Some}
 
 -- ---- a heading's number has seven digits
 seven : (h : Heading) → fits_heading h ≡ true → h.number.0 < 10000000
@@ -50,19 +50,19 @@ seven h e =
     let d = and_parts (ltb h.number.0 (10 ^ 7)) _ c.1 in
     ltb-true h.number.0 10000000 d.0
 
-head_seven : (g : Owned Row) (h : Heading) → head_of g ≡ Reads h → h.number.0 < 10000000
+head_seven : (g : Owned Row) (h : Heading) → head_of g ≡ Some h → h.number.0 < 10000000
 unfolding head_of
 head_seven g h e = go (continued g.below) e
   where
-    go : (b : Bool) → cond b Unreadable (heading_of g.owner.bytes) ≡ Reads h → h.number.0 < 10000000
+    go : (b : Bool) → cond b None (heading_of g.owner.bytes) ≡ Some h → h.number.0 < 10000000
     go true q = let z : ◌≡◌ {A = ℕ} 0 1 = cc in absurd (omega arith)
     go false q = seven h (fits_read g.owner.bytes h q)
 
-used_fit : (head : Read) → ((h : Heading) → head ≡ Reads h → h.number.0 < 10000000) → (us : List Use) → Fits us → Fits (used_at head us)
-used_fit (Reads h) f us F = by_test (eqb h.number.0 0)
+used_fit : (head : Option Heading) → ((h : Heading) → head ≡ Some h → h.number.0 < 10000000) → (us : List Use) → Fits us → Fits (used_at head us)
+used_fit (Some h) f us F = by_test (eqb h.number.0 0)
     (λ p. rw p F)
     (λ p. rw p (let n = eqb-false h.number.0 0 p in let m = f h refl in ((omega arith, omega arith), F)))
-used_fit Unreadable f us F = F
+used_fit None f us F = F
 
 items_fit : (is : List Item) → Fits (used (map slip_of is))
 items_fit [] = tt
@@ -175,5 +175,5 @@ module _ (g : Register) (w : well_formed g ≡ true) (us : List Use) (F : Fits u
       (λ p. let z : first (keys_refusals (spans_of rs) ks room) ≡ 27 = rw (hit_is ∙ p) in absurd (omega (arith, z, e)))
       (λ p. ap (λ (l : List Range). record { code = code; latest = today; ranges = l }) (ranges_are p))
 
-  pub enters_uses : (code : ℕ) {before : List ℕ} {r : Entered} {after : List ℕ} → EntersKeys (spans_of rs) ks code today before r after → EntersUses g us code today before r after
+  pub enters_uses : (code : ℕ) {before : List ℕ} {r : Result ℕ EnterError} {after : List ℕ} → EntersKeys (spans_of rs) ks code today before r after → EntersUses g us code today before r after
   enters_uses code {before} A = answers_as (same_first (length before)) (same_register code (length before)) A

@@ -10,15 +10,16 @@ ghost use Rattle.register.specs.Register.{is_register, register_of};
 ghost use Rattle.register.specs.Entering.{used, kept};
 ghost use Rattle.register.specs.Spans.{spans_of};
 ghost use Rattle.gathering.specs.Keys.{Dated};
+ghost use Rattle.adding.specs.declared.EnterError.TheVariants.{Refused};
+ghost use Rattle.adding.specs.Answers.{unentered_number};
 ghost use Rattle.adding.specs.Steps.{EntersKeys, EntersUses};
 
 use listing::checking::Unchecked;
 use register::bytes;
 
-// What entering answers.
-#[derive(Clone, Copy)]
-pub enum Entered {
-    Written(usize),
+// Why a file is not entered.
+#[derive(Clone, Copy, Debug, PartialEq, Eq)]
+pub enum EnterError {
     Refused(Unchecked),
     NotRegister,
     OtherCode,
@@ -29,8 +30,40 @@ pub enum Entered {
     TooShort,
 }
 
+impl From<Unchecked> for EnterError {
+    ghost from_gives = { λ refusal error. error ≡ Refused refusal };
+
+    fn from(refusal: Unchecked) -> EnterError {
+        EnterError::Refused(refusal)
+    }
+}
+
+// Document 02's number of a refusal.
+impl From<EnterError> for u32 {
+    ghost from_gives = { λ error number. number ≡ unentered_number error };
+
+    fn from(error: EnterError) -> u32 {
+        match error {
+            EnterError::Refused(refusal) => u32::from(refusal),
+            EnterError::NotRegister => 23,
+            EnterError::OtherCode => 24,
+            EnterError::DayBefore => 25,
+            EnterError::HasFaults => 26,
+            EnterError::UsedAlready => 27,
+            EnterError::TooMany => 28,
+            EnterError::TooShort => 29,
+        }
+    }
+}
+
 // The keys of a file, in order, added to the ranges that stay.
-fn enter_keys(register: &[u8], keys: &[u64], code: u32, day: u32, target: &mut [u8]) -> Entered
+fn enter_keys(
+    register: &[u8],
+    keys: &[u64],
+    code: u32,
+    day: u32,
+    target: &mut [u8],
+) -> Result<usize, EnterError>
     requires { (is_register register.now ≡ true) × (length keys.now ≤ 185186) }
     ensures { EntersKeys (spans_of (kept day (register_of register.now).ranges)) keys.now code day target.old result target.new }
 {
@@ -40,29 +73,27 @@ fn enter_keys(register: &[u8], keys: &[u64], code: u32, day: u32, target: &mut [
     let k = gathering::keep(register, day, n, &mut starts, &mut ends);
     let mut froms = [0u64; 1025];
     let mut tos = [0u64; 1025];
-    let m = merging::merge(keys, &starts[..k], &ends[..k], &mut froms, &mut tos);
-    if m.clash {
-        return Entered::UsedAlready;
-    }
-    let count = m.count;
+    let Some(count) = merging::merge(keys, &starts[..k], &ends[..k], &mut froms, &mut tos) else {
+        return Err(EnterError::UsedAlready);
+    };
     let many = 1025 < count;
     if many {
-        return Entered::TooMany;
+        return Err(EnterError::TooMany);
     }
     if target.len() < 13 + 12 * (count - 1) {
-        return Entered::TooShort;
+        return Err(EnterError::TooShort);
     }
-    Entered::Written(register_writer::put_register(
-        target,
-        code,
-        day,
-        &froms[1..count],
-        &tos[1..count],
-    ))
+    Ok(register_writer::put_register(target, code, day, &froms[1..count], &tos[1..count]))
 }
 
 // The items of an accepted file. 54 * 185186 bytes are more than a file may have.
-pub fn enter_items(register: &[u8], s: &[u8], code: u32, day: u32, target: &mut [u8]) -> Entered
+pub fn enter_items(
+    register: &[u8],
+    s: &[u8],
+    code: u32,
+    day: u32,
+    target: &mut [u8],
+) -> Result<usize, EnterError>
     requires { (is_register register.now ≡ true) × (length s.now ≤ 10000000) × Dated (used (slips_from 1 s.now)) × Each Readable (slips_from 1 s.now) }
     ensures { EntersUses (register_of register.now) (used (slips_from 1 s.now)) code day target.old result target.new }
 {

@@ -19,15 +19,16 @@ use Rattle.own_rules.specs.Model.{basis_of}
 use Rattle.going.specs.Reached.{Done}
 use Rattle.listing.specs.declared.checking.Unchecked.{Unchecked}
 use Rattle.listing.specs.declared.checking.Unchecked.TheVariants.{TooLong, NoMark, Leftovers, StartsWithMark}
-use Rattle.listing.specs.declared.checking.Checked.{Checked}
-use Rattle.listing.specs.declared.checking.Checked.TheVariants.{Total, Refused}
-use Rattle.listing.specs.Checking.{are_level, unchecked_number, Checks}
+use Rattle.std.specs.Prelude.{Result, Ok, Err, MatchResult, IsErrAnd}
+use Rattle.std.proofs.lemmas.Result.{err_from_is_err_and}
+use Rattle.listing.specs.Checking.{are_level, unchecked_number, checked_number, Checks}
 use Rattle.listing.proofs.Answers.{too_long, no_mark, leftovers, starts_with_mark_lem, checked}
 use Rattle.portions.specs.declared.Portions.{Portions}
-use Rattle.answering.specs.declared.Closing.TheVariants.{Done as Answered, Late}
+use Rattle.answering.specs.declared.CloseError.{CloseError}
+use Rattle.answering.specs.declared.CloseError.TheVariants.{Refused, Late}
 use Rattle.portions.specs.Usable.{is_open}
 use Rattle.portions.specs.States.{Rooms, HasRead, Holds, shut_of}
-use Rattle.answering.specs.Closing.{file_refusals, Settles, HandsOut, Closes}
+use Rattle.answering.specs.Closing.{file_refusals, closing_number, checked_in, Settles, HandsOut, Closes}
 use Rattle.handing.proofs.Handed.{handed}
 
 -- ---- what an open state knows of its file
@@ -71,8 +72,8 @@ level os qs ts rooms = rw (rooms.0, rooms.1, rooms.2)
 
 module _ (p : Portions) (ls rs ps stood os₀ qs₀ ts₀ : List ℕ) where
   -- a refusal, where checking refuses the file with the same number
-  refused : (u : Unchecked) → unchecked_number u ≡ first (file_refusals p) → ((code day : ℕ) (file : List ℕ) → Holds code day file p ls rs ps stood → Rooms os₀ qs₀ ts₀ → Checks file (input code day) os₀ qs₀ ts₀ (Refused u) os₀ qs₀ ts₀)
-      → Settles p ls rs ps stood os₀ qs₀ ts₀ (Refused u) ls rs ps stood os₀ qs₀ ts₀
+  refused : (u : Unchecked) → unchecked_number u ≡ first (file_refusals p) → ((code day : ℕ) (file : List ℕ) → Holds code day file p ls rs ps stood → Rooms os₀ qs₀ ts₀ → Checks file (input code day) os₀ qs₀ ts₀ (Err u) os₀ qs₀ ts₀)
+      → Settles p ls rs ps stood os₀ qs₀ ts₀ (Err u) ls rs ps stood os₀ qs₀ ts₀
   refused u e C = record { number = e; kept = λ _. (refl, refl, refl, refl, refl, refl, refl); checks = C }
 
   good_code : (code day : ℕ) (file : List ℕ) → Holds code day file p ls rs ps stood → not (is_code code) ≡ false
@@ -81,7 +82,7 @@ module _ (p : Portions) (ls rs ps stood os₀ qs₀ ts₀ : List ℕ) where
   good_day : (code day : ℕ) (file : List ℕ) → Holds code day file p ls rs ps stood → not (is_accounting_day day) ≡ false
   good_day code day file H = ap not H.good.1
 
-  pub file_too_long : 10000000 < p.bytes → Settles p ls rs ps stood os₀ qs₀ ts₀ (Refused TooLong) ls rs ps stood os₀ qs₀ ts₀
+  pub file_too_long : 10000000 < p.bytes → Settles p ls rs ps stood os₀ qs₀ ts₀ (Err TooLong) ls rs ps stood os₀ qs₀ ts₀
   file_too_long h =
       refused TooLong (rw (lt-ltb 10000000 p.bytes h))
       (λ code day file H _. too_long file (input code day) os₀ qs₀ ts₀ (good_code code day file H) (good_day code day file H) (omega (arith, H.bytes)))
@@ -90,7 +91,7 @@ module _ (p : Portions) (ls rs ps stood os₀ qs₀ ts₀ : List ℕ) where
     c : ltb 10000000 p.bytes ≡ false
     c = le-ltb 10000000 p.bytes h
 
-    pub file_no_mark : not p.seen ≡ true → Settles p ls rs ps stood os₀ qs₀ ts₀ (Refused NoMark) ls rs ps stood os₀ qs₀ ts₀
+    pub file_no_mark : not p.seen ≡ true → Settles p ls rs ps stood os₀ qs₀ ts₀ (Err NoMark) ls rs ps stood os₀ qs₀ ts₀
     file_no_mark e =
         refused NoMark (rw (c, e))
         (λ code day file H rooms.
@@ -106,7 +107,7 @@ module _ (p : Portions) (ls rs ps stood os₀ qs₀ ts₀ : List ℕ) where
           let m : has_mark file ≡ true = sym (H.seen short) ∙ not-false _ e in
           omega (arith, body_came p ls rs ps stood code day file H h, ltb-true (length (body file)) (length file) (body_shorter file ∙ m))
 
-      pub file_leftovers : p.going.came + 1 < p.bytes → Settles p ls rs ps stood os₀ qs₀ ts₀ (Refused Leftovers) ls rs ps stood os₀ qs₀ ts₀
+      pub file_leftovers : p.going.came + 1 < p.bytes → Settles p ls rs ps stood os₀ qs₀ ts₀ (Err Leftovers) ls rs ps stood os₀ qs₀ ts₀
       file_leftovers k =
           refused Leftovers (rw (c, e, lt-ltb (p.going.came + 1) p.bytes k))
           (λ code day file H rooms.
@@ -117,7 +118,7 @@ module _ (p : Portions) (ls rs ps stood os₀ qs₀ ts₀ : List ℕ) where
         d : ltb (p.going.came + 1) p.bytes ≡ false
         d = le-ltb (p.going.came + 1) p.bytes k
 
-        pub file_starts : p.going.came ≡ 0 → Settles p ls rs ps stood os₀ qs₀ ts₀ (Refused StartsWithMark) ls rs ps stood os₀ qs₀ ts₀
+        pub file_starts : p.going.came ≡ 0 → Settles p ls rs ps stood os₀ qs₀ ts₀ (Err StartsWithMark) ls rs ps stood os₀ qs₀ ts₀
         file_starts z =
             refused StartsWithMark (rw (c, e, d, eq-eqb p.going.came 0 z))
             (λ code day file H rooms.
@@ -125,7 +126,7 @@ module _ (p : Portions) (ls rs ps stood os₀ qs₀ ts₀ : List ℕ) where
             p.going.came (body_came p ls rs ps stood code day file H h) (marked code day file H) (omega (arith, all_counted p ls rs ps stood code day file H h)) z)
 
         pub file_listed : (p.going.came ≡ 0 → ⊥) → {g : Ledger} {ls' rs' ps' stood' os qs ts : List ℕ} → HandsOut p ls rs ps stood os₀ qs₀ ts₀ g os qs ts
-            → Settles p ls rs ps stood os₀ qs₀ ts₀ (Total g.total) ls' rs' ps' stood' os qs ts
+            → Settles p ls rs ps stood os₀ qs₀ ts₀ (Ok g.total) ls' rs' ps' stood' os qs ts
         file_listed z {g} {os = os} {qs} {ts} O =
             let n : first (file_refusals p) ≡ 0 = rw (c, e, d, ne_eqb p.going.came 0 z) in
             record {
@@ -143,7 +144,7 @@ module _ (p : Portions) (ls rs ps stood os₀ qs₀ ts₀ : List ℕ) where
 -- ---- closing
 
 module _ (p : Portions) (ls rs ps stood os₀ qs₀ ts₀ : List ℕ) where
-  pub late : is_open p ls rs ps ≡ false → Closes p ls rs ps stood os₀ qs₀ ts₀ (record { answer = Late; state = p }) ls rs ps stood os₀ qs₀ ts₀
+  pub late : is_open p ls rs ps ≡ false → Closes p ls rs ps stood os₀ qs₀ ts₀ (record { answer = Err Late; state = p }) ls rs ps stood os₀ qs₀ ts₀
   late e =
       record {
         number = rw e;
@@ -152,6 +153,32 @@ module _ (p : Portions) (ls rs ps stood os₀ qs₀ ts₀ : List ℕ) where
         checks = λ code day file H _. absurd (true≢false (sym H.usable ∙ e));
       }
 
-  pub answered : is_open p ls rs ps ≡ true → {q : Portions} → q ≡ shut_of p → {c : Checked} {ls' rs' ps' stood' os qs ts : List ℕ} → Settles p ls rs ps stood os₀ qs₀ ts₀ c ls' rs' ps' stood' os qs ts
-      → Closes p ls rs ps stood os₀ qs₀ ts₀ (record { answer = Answered c; state = q }) ls' rs' ps' stood' os qs ts
-  answered e f S = record { number = S.number ∙ rw e; state = f ∙ rw e; kept = λ k. S.kept (λ z. k (rw e z)); checks = S.checks }
+  -- checking's answer, as closing gives it
+  abbrev given : Result ℕ Unchecked → Result ℕ CloseError
+  given (Ok t) = Ok t
+  given (Err u) = Err (Refused u)
+
+  given_number : (c : Result ℕ Unchecked) → closing_number (given c) ≡ checked_number c
+  given_number (Ok t) = refl
+  given_number (Err u) = refl
+
+  given_back : (c : Result ℕ Unchecked) → checked_in (given c) ≡ c
+  given_back (Ok t) = refl
+  given_back (Err u) = refl
+
+  given_is : (c : Result ℕ Unchecked) {r : Result ℕ CloseError} → MatchResult c (λ t. r ≡ Ok t) (λ u. IsErrAnd r (λ e. e ≡ Refused u)) → r ≡ given c
+  given_is (Ok t) e = e
+  given_is (Err u) {r} e = let p = err_from_is_err_and r e in p.1 ∙ ap Err p.2
+
+  pub answered : is_open p ls rs ps ≡ true → {q : Portions} → q ≡ shut_of p → {c : Result ℕ Unchecked} {r : Result ℕ CloseError} → MatchResult c (λ t. r ≡ Ok t) (λ u. IsErrAnd r (λ e. e ≡ Refused u))
+      → {ls' rs' ps' stood' os qs ts : List ℕ} → Settles p ls rs ps stood os₀ qs₀ ts₀ c ls' rs' ps' stood' os qs ts
+      → Closes p ls rs ps stood os₀ qs₀ ts₀ (record { answer = r; state = q }) ls' rs' ps' stood' os qs ts
+  answered e f {c} {r} m {ls'} {rs'} {ps'} {stood'} {os} {qs} {ts} S =
+      let g : r ≡ given c = given_is c m in
+      record {
+        number = ap closing_number g ∙ given_number c ∙ S.number ∙ rw e;
+        state = f ∙ rw e;
+        kept = λ k. S.kept (λ z. k (rw e z));
+        checks = λ code day file H rooms.
+            subst (λ (x : Result ℕ Unchecked). Checks file (input code day) os₀ qs₀ ts₀ x os qs ts) (sym (ap checked_in g ∙ given_back c)) (S.checks code day file H rooms);
+      }

@@ -1,21 +1,21 @@
 -- However a file is cut into portions, closing answers and lists what checking the whole does with room for 256.
 use Prim.Native.Nat.{ℕ}
 use mathlib.Core.Path.{◌≡◌, sym, ap, subst, ◌∙◌}
-use mathlib.Core.Bool.{true, false}
+use mathlib.Core.Bool.{true, false, true≢false}
 use mathlib.Core.List.{List, [], ◌++◌}
-use Rattle.laws.specs.Refusals.{first}
 use Rattle.rules.specs.Terms.{input}
 use Rattle.joining.specs.Portions.{concat}
 use Rattle.going.proofs.Pieces.{Thens, held_all}
 use Rattle.listing.specs.Checking.{Checks}
 use Rattle.listing.proofs.Unique.{check_unique}
 use Rattle.portions.specs.declared.Portions.{Portions}
-use Rattle.portions_opening.specs.declared.Opened.{Opened}
-use Rattle.portions_adding.specs.declared.Added.{Added}
+use Rattle.std.specs.Prelude.{Result, Ok, Err}
+use Rattle.std.specs.Result.{result_unwrap_or}
+use Rattle.portions_adding.specs.declared.NotOpen.{NotOpen}
 use Rattle.answering.specs.declared.Closed.{Closed}
 use Rattle.portions.specs.Usable.{is_open}
 use Rattle.portions.specs.States.{Rooms, Holds}
-use Rattle.portions_opening.specs.Opening.{open_refusals, Opens}
+use Rattle.portions_opening.specs.Opening.{Opens}
 use Rattle.portions_adding.specs.Adding.{Adds}
 use Rattle.answering.specs.Closing.{checked_in, Closes}
 use Rattle.portions.proofs.Bounds.{shut_shut}
@@ -36,17 +36,14 @@ HoldsAt code day file a = Holds code day file a.numbers a.lines_in a.rules_in a.
 -- a new state was opened, in arrays of 256
 pub record OpenedAs (code day : ℕ) (a : State) : Type 0 where
   pub before : List ℕ
-  pub answer : Opened
-  pub opens : Opens code day before answer a.stood_in
-  pub taken : first (open_refusals code day) ≡ 0
-  pub is : a.numbers ≡ answer.state
+  pub opens : Opens code day before (Ok a.numbers) a.stood_in
   pub rooms : Rooms a.lines_in a.rules_in a.offsets_in
 
--- a portion came to a, which made it b
+-- a portion came to a, which made it b; where it is refused the numbers stay
 pub record Then (s : List ℕ) (a b : State) : Type 0 where
-  pub answer : Added
+  pub answer : Result Portions NotOpen
   pub adds : Adds s a.numbers a.lines_in a.rules_in a.offsets_in a.stood_in answer b.lines_in b.rules_in b.offsets_in b.stood_in
-  pub is : b.numbers ≡ answer.state
+  pub is : b.numbers ≡ result_unwrap_or answer a.numbers
 
 -- it was closed, with three lists of 256 lent
 pub record ClosedAs (a : State) (os₀ qs₀ ts₀ : List ℕ) (r : Closed) (os qs ts : List ℕ) : Type 0 where
@@ -60,13 +57,14 @@ pub record ClosedAs (a : State) (os₀ qs₀ ts₀ : List ℕ) (r : Closed) (os 
 -- ---- what is held
 
 opened_holds : {code day : ℕ} {a : State} → OpenedAs code day a → HoldsAt code day [] a
-opened_holds {code} {day} {a} O =
-    subst (λ (p : Portions). Holds code day [] p a.lines_in a.rules_in a.offsets_in a.stood_in) (sym O.is)
-    (O.opens.holds O.taken _ _ _ O.rooms)
+opened_holds O = O.opens.holds _ _ _ O.rooms
 
 added_holds : (code day : ℕ) (s : List ℕ) (a b : State) → Then s a b → (file : List ℕ) → HoldsAt code day file a → HoldsAt code day (file ++ s) b
-added_holds code day s a b T file H =
-    subst (λ (p : Portions). Holds code day (file ++ s) p b.lines_in b.rules_in b.offsets_in b.stood_in) (sym T.is) (T.adds.goes_on code day file H)
+added_holds code day s a b T file H = go T.answer T.adds T.is
+  where
+    go : (r : Result Portions NotOpen) → Adds s a.numbers a.lines_in a.rules_in a.offsets_in a.stood_in r b.lines_in b.rules_in b.offsets_in b.stood_in → b.numbers ≡ result_unwrap_or r a.numbers → HoldsAt code day (file ++ s) b
+    go (Ok p) A e = subst (λ (p : Portions). Holds code day (file ++ s) p b.lines_in b.rules_in b.offsets_in b.stood_in) (sym e) (A.goes_on code day file H)
+    go (Err u) A e = absurd (true≢false (sym (A.taken ∙ H.usable)))
 
 -- ---- the theorem of A5
 

@@ -1,18 +1,18 @@
 -- Closing a file that came in portions (document 02, A5): what is answered, and what is left.
-use Rattle.std.specs.Prelude.{ℕ, ◌+◌, ◌≡◌, cond, not, List, [], ◌∷◌, ltb, eqb}
+use Rattle.std.specs.Prelude.{ℕ, ◌+◌, ◌≡◌, cond, not, List, [], ◌∷◌, ltb, eqb, Result, Ok, Err}
+use Rattle.std.specs.Result.{result_unwrap_or}
 use Rattle.laws.specs.Refusals.{Refusal, ◌if◌, first}
 use Rattle.lines.specs.Lines.{body, offset_of}
 use Rattle.rules.specs.Terms.{input}
 use Rattle.rules.specs.Faults.{faults_in}
 use Rattle.ledger.specs.declared.Ledger.{Ledger}
 use Rattle.ledger.specs.Slices.{Listed}
+use Rattle.listing.specs.declared.checking.Unchecked.{Unchecked}
 use Rattle.listing.specs.declared.checking.Unchecked.TheVariants.{BadCode}
-use Rattle.listing.specs.declared.checking.Checked.{Checked}
-use Rattle.listing.specs.declared.checking.Checked.TheVariants.{Refused}
-use Rattle.listing.specs.Checking.{checked_number, checked_or, Checks}
+use Rattle.listing.specs.Checking.{unchecked_number, checked_number, Checks}
 use Rattle.portions.specs.declared.Portions.{Portions}
-use Rattle.answering.specs.declared.Closing.{Closing}
-use Rattle.answering.specs.declared.Closing.TheVariants.{Done, Late}
+use Rattle.answering.specs.declared.CloseError.{CloseError}
+use Rattle.answering.specs.declared.CloseError.TheVariants.{Refused, Late}
 use Rattle.answering.specs.declared.Closed.{Closed}
 use Rattle.portions.specs.Usable.{is_open}
 use Rattle.portions.specs.States.{Rooms, Holds, shut_of}
@@ -30,19 +30,23 @@ file_refusals p =
 abbrev pub close_refusals : Portions → List ℕ → List ℕ → List ℕ → List Refusal
 close_refusals p ls rs ps = (18 if not (is_open p ls rs ps)) ∷ file_refusals p
 
-abbrev pub closing_number : Closing → ℕ
-closing_number (Done c) = checked_number c
-closing_number Late = 18
+abbrev pub unclosed_number : CloseError → ℕ
+unclosed_number (Refused u) = unchecked_number u
+unclosed_number Late = 18
+
+abbrev pub closing_number : Result ℕ CloseError → ℕ
+closing_number (Ok t) = 0
+closing_number (Err e) = unclosed_number e
 
 -- its total, or another number where there is none
-abbrev pub closing_or : Closing → ℕ → ℕ
-closing_or (Done c) old = checked_or c old
-closing_or Late old = old
+abbrev pub closing_or : Result ℕ CloseError → ℕ → ℕ
+closing_or r old = result_unwrap_or r old
 
 -- checking's answer in it. There is none in 18, which a state that holds a file never gets
-abbrev pub checked_in : Closing → Checked
-checked_in (Done c) = c
-checked_in Late = Refused BadCode
+abbrev pub checked_in : Result ℕ CloseError → Result ℕ Unchecked
+checked_in (Ok t) = Ok t
+checked_in (Err (Refused u)) = Err u
+checked_in (Err Late) = Err BadCode
 
 -- 'after the closing call its pairs, total or refusal equal those of checking the whole with room for 256'. Refused or not it closes, and
 -- a refusal changes nothing else
@@ -55,7 +59,7 @@ pub record Closes (p : Portions) (ls rs ps stood os₀ qs₀ ts₀ : List ℕ) (
 -- ---- the steps of closing
 
 -- an open state is answered for
-pub record Settles (p : Portions) (ls rs ps stood os₀ qs₀ ts₀ : List ℕ) (c : Checked) (ls' rs' ps' stood' os qs ts : List ℕ) : Type 0 where
+pub record Settles (p : Portions) (ls rs ps stood os₀ qs₀ ts₀ : List ℕ) (c : Result ℕ Unchecked) (ls' rs' ps' stood' os qs ts : List ℕ) : Type 0 where
   pub number : checked_number c ≡ first (file_refusals p)
   pub kept : (first (file_refusals p) ≡ 0 → ⊥) → (ls' ≡ ls) × (rs' ≡ rs) × (ps' ≡ ps) × (stood' ≡ stood) × (os ≡ os₀) × (qs ≡ qs₀) × (ts ≡ ts₀)
   pub checks : (code day : ℕ) (file : List ℕ) → Holds code day file p ls rs ps stood → Rooms os₀ qs₀ ts₀ → Checks file (input code day) os₀ qs₀ ts₀ c os qs ts

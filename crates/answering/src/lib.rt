@@ -8,25 +8,45 @@
 ghost use Rattle.std.specs.Prelude.{◌≡◌, true, ◌≤◌, min};
 ghost use Rattle.portions.specs.Usable.{is_open};
 ghost use Rattle.portions.specs.States.{shut_of};
-ghost use Rattle.answering.specs.Closing.{HandsOut, Settles, Closes, closing_number, closing_or};
+ghost use Rattle.answering.specs.Closing.{HandsOut, Settles, Closes, unclosed_number, closing_number};
+ghost use Rattle.answering.specs.declared.CloseError.TheVariants.{Refused};
 
 use headings::Code;
 use ledger::Ledger;
-use listing::checking;
-use listing::checking::{Checked, Unchecked};
+use listing::checking::Unchecked;
 use portions::{Portions, usable};
 
-// Checking's answer, or 18.
-#[derive(Clone, Copy)]
-pub enum Closing {
-    Done(Checked),
+// Why there is no total: checking's refusals, or 18.
+#[derive(Clone, Copy, Debug, PartialEq, Eq)]
+pub enum CloseError {
+    Refused(Unchecked),
     Late,
+}
+
+impl From<Unchecked> for CloseError {
+    ghost from_gives = { λ refusal error. error ≡ Refused refusal };
+
+    fn from(refusal: Unchecked) -> CloseError {
+        CloseError::Refused(refusal)
+    }
+}
+
+// The number of a refusal.
+impl From<CloseError> for u32 {
+    ghost from_gives = { λ error number. number ≡ unclosed_number error };
+
+    fn from(error: CloseError) -> u32 {
+        match error {
+            CloseError::Refused(refusal) => u32::from(refusal),
+            CloseError::Late => 18,
+        }
+    }
 }
 
 // The answer, and the state after it.
 #[derive(Clone, Copy)]
 pub struct Closed {
-    pub answer: Closing,
+    pub answer: Result<u64, CloseError>,
     pub state: Portions,
 }
 
@@ -34,7 +54,7 @@ pub struct Closed {
 fn handed(kept: usize) -> usize
     ensures { result ≡ min 256 kept }
 {
-    if kept < 256 { kept } else { 256 }
+    kept.min(256)
 }
 
 // The file ends, and the first pairs that fit are copied out.
@@ -53,8 +73,7 @@ fn list_out(
     ensures { HandsOut p lines.old rules.old offsets.old stood.old first.old second.old third.old result first.new second.new third.new }
 {
     let basis = own_rules::basis_of(Code(p.code), p.day);
-    let going = p.going;
-    let g = going::finish(basis, lines, rules, offsets, stood, going);
+    let g = going::finish(basis, lines, rules, offsets, stood, p.going);
     let n = handed(g.kept);
     handing::hand_out(lines, n, first);
     handing::hand_out(rules, n, second);
@@ -72,40 +91,32 @@ fn settle(
     first: &mut [u32; 256],
     second: &mut [u32; 256],
     third: &mut [u32; 256],
-) -> Checked
+) -> Result<u64, Unchecked>
     requires { is_open p lines.old rules.old offsets.old ≡ true }
     ensures { Settles p lines.old rules.old offsets.old stood.old first.old second.old third.old result lines.new rules.new offsets.new stood.new first.new second.new third.new }
 {
     let body = p.going.came;
     if 10000000 < p.bytes {
-        return Checked::Refused(Unchecked::TooLong);
+        return Err(Unchecked::TooLong);
     }
     if !p.seen {
-        return Checked::Refused(Unchecked::NoMark);
+        return Err(Unchecked::NoMark);
     }
     if body + 1 < p.bytes {
-        return Checked::Refused(Unchecked::Leftovers);
+        return Err(Unchecked::Leftovers);
     }
     if body == 0 {
-        return Checked::Refused(Unchecked::StartsWithMark);
+        return Err(Unchecked::StartsWithMark);
     }
     let g = list_out(p, lines, rules, offsets, stood, first, second, third);
-    Checked::Total(g.total)
+    Ok(g.total)
 }
 
 // No more may come.
 fn shut(p: Portions) -> Portions
     ensures { result ≡ shut_of p }
 {
-    let going = p.going;
-    Portions {
-        going,
-        code: p.code,
-        day: p.day,
-        bytes: p.bytes,
-        seen: p.seen,
-        takes: false,
-    }
+    Portions { takes: false, ..p }
 }
 
 pub fn close(
@@ -122,34 +133,23 @@ pub fn close(
 {
     if !usable::is_open(p, lines, rules, offsets) {
         return Closed {
-            answer: Closing::Late,
+            answer: Err(CloseError::Late),
             state: p,
         };
     }
-    let answer = settle(p, lines, rules, offsets, stood, first, second, third);
-    let state = shut(p);
+    let settled = settle(p, lines, rules, offsets, stood, first, second, third);
     Closed {
-        answer: Closing::Done(answer),
-        state,
+        answer: settled.map_err(CloseError::from),
+        state: shut(p),
     }
 }
 
 // The number of an answer, 0 for a total.
-pub fn number_of(r: Closing) -> u32
-    ensures { result ≡ closing_number r }
+pub fn number_of(answer: Result<u64, CloseError>) -> u32
+    ensures { result ≡ closing_number answer }
 {
-    match r {
-        Closing::Done(c) => checking::number_of(c),
-        Closing::Late => 18,
-    }
-}
-
-// The total of an answer, and what stood there where there is none.
-pub fn total_or(r: Closing, old: u64) -> u64
-    ensures { result ≡ closing_or r old }
-{
-    match r {
-        Closing::Done(c) => checking::total_or(c, old),
-        Closing::Late => old,
+    match answer {
+        Ok(_) => 0,
+        Err(error) => u32::from(error),
     }
 }

@@ -5,10 +5,10 @@ use Rattle.laws.specs.Tests.{mark}
 use Rattle.headings.specs.declared.ItemNo.{ItemNo}
 use Rattle.headings.specs.declared.Heading.{Heading}
 use Rattle.headings.specs.ItemTypes.{is_payment, is_priority}
-use Rattle.rules.specs.declared.FirstIn.{FirstIn}
-use Rattle.rules.specs.declared.FirstIn.TheVariants.{NoIn, BrokenIn, Runs}
-use Rattle.rules.specs.declared.FirstSum.{FirstSum}
-use Rattle.rules.specs.declared.FirstSum.TheVariants.{NoSum, BrokenSum, Says}
+use Rattle.rules.specs.declared.First.{First}
+use Rattle.rules.specs.declared.First.TheVariants.{Missing, Unread, Says}
+use Rattle.rules.specs.declared.Range.{Range}
+use Rattle.rules.specs.declared.Statement.{Statement}
 use Rattle.rules.specs.declared.Sum.{Sum}
 use Rattle.rules.specs.declared.Sums.{Sums}
 use Rattle.rules.specs.BlockRules.{unlike, stated_in}
@@ -17,30 +17,10 @@ use Rattle.blocks.specs.declared.Course.{Course}
 
 -- ---- an account and its parts
 abbrev pub course_of : Block → Course
-course_of b =
-    record {
-      classed = b.classed;
-      priority = b.priority;
-      any = b.any;
-      some = b.some;
-      day = b.day;
-      first = b.first;
-      last = b.last;
-    }
+course_of b = b.course
 
 abbrev pub block_of : Course → List ℕ → List ℕ → Block
-block_of c counts sums =
-    record {
-      classed = c.classed;
-      priority = c.priority;
-      any = c.any;
-      some = c.some;
-      day = c.day;
-      first = c.first;
-      last = c.last;
-      counts = counts;
-      sums = sums;
-    }
+block_of c counts sums = record { course = c; counts = counts; sums = sums }
 
 -- ---- the rules of blocks
 abbrev pub breaks18 : Bool → ℕ → ℕ → Bool
@@ -59,10 +39,10 @@ breaks19_closing some last n = not (eqb n.0 0) && skips_to some last n
 abbrev pub breaks20 : Bool → Bool → ℕ → Bool
 breaks20 classed priority kind = is_payment kind && (classed && unlike (is_priority kind) priority)
 
-abbrev pub breaks21 : Bool → ItemNo → ItemNo → FirstIn → Bool
-breaks21 some first last NoIn = true
-breaks21 some first last BrokenIn = false
-breaks21 some first last (Runs a b) = some && not (eqb a.0 first.0 && eqb b.0 last.0)
+abbrev pub breaks21 : Bool → ItemNo → ItemNo → First Range → Bool
+breaks21 some first last Missing = true
+breaks21 some first last Unread = false
+breaks21 some first last (Says p) = some && not (eqb p.first.0 first.0 && eqb p.last.0 last.0)
 
 -- the caps: a true count or sum that reaches its cap equals no Sd
 abbrev pub count_cap : ℕ
@@ -75,10 +55,10 @@ sum_cap = 10 ^ 17
 abbrev pub tells_capped : (n t c s : ℕ) → Bool
 tells_capped n t c s = ltb n count_cap && (ltb t sum_cap && (eqb c n && eqb s t))
 
-abbrev pub misstated_capped : ℕ → ℕ → FirstSum → Bool
-misstated_capped n t NoSum = not (tells_capped n t 0 0)
-misstated_capped n t BrokenSum = false
-misstated_capped n t (Says c s) = not (tells_capped n t c s.0)
+abbrev pub misstated_capped : ℕ → ℕ → First Statement → Bool
+misstated_capped n t Missing = not (tells_capped n t 0 0)
+misstated_capped n t Unread = false
+misstated_capped n t (Says p) = not (tells_capped n t p.count p.sum.0)
 
 unfoldable pub group_breaks : List ℕ → List ℕ → List Sum → ℕ → Bool
 group_breaks counts sums groups d = misstated_capped (get_or counts d 0) (get_or sums d 0) (stated_in groups d)
@@ -98,12 +78,12 @@ open_marks c h =
     + mark 20 (breaks20 c.classed c.priority h.kind)
 
 -- 17 to 19 and 21 at a 51
-unfoldable pub ending_marks : Course → Heading → FirstIn → ℕ
+unfoldable pub ending_marks : Course → Heading → First Range → ℕ
 ending_marks c h span =
     mark 17 (not c.any) + mark 18 (breaks18 c.some c.day h.day)
     + mark 19 (breaks19_closing c.some c.last h.number)
     + mark 21 (breaks21 c.some c.first c.last span)
 
 -- with 30 to 39
-unfoldable pub closing_marks : Block → Heading → FirstIn → Sums → ℕ
+unfoldable pub closing_marks : Block → Heading → First Range → Sums → ℕ
 closing_marks b h span stated = ending_marks (course_of b) h span + group_marks b.counts b.sums stated.groups

@@ -6,7 +6,7 @@ use crate::Course;
 use crate::marks::{MARK_17, MARK_18, MARK_19, MARK_20, MARK_21, flag};
 use headings::item_types::{is_payment, is_priority};
 use headings::{Heading, ItemNo};
-use rules::FirstIn;
+use rules::{First, Range};
 
 fn breaks_eighteen(some: bool, first: u32, day: u32) -> bool
     ensures { result ≡ breaks18 some first day }
@@ -18,10 +18,7 @@ fn breaks_eighteen(some: bool, first: u32, day: u32) -> bool
 fn follows(n: ItemNo, last: ItemNo) -> bool
     ensures { result ≡ eqb n.0 (last.0 + 1) }
 {
-    if n.0 == 0 {
-        return false;
-    }
-    n.0 - 1 == last.0
+    last.0.checked_add(1) == Some(n.0)
 }
 
 fn skips_to(some: bool, last: ItemNo, n: ItemNo) -> bool
@@ -50,16 +47,16 @@ fn breaks_twenty(classed: bool, priority: bool, kind: u32) -> bool
 {
     let own = is_priority(kind);
     let paying = is_payment(kind);
-    paying & (classed & ((own & !priority) | (!own & priority)))
+    paying & (classed & (own != priority))
 }
 
-fn breaks_twenty_one(some: bool, first: ItemNo, last: ItemNo, span: FirstIn) -> bool
+fn breaks_twenty_one(some: bool, first: ItemNo, last: ItemNo, span: First<Range>) -> bool
     ensures { result ≡ breaks21 some first last span }
 {
     match span {
-        FirstIn::NoIn => true,
-        FirstIn::BrokenIn => false,
-        FirstIn::Runs(a, b) => some & !((a.0 == first.0) & (b.0 == last.0)),
+        First::Missing => true,
+        First::Unread => false,
+        First::Says(named) => some & !((named.first.0 == first.0) & (named.last.0 == last.0)),
     }
 }
 
@@ -73,7 +70,7 @@ pub fn open_marks(c: Course, h: Heading) -> u64
 }
 
 // The marks of 17 to 19 and 21 at a 51.
-pub fn ending_marks(c: Course, h: Heading, span: FirstIn) -> u64
+pub fn ending_marks(c: Course, h: Heading, span: First<Range>) -> u64
     ensures { (result ≡ ending_marks c h span) × (result < 2 ^ 22) }
 {
     flag(!c.any, MARK_17)

@@ -24,17 +24,11 @@ pub struct Course {
     pub last: ItemNo,
 }
 
-// The running account whole: its course, field by field, and of each group of the open block the count and the sum. So the pass holds it
-// between two texts; from line to line the course is handed on by value, and the groups are lent.
+// The running account whole: its course, and of each group of the open block the count and the sum. So the pass holds it between two
+// texts; from line to line the course is handed on by value, and the groups are lent.
 #[derive(Clone, Copy)]
 pub struct Block {
-    pub classed: bool,
-    pub priority: bool,
-    pub any: bool,
-    pub some: bool,
-    pub day: u32,
-    pub first: ItemNo,
-    pub last: ItemNo,
+    pub course: Course,
     pub counts: [u64; 10],
     pub sums: [u64; 10],
 }

@@ -1,7 +1,7 @@
 // Marks: bit r of a set is rule r.
 ghost use Rattle.std.specs.Prelude.{◌≡◌, cond, ◌≤◌};
 
-// The mark of each rule: 2 to the power of its number.
+// The mark of each rule: 2 to the power of its number. Those of 31 to 39, for the groups after the first, are MARK_30 moved by their group.
 pub const MARK_1: u64 = 1 << 1;
 
 pub const MARK_2: u64 = 1 << 2;
@@ -49,24 +49,6 @@ pub const MARK_23: u64 = 1 << 23;
 pub const MARK_24: u64 = 1 << 24;
 
 pub const MARK_30: u64 = 1 << 30;
-
-pub const MARK_31: u64 = 1 << 31;
-
-pub const MARK_32: u64 = 1 << 32;
-
-pub const MARK_33: u64 = 1 << 33;
-
-pub const MARK_34: u64 = 1 << 34;
-
-pub const MARK_35: u64 = 1 << 35;
-
-pub const MARK_36: u64 = 1 << 36;
-
-pub const MARK_37: u64 = 1 << 37;
-
-pub const MARK_38: u64 = 1 << 38;
-
-pub const MARK_39: u64 = 1 << 39;
 
 // A rule's mark, where the rule is broken.
 pub fn flag(broken: bool, mark: u64) -> u64

@@ -4,33 +4,27 @@
 
 use account::Outline;
 use blocks::Block;
-use headings::{Amount, Code, Heading, ItemNo, Read};
+use blocks::marks::{MARK_8, MARK_9, flag};
+use headings::{Amount, Code, Heading, ItemNo};
 use own_rules::Basis;
-use rules::{Digest, FirstIn, FirstKc, FirstSum, Sum, Sums};
+use rules::{Digest, First, Payment, Range, Statement, Sum, Sums};
 use std::io;
 
 fn heading(kind: u32, number: u32) -> Heading {
-    Heading {
-        kind: kind,
-        day: 20240304,
-        first: Code(300),
-        number: ItemNo(number),
-        second: Code(710),
-        output: ItemNo(0),
-        third: Code(0),
-    }
+    with_parts(kind, number, 300, 710, 0, 0)
 }
 
 fn on_day(kind: u32, number: u32, day: u32) -> Heading {
-    let mut h = heading(kind, number);
-    h.day = day;
-    h
+    Heading {
+        day,
+        ..heading(kind, number)
+    }
 }
 
 // A heading with codes and an output number of its own.
 fn with_parts(kind: u32, number: u32, first: u32, second: u32, output: u32, third: u32) -> Heading {
     Heading {
-        kind: kind,
+        kind,
         day: 20240304,
         first: Code(first),
         number: ItemNo(number),
@@ -40,41 +34,51 @@ fn with_parts(kind: u32, number: u32, first: u32, second: u32, output: u32, thir
     }
 }
 
-fn paid(amount: u64, day: u32) -> FirstKc {
-    FirstKc::Pays(Amount(amount), day)
+fn paid(amount: u64, day: u32) -> First<Payment> {
+    First::Says(Payment {
+        amount: Amount(amount),
+        day,
+    })
 }
 
 fn no_sums() -> Sums {
     Sums {
         groups: [Sum {
-            stated: FirstSum::NoSum,
+            stated: First::Missing,
         }; 10],
     }
 }
 
-fn with_sum(s: Sums, d: usize, stated: FirstSum) -> Sums {
+fn with_sum(s: Sums, d: usize, stated: First<Statement>) -> Sums {
     let mut next = s;
     if d < 10 {
-        next.groups[d] = Sum { stated: stated };
+        next.groups[d] = Sum { stated };
     }
     next
 }
 
 fn says(s: Sums, d: usize, count: u32, sum: u64) -> Sums {
-    with_sum(s, d, FirstSum::Says(count, Amount(sum)))
+    with_sum(
+        s,
+        d,
+        First::Says(Statement {
+            count,
+            sum: Amount(sum),
+        }),
+    )
 }
 
-fn of_head(head: Read, kc: FirstKc) -> Digest {
+fn of_head(head: Option<Heading>, kc: First<Payment>) -> Digest {
     Digest {
-        head: head,
-        kc: kc,
-        span: FirstIn::NoIn,
+        head,
+        kc,
+        span: First::Missing,
         sums: no_sums(),
     }
 }
 
-fn item(h: Heading, kc: FirstKc) -> Digest {
-    of_head(Read::Reads(h), kc)
+fn item(h: Heading, kc: First<Payment>) -> Digest {
+    of_head(Some(h), kc)
 }
 
 // A payment of 100 on the accounting day.
@@ -82,36 +86,30 @@ fn payment(h: Heading) -> Digest {
     item(h, paid(100, 20240304))
 }
 
-fn closing(h: Heading, span: FirstIn, sums: Sums) -> Digest {
+fn closing(h: Heading, span: First<Range>, sums: Sums) -> Digest {
     Digest {
-        head: Read::Reads(h),
+        head: Some(h),
         kc: paid(999, 20240304),
-        span: span,
-        sums: sums,
+        span,
+        sums,
     }
 }
 
-fn runs(first: u32, last: u32) -> FirstIn {
-    FirstIn::Runs(ItemNo(first), ItemNo(last))
+fn runs(first: u32, last: u32) -> First<Range> {
+    First::Says(Range {
+        first: ItemNo(first),
+        last: ItemNo(last),
+    })
 }
 
 // Rules 8 and 9, where the heading and the first KC read.
-fn kc_marks(basis: Basis, head: Read, kc: FirstKc) -> u64 {
-    match head {
-        Read::Unreadable => 0,
-        Read::Reads(h) => match kc {
-            FirstKc::NoKc => 0,
-            FirstKc::BrokenKc => 0,
-            FirstKc::Pays(amount, day) => {
-                blocks::marks::flag(
-                    own_rules::breaks_eight(basis, h.kind, day),
-                    blocks::marks::MARK_8,
-                ) + blocks::marks::flag(
-                    own_rules::breaks_nine(h.kind, amount),
-                    blocks::marks::MARK_9,
-                )
-            }
-        },
+fn kc_marks(basis: Basis, head: Option<Heading>, kc: First<Payment>) -> u64 {
+    match (head, kc) {
+        (Some(h), First::Says(paid)) => {
+            flag(own_rules::breaks_eight(basis, h.kind, paid.day), MARK_8)
+                + flag(own_rules::breaks_nine(h.kind, paid.amount), MARK_9)
+        }
+        _ => 0,
     }
 }
 
@@ -128,34 +126,29 @@ fn print_rules(rt: &impl Print, marks: u64) -> io::Result<()> {
 
 // The marks of 30 to 39, where the item is a 51.
 fn group_marks(b: Block, it: Digest) -> u64 {
-    let head = it.head;
-    if account::closes_block(head) {
-        let stated = it.sums;
-        let counts = b.counts;
-        let sums = b.sums;
-        let groups = stated.groups;
-        return blocks::groups::group_marks(counts, sums, groups);
+    if account::closes_block(it.head) {
+        blocks::groups::group_marks(b.counts, b.sums, it.sums.groups)
+    } else {
+        0
     }
-    0
 }
 
 // One item more: its number and what it breaks are printed, and the account goes on.
 fn tell(rt: &impl Print, basis: Basis, b: Block, no: u64, it: Digest) -> io::Result<Block> {
-    let head = it.head;
-    let kc = it.kc;
-    let span = it.span;
-    let at_kc = kc_marks(basis, head, kc);
-    let groups = group_marks(b, it);
-    let mut counts = b.counts;
-    let mut sums = b.sums;
-    account::count_in(&mut counts, &mut sums, head, kc);
-    let c = lending::advance(account::course_of(b), Outline { head, kc, span }, basis);
+    let mut next = b;
+    let outline = Outline {
+        head: it.head,
+        kc: it.kc,
+        span: it.span,
+    };
+    account::count_in(&mut next.counts, &mut next.sums, it.head, it.kc);
+    let marks = lending::step(&mut next.course, outline, basis);
     print!(rt; "{no}:")?;
-    print_rules(rt, at_kc)?;
-    print_rules(rt, c.marks)?;
-    print_rules(rt, groups)?;
+    print_rules(rt, kc_marks(basis, it.head, it.kc))?;
+    print_rules(rt, marks)?;
+    print_rules(rt, group_marks(b, it))?;
     rt.println("")?;
-    Ok(account::block_of(c.course, counts, sums))
+    Ok(next)
 }
 
 // A block with no fault: the 13 is added as it stands, and an unreadable heading stops nothing.
@@ -168,13 +161,7 @@ fn clean(rt: &impl Print, basis: Basis, start: Block) -> io::Result<Block> {
         item(heading(11, 1), paid(12500, 20240304)),
     )?;
     b = tell(rt, basis, b, 2, item(heading(13, 2), paid(2500, 20240304)))?;
-    b = tell(
-        rt,
-        basis,
-        b,
-        3,
-        of_head(Read::Unreadable, paid(7, 20240304)),
-    )?;
+    b = tell(rt, basis, b, 3, of_head(None, paid(7, 20240304)))?;
     b = tell(
         rt,
         basis,
@@ -188,7 +175,7 @@ fn clean(rt: &impl Print, basis: Basis, start: Block) -> io::Result<Block> {
 
 // The rules of one heading, and 18 to 20 at headings that are no 51.
 fn headings_of_all_kinds(rt: &impl Print, basis: Basis, start: Block) -> io::Result<Block> {
-    let mut b = tell(rt, basis, start, 6, item(heading(99, 1), FirstKc::NoKc))?;
+    let mut b = tell(rt, basis, start, 6, item(heading(99, 1), First::Missing))?;
     b = tell(rt, basis, b, 7, payment(on_day(11, 2, 20240222)))?;
     b = tell(rt, basis, b, 8, payment(on_day(11, 3, 20240223)))?;
     b = tell(rt, basis, b, 9, payment(on_day(11, 4, 20240305)))?;
@@ -201,8 +188,8 @@ fn headings_of_all_kinds(rt: &impl Print, basis: Basis, start: Block) -> io::Res
 }
 
 fn more_headings(rt: &impl Print, basis: Basis, start: Block) -> io::Result<Block> {
-    let mut b = tell(rt, basis, start, 16, item(heading(11, 11), FirstKc::NoKc))?;
-    b = tell(rt, basis, b, 17, item(heading(11, 12), FirstKc::BrokenKc))?;
+    let mut b = tell(rt, basis, start, 16, item(heading(11, 11), First::Missing))?;
+    b = tell(rt, basis, b, 17, item(heading(11, 12), First::Unread))?;
     b = tell(rt, basis, b, 18, payment(heading(11, 14)))?;
     b = tell(rt, basis, b, 19, payment(heading(11, 0)))?;
     b = tell(rt, basis, b, 20, payment(heading(11, 1)))?;
@@ -210,14 +197,14 @@ fn more_headings(rt: &impl Print, basis: Basis, start: Block) -> io::Result<Bloc
     let sums = with_sum(
         says(says(no_sums(), 1, 11, 1100), 3, 1, 100),
         2,
-        FirstSum::BrokenSum,
+        First::Unread,
     );
     tell(
         rt,
         basis,
         b,
         22,
-        closing(heading(51, 3), FirstIn::BrokenIn, sums),
+        closing(heading(51, 3), First::Unread, sums),
     )
 }
 
@@ -228,9 +215,9 @@ fn alone(rt: &impl Print, basis: Basis, start: Block) -> io::Result<Block> {
         basis,
         start,
         23,
-        closing(heading(51, 7), FirstIn::NoIn, no_sums()),
+        closing(heading(51, 7), First::Missing, no_sums()),
     )?;
-    b = tell(rt, basis, b, 24, of_head(Read::Unreadable, FirstKc::NoKc))?;
+    b = tell(rt, basis, b, 24, of_head(None, First::Missing))?;
     tell(
         rt,
         basis,

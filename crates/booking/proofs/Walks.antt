@@ -1,105 +1,59 @@
 -- A movement booked, and the walk over all of a file's postings.
-use Prim.Native.Nat.{ℕ, ◌+◌, ◌≤◌, ◌<◌}
+use Prim.Native.Nat.{ℕ, ◌≤◌, ◌<◌}
 use native.Mathlib.Omega.{arith}
 use mathlib.Core.Path.{◌≡◌, refl, sym, ap, subst, ◌∙◌}
 use mathlib.Core.Bool.{Bool, true, false, cond, not, ◌&&◌, ◌||◌, true≢false, or-false}
 use mathlib.Core.List.{List, [], ◌∷◌, map}
-use lib.Dec.{leb, ltb}
 use lib.ListN.{length, get_or, drop, drop_of_length-le}
 use lib.Seq.{get_or-set_other}
 use lib.IntN.{ℤ, pos, ◌+ℤ◌}
-use borrow.Author.Tests.{ltb-true, ltb-false, lt-leb, le-leb, not-true, not-false}
-use Rattle.laws.specs.Tests.{among}
-use Rattle.laws.proofs.Truth.{both_left, both_right, by_test}
-use Rattle.fields.specs.Kinds.{place}
-use Rattle.fields.proofs.Places.{place_in}
+use Rattle.laws.proofs.Truth.{by_test}
 use Rattle.lines.specs.Lines.{lines}
 use Rattle.rules.specs.Rows.{rows_from}
 use Rattle.item_reader.specs.declared.Next.{Next}
 use Rattle.item_reader.specs.Slips.{slips_from, Headed, IsFirst, IsSlip}
 use Rattle.turnovers.specs.Scheme.{posting_of}
 use Rattle.turnovers.specs.declared.Move.{Move}
-use Rattle.turnovers.specs.declared.Posting.{Posting}
-use Rattle.turnovers.specs.declared.Posting.TheVariants.{Moves, Nothing}
+use Rattle.std.specs.Prelude.{Option, Some, None}
 use Rattle.booking.specs.declared.Told.{Told}
 use Rattle.sums.specs.Sums.{AddsBoth, signed, beyond}
 use Rattle.booking.specs.Sheet.{cell, is_listed, moved, goes_beyond, all_are_listed, some_passes, after}
 use Rattle.booking.specs.Booking.{Sound, told, told_by, Kept, KeptBy, Booked}
-use Rattle.booking.proofs.Columns.{listed_at}
 
-unfoldable pub tell : Bool → Bool → Told
-tell u b = record { unlisted = u; beyond = b }
+-- what is found with a movement of listed participants
+module _ (codes : List ℕ) (m : Move) (listed : is_listed codes m ≡ true) (t : Told) (ts : List ℤ) where
+  abbrev tell : Bool → Told
+  tell b = record { unlisted = t.unlisted; beyond = b }
 
-leb_not : (n p : ℕ) → leb n p ≡ not (ltb p n)
-leb_not n p = by_test (ltb p n)
-    (λ e. rw e (lt-leb n p (ltb-true p n e)))
-    (λ e. rw e (le-leb n p (ltb-false p n e)))
+  told_listed : tell (cond t.beyond true (goes_beyond codes ts m)) ≡ told codes t ts m
+  unfolding told
+  told_listed = rw listed
 
-both_not : (a b : Bool) → (not a || not b) ≡ not (a && b)
-both_not true b = refl
-both_not false b = refl
+  pub told_before : t.beyond ≡ true → t ≡ told codes t ts m
+  told_before b = ap tell (b ∙ sym (ap (λ (b : Bool). cond b true (goes_beyond codes ts m)) b)) ∙ told_listed
 
-module _ (codes : List ℕ) (m : Move) where
-  abbrev pub absent : Bool
-  absent = leb (length codes) (place m.payer.0 codes) || leb (length codes) (place m.other.0 codes)
+  abbrev x : ℤ
+  x = signed m.minus m.amount
 
-  absent_is : absent ≡ not (is_listed codes m)
-  absent_is =
-      (λ i. (leb_not (length codes) (place m.payer.0 codes) ∙ ap not (place_in m.payer.0 codes)) i
-      || (leb_not (length codes) (place m.other.0 codes) ∙ ap not (place_in m.other.0 codes)) i)
-      ∙ both_not (among m.payer.0 codes) (among m.other.0 codes)
+  abbrev here : ℕ
+  here = cell codes m.payer.0 m.from
 
-  pub is_absent : absent ≡ true → is_listed codes m ≡ false
-  is_absent e = not-true (is_listed codes m) (sym absent_is ∙ e)
+  abbrev there : ℕ
+  there = cell codes m.other.0 m.to
 
-  pub is_listed_lem : absent ≡ false → is_listed codes m ≡ true
-  is_listed_lem e = not-false (is_listed codes m) (sym absent_is ∙ e)
+  module _ (S : Sound m) (b : t.beyond ≡ false) {r : Bool} {ts' : List ℤ} (A : AddsBoth ts here there x r ts') where
+    apart : here ≡ there → ⊥
+    apart q = S.apart (omega (arith, q, S.from, S.to))
 
-  module _ (few : length codes ≤ 64) (e : absent ≡ false) where
-    pub payer_low : place m.payer.0 codes < 64
-    payer_low = listed_at codes few m.payer.0 (both_left (among m.payer.0 codes) (among m.other.0 codes) (is_listed_lem e))
+    both_is : r ≡ goes_beyond codes ts m
+    both_is =
+        A.passes ∙ ap (λ (z : ℤ). beyond (get_or ts here (pos 0) +ℤ x) || beyond (z +ℤ x)) (get_or-set_other ts here there (get_or ts here (pos 0) +ℤ x) (pos 0) (λ q. apart (sym q)))
 
-    pub other_low : place m.other.0 codes < 64
-    other_low = listed_at codes few m.other.0 (both_right (among m.payer.0 codes) (among m.other.0 codes) (is_listed_lem e))
-
-  -- ---- what is found
-  module _ (t : Told) (ts : List ℤ) where
-    pub told_absent : absent ≡ true → tell true t.beyond ≡ told codes t ts m
-    unfolding told tell
-    told_absent e = rw (is_absent e)
-
-    told_listed : absent ≡ false → tell t.unlisted (cond t.beyond true (goes_beyond codes ts m)) ≡ told codes t ts m
-    unfolding told tell
-    told_listed e = rw (is_listed_lem e)
-
-    pub told_before : absent ≡ false → t.beyond ≡ true → tell t.unlisted true ≡ told codes t ts m
-    told_before e b = sym (ap (λ (b : Bool). tell t.unlisted (cond b true (goes_beyond codes ts m))) b) ∙ told_listed e
-
-    abbrev x : ℤ
-    x = signed m.minus m.amount
-
-    abbrev here : ℕ
-    here = cell codes m.payer.0 m.from
-
-    abbrev there : ℕ
-    there = cell codes m.other.0 m.to
-
-    module _ (S : Sound m) (e : absent ≡ false) (b : t.beyond ≡ false) {r : Bool} {ts' : List ℤ} (A : AddsBoth ts here there x r ts') where
-      apart : here ≡ there → ⊥
-      apart q = S.apart (omega (arith, q, S.from, S.to))
-
-      both_is : r ≡ goes_beyond codes ts m
-      both_is =
-          A.passes ∙ ap (λ (z : ℤ). beyond (get_or ts here (pos 0) +ℤ x) || beyond (z +ℤ x)) (get_or-set_other ts here there (get_or ts here (pos 0) +ℤ x) (pos 0) (λ q. apart (sym q)))
-
-      pub told_both : tell t.unlisted r ≡ told codes t ts m
-      told_both = ap (tell t.unlisted) (both_is ∙ sym (ap (λ (b : Bool). cond b true (goes_beyond codes ts m)) b)) ∙ told_listed e
-
-      pub moved_both : r ≡ false → ts' ≡ moved codes ts m
-      moved_both f = A.sheet f
+    pub told_both : tell r ≡ told codes t ts m
+    told_both = ap tell (both_is ∙ sym (ap (λ (b : Bool). cond b true (goes_beyond codes ts m)) b)) ∙ told_listed
 
 -- ---- the walk over all postings, by what is left
-pub record Left (codes : List ℕ) (ts₀ : List ℤ) (all : List Posting) (ts : List ℤ) (t : Told) (left : List Posting) : Type 0 where
+pub record Left (codes : List ℕ) (ts₀ : List ℤ) (all : List (Option Move)) (ts : List ℤ) (t : Told) (left : List (Option Move)) : Type 0 where
   pub unlisted : not (all_are_listed codes all) ≡ (t.unlisted || not (all_are_listed codes left))
   pub beyond : t.unlisted ≡ false → some_passes codes ts₀ all ≡ (t.beyond || some_passes codes ts left)
   pub sheet : t.unlisted ≡ false → t.beyond ≡ false → after codes ts₀ all ≡ after codes ts left
@@ -133,8 +87,8 @@ module _ (codes : List ℕ) (t : Told) (ts : List ℤ) (m : Move) where
   unfolding told
   told_beyond e = rw e
 
-module _ {codes : List ℕ} {ts₀ : List ℤ} {all : List Posting} {ts : List ℤ} {t : Told} {ps : List Posting} {ts' : List ℤ} {t' : Told} where
-  step_nothing : Left codes ts₀ all ts t (Nothing ∷ ps) → t' ≡ t → KeptBy codes ts Nothing t' ts' → Left codes ts₀ all ts' t' ps
+module _ {codes : List ℕ} {ts₀ : List ℤ} {all : List (Option Move)} {ts : List ℤ} {t : Told} {ps : List (Option Move)} {ts' : List ℤ} {t' : Told} where
+  step_nothing : Left codes ts₀ all ts t (None ∷ ps) → t' ≡ t → KeptBy codes ts None t' ts' → Left codes ts₀ all ts' t' ps
   step_nothing W q K = record {
     unlisted = W.unlisted ∙ sym (ap (λ (t : Told). t.unlisted || not (all_are_listed codes ps)) q);
     beyond = λ e.
@@ -147,7 +101,7 @@ module _ {codes : List ℕ} {ts₀ : List ℤ} {all : List Posting} {ts : List �
       same true = refl
       same false = refl
 
-  step_move : (m : Move) → Left codes ts₀ all ts t (Moves m ∷ ps) → t' ≡ told codes t ts m → Kept codes ts m t' ts' → Left codes ts₀ all ts' t' ps
+  step_move : (m : Move) → Left codes ts₀ all ts t (Some m ∷ ps) → t' ≡ told codes t ts m → Kept codes ts m t' ts' → Left codes ts₀ all ts' t' ps
   step_move m W q K = record {
     unlisted = W.unlisted ∙ one_more (is_listed codes m) t.unlisted (all_are_listed codes ps) ∙ sym (ap (λ (b : Bool). b || not (all_are_listed codes ps)) is_unlisted);
     beyond = λ e.
@@ -166,11 +120,11 @@ module _ {codes : List ℕ} {ts₀ : List ℤ} {all : List Posting} {ts : List �
       is_beyond : is_listed codes m ≡ true → t'.beyond ≡ cond t.beyond true (goes_beyond codes ts m)
       is_beyond e = ap (λ (t : Told). t.beyond) q ∙ told_beyond codes t ts m e
 
-  pub step : (p : Posting) → Left codes ts₀ all ts t (p ∷ ps) → t' ≡ told_by codes t ts p → KeptBy codes ts p t' ts' → Left codes ts₀ all ts' t' ps
-  step Nothing W q K = step_nothing W q K
-  step (Moves m) W q K = step_move m W q K
+  pub step : (p : Option Move) → Left codes ts₀ all ts t (p ∷ ps) → t' ≡ told_by codes t ts p → KeptBy codes ts p t' ts' → Left codes ts₀ all ts' t' ps
+  step None W q K = step_nothing W q K
+  step (Some m) W q K = step_move m W q K
 
-pub left_end : {codes : List ℕ} {ts₀ : List ℤ} {all : List Posting} {ts : List ℤ} {t : Told} → Left codes ts₀ all ts t [] → Booked codes ts₀ all t ts
+pub left_end : {codes : List ℕ} {ts₀ : List ℤ} {all : List (Option Move)} {ts : List ℤ} {t : Told} → Left codes ts₀ all ts t [] → Booked codes ts₀ all t ts
 left_end {codes} {ts₀} {all} {ts} {t} W = record {
   unlisted = u;
   beyond = λ e. sym (W.beyond (u ∙ ap not e) ∙ or-false t.beyond);
@@ -181,7 +135,7 @@ left_end {codes} {ts₀} {all} {ts} {t} W = record {
     u = sym (W.unlisted ∙ or-false t.unlisted)
 
 -- ---- .. of a file's body
-abbrev pub postings_from : ℕ → List ℕ → List Posting
+abbrev pub postings_from : ℕ → List ℕ → List (Option Move)
 postings_from n s = map posting_of (slips_from n s)
 
 pub record Walk (codes : List ℕ) (ts₀ : List ℤ) (s : List ℕ) (ts : List ℤ) (t : Told) (at : ℕ) : Type 0 where
@@ -198,19 +152,19 @@ module _ {codes : List ℕ} {s : List ℕ} where
   walk_start {ts} B = record {
     to = B.within;
     headed = B.headed;
-    left = subst (λ (l : List Posting). Left codes ts (postings_from 1 s) ts (record { unlisted = false; beyond = false }) l) (ap (map posting_of) (B.after 1)) (start ts (postings_from 1 s));
+    left = subst (λ (l : List (Option Move)). Left codes ts (postings_from 1 s) ts (record { unlisted = false; beyond = false }) l) (ap (map posting_of) (B.after 1)) (start ts (postings_from 1 s));
   }
     where
-      start : (ts : List ℤ) (all : List Posting) → Left codes ts all ts (record { unlisted = false; beyond = false }) all
+      start : (ts : List ℤ) (all : List (Option Move)) → Left codes ts all ts (record { unlisted = false; beyond = false }) all
       start ts all = record { unlisted = refl; beyond = λ e. refl; sheet = λ e f. refl }
 
   module _ {ts₀ ts : List ℤ} {t : Told} {at : ℕ} (W : Walk codes ts₀ s ts t at) where
-    pub walk_on : {x : Next} → IsSlip s at x → {t' : Told} {ts' : List ℤ} {p : Posting} → p ≡ posting_of x.slip → t' ≡ told_by codes t ts p → KeptBy codes ts p t' ts' → Walk codes ts₀ s ts' t' x.next
+    pub walk_on : {x : Next} → IsSlip s at x → {t' : Told} {ts' : List ℤ} {p : Option Move} → p ≡ posting_of x.slip → t' ≡ told_by codes t ts p → KeptBy codes ts p t' ts' → Walk codes ts₀ s ts' t' x.next
     walk_on {x} X {t'} {ts'} {p} e q K = record {
       to = X.within;
       headed = X.headed;
-      left = step p (subst (λ (l : List Posting). Left codes ts₀ (postings_from 1 s) ts t l) (ap (map posting_of) (X.cut 1) ∙ ap (λ (p : Posting). p ∷ postings_from 1 (drop x.next s)) (sym e)) W.left) q K;
+      left = step p (subst (λ (l : List (Option Move)). Left codes ts₀ (postings_from 1 s) ts t l) (ap (map posting_of) (X.cut 1) ∙ ap (λ (p : Option Move). p ∷ postings_from 1 (drop x.next s)) (sym e)) W.left) q K;
     }
 
     pub walk_end : length s ≤ at → Booked codes ts₀ (postings_from 1 s) t ts
-    walk_end h = left_end (subst (λ (l : List Posting). Left codes ts₀ (postings_from 1 s) ts t l) (nothing_left s at h) W.left)
+    walk_end h = left_end (subst (λ (l : List (Option Move)). Left codes ts₀ (postings_from 1 s) ts t l) (nothing_left s at h) W.left)

@@ -1,11 +1,9 @@
 -- The sheet: four turnovers for each participant, side by side in the order of the list.
-use Rattle.std.specs.Prelude.{ℕ, zero, suc, ◌+◌, ◌*◌, Bool, true, false, ◌&&◌, ◌||◌, List, [], ◌∷◌, get_or, replicate, ℤ, pos, ◌+ℤ◌}
+use Rattle.std.specs.Prelude.{Option, Some, None, ℕ, zero, suc, ◌+◌, ◌*◌, Bool, true, false, ◌&&◌, ◌||◌, List, [], ◌∷◌, get_or, replicate, ℤ, pos, ◌+ℤ◌}
 use Rattle.laws.specs.Tests.{among}
 use Rattle.fields.specs.Kinds.{place}
 use Rattle.sums.specs.Sums.{signed, beyond, plus_at}
 use Rattle.turnovers.specs.declared.Move.{Move}
-use Rattle.turnovers.specs.declared.Posting.{Posting}
-use Rattle.turnovers.specs.declared.Posting.TheVariants.{Moves, Nothing}
 
 abbrev pub new_sheet : List ℤ
 new_sheet = replicate 256 (pos 0)
@@ -36,19 +34,19 @@ module _ (codes : List ℕ) where
       || beyond (get_or ts (cell m.other.0 m.to) (pos 0) +ℤ signed m.minus m.amount)
 
   -- payer and beneficiary of every posted item are listed
-  abbrev pub all_are_listed : List Posting → Bool
+  abbrev pub all_are_listed : List (Option Move) → Bool
   all_are_listed [] = true
-  all_are_listed (Nothing ∷ ps) = all_are_listed ps
-  all_are_listed (Moves m ∷ ps) = is_listed m && all_are_listed ps
+  all_are_listed (None ∷ ps) = all_are_listed ps
+  all_are_listed (Some m ∷ ps) = is_listed m && all_are_listed ps
 
   -- a turnover passes the limit after some item
-  abbrev pub some_passes : List ℤ → List Posting → Bool
+  abbrev pub some_passes : List ℤ → List (Option Move) → Bool
   some_passes ts [] = false
-  some_passes ts (Nothing ∷ ps) = some_passes ts ps
-  some_passes ts (Moves m ∷ ps) = goes_beyond ts m || some_passes (moved ts m) ps
+  some_passes ts (None ∷ ps) = some_passes ts ps
+  some_passes ts (Some m ∷ ps) = goes_beyond ts m || some_passes (moved ts m) ps
 
   -- the sheet after all
-  abbrev pub after : List ℤ → List Posting → List ℤ
+  abbrev pub after : List ℤ → List (Option Move) → List ℤ
   after ts [] = ts
-  after ts (Nothing ∷ ps) = after ts ps
-  after ts (Moves m ∷ ps) = after (moved ts m) ps
+  after ts (None ∷ ps) = after ts ps
+  after ts (Some m ∷ ps) = after (moved ts m) ps

@@ -10,7 +10,7 @@ ghost use Rattle.turnovers.specs.Scheme.{posting_of};
 ghost use Rattle.participants.specs.Firsts.{Firsts};
 ghost use Rattle.booking.specs.Booking.{Sound, SoundAt, told, told_by, Kept, KeptBy, Booked};
 
-use turnovers::{Move, Posting, movement};
+use turnovers::{Move, movement};
 
 // What a walk has found: an item whose payer or beneficiary is not listed, and a turnover that passes the limit.
 #[derive(Clone, Copy)]
@@ -20,44 +20,37 @@ pub struct Told {
 }
 
 // One movement. After one that passes the limit none is made: no sum has to be taken of what no longer counts.
+#[tactic(auto, unfolding(crate::specs::Booking::told))]
 fn book_move(codes: &[u32], firsts: &[u8; 1024], ts: &mut [i64; 256], t: Told, m: Move) -> Told
     requires { (length codes.now ≤ 64) × Firsts codes.now firsts.now × Sound m }
     ensures value { result ≡ told codes.now t ts.old m }
     ensures kept { Kept codes.now ts.old m result ts.new }
 {
-    let unlisted = t.unlisted;
-    let before = t.beyond;
-    let from = m.from;
-    let to = m.to;
-    let x = sums::with_sign(m.minus, m.amount);
-    let p = participants::place_by(codes, firsts, m.payer.0);
-    let o = participants::place_by(codes, firsts, m.other.0);
-    let n = codes.len();
-    if (n <= p) | (n <= o) {
+    let payer = participants::place_by(codes, firsts, m.payer.0);
+    let other = participants::place_by(codes, firsts, m.other.0);
+    let (Some(p), Some(o)) = (payer, other) else {
         return Told {
             unlisted: true,
-            beyond: before,
+            ..t
         };
+    };
+    if t.beyond {
+        return t;
     }
-    if before {
-        return Told {
-            unlisted,
-            beyond: true,
-        };
-    }
-    let beyond = sums::add_both(ts, 4 * p + from, 4 * o + to, x);
-    Told { unlisted, beyond }
+    let x = sums::with_sign(m.minus, m.amount);
+    let beyond = sums::add_both(ts, 4 * p + m.from, 4 * o + m.to, x);
+    Told { beyond, ..t }
 }
 
 // What an item posts.
-fn book(codes: &[u32], firsts: &[u8; 1024], ts: &mut [i64; 256], t: Told, p: Posting) -> Told
+fn book(codes: &[u32], firsts: &[u8; 1024], ts: &mut [i64; 256], t: Told, p: Option<Move>) -> Told
     requires { (length codes.now ≤ 64) × Firsts codes.now firsts.now × SoundAt p }
     ensures value { result ≡ told_by codes.now t ts.old p }
     ensures kept_by { KeptBy codes.now ts.old p result ts.new }
 {
     match p {
-        Posting::Nothing => t,
-        Posting::Moves(m) => book_move(codes, firsts, ts, t, m),
+        None => t,
+        Some(m) => book_move(codes, firsts, ts, t, m),
     }
 }
 
@@ -71,11 +64,11 @@ fn book_all(codes: &[u32], firsts: &[u8; 1024], ts: &mut [i64; 256], s: &[u8]) -
         beyond: false,
     };
     let mut at = item_reader::heading_from(s, 0);
+    // Each item tells where the next one stands: an iterator would hold the same place, and be no plainer.
     while at < s.len() {
         let x = item_reader::slip_at(s, at);
-        let slip = x.slip;
         at = x.next;
-        t = book(codes, firsts, ts, t, movement::posting_of(slip));
+        t = book(codes, firsts, ts, t, movement::posting_of(x.slip));
     }
     t
 }

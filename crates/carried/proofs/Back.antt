@@ -1,21 +1,21 @@
 -- What is written reads back: of each enum, of ten in a row, and of the whole.
 use Prim.Native.Nat.{ℕ}
-use mathlib.Core.Path.{◌≡◌, refl, ◌∙◌}
+use mathlib.Core.Path.{◌≡◌, refl, sym, ◌∙◌}
 use mathlib.Core.Bool.{Bool, true, false}
 use mathlib.Core.List.{List, [], ◌∷◌, map}
 use native.Mathlib.Omega.{arith}
 use mir.Val.{bool_byte}
 use lib.ListN.{length}
+use Rattle.std.specs.Prelude.{get_or, ◌<◌}
 use Rattle.figures.specs.declared.parts.Number.{Number}
 use Rattle.figures.specs.declared.parts.Number.TheVariants.{Good, Failing, Zero}
 use Rattle.fields.specs.declared.readings.Reading.{Reading}
 use Rattle.fields.specs.declared.readings.Reading.TheVariants.{Broken, Plain, Paid, Span, Stated, Party}
-use Rattle.rules.specs.declared.FirstKc.{FirstKc}
-use Rattle.rules.specs.declared.FirstKc.TheVariants.{NoKc, BrokenKc, Pays}
-use Rattle.rules.specs.declared.FirstIn.{FirstIn}
-use Rattle.rules.specs.declared.FirstIn.TheVariants.{NoIn, BrokenIn, Runs}
-use Rattle.rules.specs.declared.FirstSum.{FirstSum}
-use Rattle.rules.specs.declared.FirstSum.TheVariants.{NoSum, BrokenSum, Says}
+use Rattle.rules.specs.declared.First.{First}
+use Rattle.rules.specs.declared.First.TheVariants.{Missing, Unread, Says}
+use Rattle.rules.specs.declared.Payment.{Payment}
+use Rattle.rules.specs.declared.Range.{Range}
+use Rattle.rules.specs.declared.Statement.{Statement}
 use Rattle.rules.specs.declared.Sum.{Sum}
 use Rattle.items.specs.Claims.{no_sum}
 use Rattle.pass.specs.declared.Pass.{Pass}
@@ -45,20 +45,20 @@ reading_back (Stated n x) = refl
 reading_back (Party h) = λ i. Party (record { prefix = on_back h.prefix i; number = number_back h.number i })
 
 -- what stands at the places that the others do not use is no part of it
-pub kc_back : (k : FirstKc) (n : ℕ) → kc_from (flat (flat_kc k).tag (flat_kc k).amount (flat_kc k).a n) ≡ k
-kc_back NoKc n = refl
-kc_back BrokenKc n = refl
-kc_back (Pays x d) n = refl
+pub kc_back : (k : First Payment) (n : ℕ) → kc_from (flat (flat_kc k).tag (flat_kc k).amount (flat_kc k).a n) ≡ k
+kc_back Missing n = refl
+kc_back Unread n = refl
+kc_back (Says p) n = refl
 
-pub in_back : (k : FirstIn) (n : ℕ) → in_from (flat (flat_in k).tag n (flat_in k).a (flat_in k).b) ≡ k
-in_back NoIn n = refl
-in_back BrokenIn n = refl
-in_back (Runs l m) n = refl
+pub in_back : (k : First Range) (n : ℕ) → in_from (flat (flat_in k).tag n (flat_in k).a (flat_in k).b) ≡ k
+in_back Missing n = refl
+in_back Unread n = refl
+in_back (Says p) n = refl
 
-pub sum_back : (k : FirstSum) (n : ℕ) → sum_from (flat (flat_sum k).tag (flat_sum k).amount (flat_sum k).a n) ≡ k
-sum_back NoSum n = refl
-sum_back BrokenSum n = refl
-sum_back (Says m x) n = refl
+pub sum_back : (k : First Statement) (n : ℕ) → sum_from (flat (flat_sum k).tag (flat_sum k).amount (flat_sum k).a n) ≡ k
+sum_back Missing n = refl
+sum_back Unread n = refl
+sum_back (Says p) n = refl
 
 -- a row of ten is its ten
 pub ten_all : {A : Type 0} (d : A) (xs : List A) → length xs ≡ 10 → ten_of d xs 0 ≡ xs
@@ -74,6 +74,14 @@ ten_all d (a ∷ b ∷ c ∷ e ∷ f ∷ g ∷ h ∷ i ∷ []) l = absurd (omega
 ten_all d (a ∷ b ∷ c ∷ e ∷ f ∷ g ∷ h ∷ i ∷ j ∷ []) l = absurd (omega arith)
 ten_all d (a ∷ b ∷ c ∷ e ∷ f ∷ g ∷ h ∷ i ∷ j ∷ k ∷ []) l = refl
 ten_all d (a ∷ b ∷ c ∷ e ∷ f ∷ g ∷ h ∷ i ∷ j ∷ k ∷ m ∷ xs) l = absurd (omega arith)
+
+-- a row of ten of which the element at each place is known
+pub ten_known : {A : Type 0} (d : A) (f : ℕ → A) (xs : List A) → length xs ≡ 10 → ((i : ℕ) → i < 10 → get_or xs i d ≡ f i)
+    → xs ≡ f 0 ∷ f 1 ∷ f 2 ∷ f 3 ∷ f 4 ∷ f 5 ∷ f 6 ∷ f 7 ∷ f 8 ∷ f 9 ∷ []
+ten_known d f xs l at =
+    sym (ten_all d xs l)
+    ∙ (λ i. at 0 (omega arith) i ∷ at 1 (omega arith) i ∷ at 2 (omega arith) i ∷ at 3 (omega arith) i ∷ at 4 (omega arith) i
+    ∷ at 5 (omega arith) i ∷ at 6 (omega arith) i ∷ at 7 (omega arith) i ∷ at 8 (omega arith) i ∷ at 9 (omega arith) i ∷ [])
 
 pub sums_back : (s : List Sum) → length s ≡ 10
     → map (λ (x : Sum). record { stated = sum_from (flat (flat_sum x.stated).tag (flat_sum x.stated).amount (flat_sum x.stated).a 0) }) (ten_of no_sum s 0) ≡ s
@@ -96,13 +104,15 @@ pass_back p lc ls lg =
       stated = record { groups = sums_back p.stated.groups lg i };
       block =
           record {
-            classed = on_back p.block.classed i;
-            priority = on_back p.block.priority i;
-            any = on_back p.block.any i;
-            some = on_back p.block.some i;
-            day = p.block.day;
-            first = p.block.first;
-            last = p.block.last;
+            course = record {
+              classed = on_back p.block.course.classed i;
+              priority = on_back p.block.course.priority i;
+              any = on_back p.block.course.any i;
+              some = on_back p.block.course.some i;
+              day = p.block.course.day;
+              first = p.block.course.first;
+              last = p.block.course.last;
+            };
             counts = ten_all 0 p.block.counts lc i;
             sums = ten_all 0 p.block.sums ls i;
           };

@@ -2,15 +2,13 @@
 use Rattle.std.specs.Prelude.{ℕ, Bool, cond, not, eqb}
 use Rattle.figures.specs.declared.parts.Number.{Number}
 use Rattle.figures.specs.declared.parts.Number.TheVariants.{Good, Failing, Zero}
-use Rattle.figures.specs.declared.parts.Halves.{Halves}
 use Rattle.fields.specs.declared.readings.Reading.{Reading}
 use Rattle.fields.specs.declared.readings.Reading.TheVariants.{Broken, Plain, Paid, Span, Stated, Party}
-use Rattle.rules.specs.declared.FirstKc.{FirstKc}
-use Rattle.rules.specs.declared.FirstKc.TheVariants.{NoKc, BrokenKc, Pays}
-use Rattle.rules.specs.declared.FirstIn.{FirstIn}
-use Rattle.rules.specs.declared.FirstIn.TheVariants.{NoIn, BrokenIn, Runs}
-use Rattle.rules.specs.declared.FirstSum.{FirstSum}
-use Rattle.rules.specs.declared.FirstSum.TheVariants.{NoSum, BrokenSum, Says}
+use Rattle.rules.specs.declared.First.{First}
+use Rattle.rules.specs.declared.First.TheVariants.{Missing, Unread, Says}
+use Rattle.rules.specs.declared.Payment.{Payment}
+use Rattle.rules.specs.declared.Range.{Range}
+use Rattle.rules.specs.declared.Statement.{Statement}
 use Rattle.carried.specs.declared.flats.Flat.{Flat}
 
 abbrev pub flat : ℕ → ℕ → ℕ → ℕ → Flat
@@ -55,26 +53,26 @@ reading_from f =
 
 -- ---- the first KC, IN and Sd of an item
 
-abbrev pub flat_kc : FirstKc → Flat
-flat_kc NoKc = flat 0 0 0 0
-flat_kc BrokenKc = flat 1 0 0 0
-flat_kc (Pays x d) = flat 2 x.0 d 0
+abbrev pub flat_kc : First Payment → Flat
+flat_kc Missing = flat 0 0 0 0
+flat_kc Unread = flat 1 0 0 0
+flat_kc (Says p) = flat 2 p.amount.0 p.day 0
 
-abbrev pub kc_from : Flat → FirstKc
-kc_from f = cond (eqb f.tag 1) BrokenKc (cond (eqb f.tag 2) (Pays (record { 0 = f.amount }) f.a) NoKc)
+abbrev pub kc_from : Flat → First Payment
+kc_from f = cond (eqb f.tag 1) Unread (cond (eqb f.tag 2) (Says (record { amount = record { 0 = f.amount }; day = f.a })) Missing)
 
-abbrev pub flat_in : FirstIn → Flat
-flat_in NoIn = flat 0 0 0 0
-flat_in BrokenIn = flat 1 0 0 0
-flat_in (Runs m n) = flat 2 0 m.0 n.0
+abbrev pub flat_in : First Range → Flat
+flat_in Missing = flat 0 0 0 0
+flat_in Unread = flat 1 0 0 0
+flat_in (Says p) = flat 2 0 p.first.0 p.last.0
 
-abbrev pub in_from : Flat → FirstIn
-in_from f = cond (eqb f.tag 1) BrokenIn (cond (eqb f.tag 2) (Runs (record { 0 = f.a }) (record { 0 = f.b })) NoIn)
+abbrev pub in_from : Flat → First Range
+in_from f = cond (eqb f.tag 1) Unread (cond (eqb f.tag 2) (Says (record { first = record { 0 = f.a }; last = record { 0 = f.b } })) Missing)
 
-abbrev pub flat_sum : FirstSum → Flat
-flat_sum NoSum = flat 0 0 0 0
-flat_sum BrokenSum = flat 1 0 0 0
-flat_sum (Says n x) = flat 2 x.0 n 0
+abbrev pub flat_sum : First Statement → Flat
+flat_sum Missing = flat 0 0 0 0
+flat_sum Unread = flat 1 0 0 0
+flat_sum (Says p) = flat 2 p.sum.0 p.count 0
 
-abbrev pub sum_from : Flat → FirstSum
-sum_from f = cond (eqb f.tag 1) BrokenSum (cond (eqb f.tag 2) (Says f.a (record { 0 = f.amount })) NoSum)
+abbrev pub sum_from : Flat → First Statement
+sum_from f = cond (eqb f.tag 1) Unread (cond (eqb f.tag 2) (Says (record { count = f.a; sum = record { 0 = f.amount } })) Missing)

@@ -2,8 +2,9 @@
 -- src/lib.rt.
 use Rattle.std.specs.Prelude.{ℕ, ◌+◌, List, [], ◌∷◌, ◌++◌, map, get_or}
 use Rattle.headings.specs.declared.Heading.{Heading}
-use Rattle.rules.specs.declared.FirstKc.{FirstKc}
-use Rattle.rules.specs.declared.FirstIn.{FirstIn}
+use Rattle.rules.specs.declared.First.{First}
+use Rattle.rules.specs.declared.Payment.{Payment}
+use Rattle.rules.specs.declared.Range.{Range}
 use Rattle.rules.specs.declared.Sum.{Sum}
 use Rattle.rules.specs.declared.Sums.{Sums}
 use Rattle.ledger.specs.declared.Ledger.{Ledger}
@@ -45,14 +46,14 @@ abbrev pub narrow_of : Pass → Flat → Flat → Flat → List Flat → List �
 narrow_of p said kc span s =
     (p.field.no ∷ p.field.tail ∷ said.a ∷ said.b ∷ p.since ∷ p.heading.kind ∷ p.heading.day ∷ p.heading.first.0
     ∷ p.heading.number.0 ∷ p.heading.second.0 ∷ p.heading.output.0 ∷ p.heading.third.0 ∷ kc.a ∷ span.a ∷ span.b
-    ∷ p.block.day ∷ p.block.first.0 ∷ p.block.last.0 ∷ p.wait.line ∷ p.starts.field ∷ p.starts.head ∷ p.starts.wait
+    ∷ p.block.course.day ∷ p.block.course.first.0 ∷ p.block.course.last.0 ∷ p.wait.line ∷ p.starts.field ∷ p.starts.head ∷ p.starts.wait
     ∷ p.n ∷ [])
     ++ each_of (λ (f : Flat). f.a) s
 
 abbrev pub small_of : Pass → Flat → Flat → Flat → List Flat → List ℕ
 small_of p said kc span s =
-    (p.field.class ∷ said.tag ∷ one p.reads ∷ kc.tag ∷ span.tag ∷ one p.block.classed ∷ one p.block.priority
-    ∷ one p.block.any ∷ one p.block.some ∷ [])
+    (p.field.class ∷ said.tag ∷ one p.reads ∷ kc.tag ∷ span.tag ∷ one p.block.course.classed ∷ one p.block.course.priority
+    ∷ one p.block.course.any ∷ one p.block.course.some ∷ [])
     ++ each_of (λ (f : Flat). f.tag) s
 
 unfoldable pub words_of : Pass → Words
@@ -98,10 +99,10 @@ heading_in w =
       third = record { 0 = narrow_at w 11 };
     }
 
-abbrev pub kc_in : Words → FirstKc
+abbrev pub kc_in : Words → First Payment
 kc_in w = kc_from (flat (small_at w 3) (wide_at w 6) (narrow_at w 12) 0)
 
-abbrev pub span_in : Words → FirstIn
+abbrev pub span_in : Words → First Range
 span_in w = in_from (flat (small_at w 4) 0 (narrow_at w 13) (narrow_at w 14))
 
 abbrev pub group_at : Words → ℕ → Flat
@@ -116,13 +117,15 @@ stated_in w = record { groups = map (group_in w) (0 ∷ 1 ∷ 2 ∷ 3 ∷ 4 ∷ 
 abbrev pub block_in : Words → Block
 block_in w =
     record {
-      classed = is_on (small_at w 5);
-      priority = is_on (small_at w 6);
-      any = is_on (small_at w 7);
-      some = is_on (small_at w 8);
-      day = narrow_at w 15;
-      first = record { 0 = narrow_at w 16 };
-      last = record { 0 = narrow_at w 17 };
+      course = record {
+        classed = is_on (small_at w 5);
+        priority = is_on (small_at w 6);
+        any = is_on (small_at w 7);
+        some = is_on (small_at w 8);
+        day = narrow_at w 15;
+        first = record { 0 = narrow_at w 16 };
+        last = record { 0 = narrow_at w 17 };
+      };
       counts = ten_of 0 w.wide 8;
       sums = ten_of 0 w.wide 18;
     }

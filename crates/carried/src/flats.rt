@@ -1,11 +1,11 @@
 // The enums that the pass holds, as plain numbers and back. Any numbers can be read: a variant that is not known reads as the first.
 ghost use Rattle.std.specs.Prelude.{◌≡◌};
-ghost use Rattle.carried.specs.Flats.{one, number_no, number_from, flat_reading, reading_from, flat_kc, kc_from, flat_in, in_from, flat_sum, sum_from};
+ghost use Rattle.carried.specs.Flats.{number_no, number_from, flat_reading, reading_from, flat_kc, kc_from, flat_in, in_from, flat_sum, sum_from};
 
 use fields::readings::Reading;
 use figures::parts::{Halves, Number};
 use headings::{Amount, ItemNo};
-use rules::{FirstIn, FirstKc, FirstSum};
+use rules::{First, Payment, Range, Statement};
 
 // Which variant, the amount that it holds, and two numbers more; 0 for what it does not hold.
 #[derive(Clone, Copy)]
@@ -16,12 +16,15 @@ pub struct Flat {
     pub b: u32,
 }
 
-fn one(b: bool) -> u32
-    ensures { result ≡ one b }
-{
-    if b { 1 } else { 0 }
-}
+// The first variant, with 0 for all that it does not hold.
+const NOTHING: Flat = Flat {
+    tag: 0,
+    amount: 0,
+    a: 0,
+    b: 0,
+};
 
+// Not `u32::from(n)`: that is document 01's answer, and `number_no` holds what is stored.
 fn number_no(n: Number) -> u32
     ensures { result ≡ number_no n }
 {
@@ -46,175 +49,132 @@ pub fn flat_reading(said: Reading) -> Flat
     ensures { result ≡ flat_reading said }
 {
     match said {
-        Reading::Broken => Flat {
-            tag: 0,
-            amount: 0,
-            a: 0,
-            b: 0,
-        },
-        Reading::Plain => Flat {
-            tag: 1,
-            amount: 0,
-            a: 0,
-            b: 0,
-        },
+        Reading::Broken => NOTHING,
+        Reading::Plain => Flat { tag: 1, ..NOTHING },
         Reading::Paid(amount, day) => Flat {
             tag: 2,
             amount: amount.0,
             a: day,
-            b: 0,
+            ..NOTHING
         },
         Reading::Span(first, last) => Flat {
             tag: 3,
-            amount: 0,
             a: first.0,
             b: last.0,
+            ..NOTHING
         },
         Reading::Stated(count, sum) => Flat {
             tag: 4,
             amount: sum.0,
             a: count,
-            b: 0,
+            ..NOTHING
         },
-        Reading::Party(halves) => {
-            let number = halves.number;
-            let a = one(halves.prefix);
-            let b = number_no(number);
-            Flat {
-                tag: 5,
-                amount: 0,
-                a,
-                b,
-            }
-        }
+        Reading::Party(halves) => Flat {
+            tag: 5,
+            a: u32::from(halves.prefix),
+            b: number_no(halves.number),
+            ..NOTHING
+        },
     }
 }
 
 pub fn reading_from(f: Flat) -> Reading
     ensures { result ≡ reading_from f }
 {
-    let tag = f.tag;
-    match tag {
+    match f.tag {
         1 => Reading::Plain,
         2 => Reading::Paid(Amount(f.amount), f.a),
         3 => Reading::Span(ItemNo(f.a), ItemNo(f.b)),
         4 => Reading::Stated(f.a, Amount(f.amount)),
-        5 => {
-            let number = number_from(f.b);
-            let halves = Halves {
-                prefix: f.a != 0,
-                number,
-            };
-            Reading::Party(halves)
-        }
+        5 => Reading::Party(Halves {
+            prefix: f.a != 0,
+            number: number_from(f.b),
+        }),
         _ => Reading::Broken,
     }
 }
 
-pub fn flat_kc(kc: FirstKc) -> Flat
+// Three pairs and not one over `First<T>`: a trait of the payloads, with its laws and three impls, would be longer than they are.
+pub fn flat_kc(kc: First<Payment>) -> Flat
     ensures { result ≡ flat_kc kc }
 {
     match kc {
-        FirstKc::NoKc => Flat {
-            tag: 0,
-            amount: 0,
-            a: 0,
-            b: 0,
-        },
-        FirstKc::BrokenKc => Flat {
-            tag: 1,
-            amount: 0,
-            a: 0,
-            b: 0,
-        },
-        FirstKc::Pays(amount, day) => Flat {
+        First::Missing => NOTHING,
+        First::Unread => Flat { tag: 1, ..NOTHING },
+        First::Says(paid) => Flat {
             tag: 2,
-            amount: amount.0,
-            a: day,
-            b: 0,
+            amount: paid.amount.0,
+            a: paid.day,
+            ..NOTHING
         },
     }
 }
 
-pub fn kc_from(f: Flat) -> FirstKc
+pub fn kc_from(f: Flat) -> First<Payment>
     ensures { result ≡ kc_from f }
 {
-    let tag = f.tag;
-    match tag {
-        1 => FirstKc::BrokenKc,
-        2 => FirstKc::Pays(Amount(f.amount), f.a),
-        _ => FirstKc::NoKc,
+    match f.tag {
+        1 => First::Unread,
+        2 => First::Says(Payment {
+            amount: Amount(f.amount),
+            day: f.a,
+        }),
+        _ => First::Missing,
     }
 }
 
-pub fn flat_in(span: FirstIn) -> Flat
+pub fn flat_in(span: First<Range>) -> Flat
     ensures { result ≡ flat_in span }
 {
     match span {
-        FirstIn::NoIn => Flat {
-            tag: 0,
-            amount: 0,
-            a: 0,
-            b: 0,
-        },
-        FirstIn::BrokenIn => Flat {
-            tag: 1,
-            amount: 0,
-            a: 0,
-            b: 0,
-        },
-        FirstIn::Runs(first, last) => Flat {
+        First::Missing => NOTHING,
+        First::Unread => Flat { tag: 1, ..NOTHING },
+        First::Says(named) => Flat {
             tag: 2,
-            amount: 0,
-            a: first.0,
-            b: last.0,
+            a: named.first.0,
+            b: named.last.0,
+            ..NOTHING
         },
     }
 }
 
-pub fn in_from(f: Flat) -> FirstIn
+pub fn in_from(f: Flat) -> First<Range>
     ensures { result ≡ in_from f }
 {
-    let tag = f.tag;
-    match tag {
-        1 => FirstIn::BrokenIn,
-        2 => FirstIn::Runs(ItemNo(f.a), ItemNo(f.b)),
-        _ => FirstIn::NoIn,
+    match f.tag {
+        1 => First::Unread,
+        2 => First::Says(Range {
+            first: ItemNo(f.a),
+            last: ItemNo(f.b),
+        }),
+        _ => First::Missing,
     }
 }
 
-pub fn flat_sum(sum: FirstSum) -> Flat
+pub fn flat_sum(sum: First<Statement>) -> Flat
     ensures { result ≡ flat_sum sum }
 {
     match sum {
-        FirstSum::NoSum => Flat {
-            tag: 0,
-            amount: 0,
-            a: 0,
-            b: 0,
-        },
-        FirstSum::BrokenSum => Flat {
-            tag: 1,
-            amount: 0,
-            a: 0,
-            b: 0,
-        },
-        FirstSum::Says(count, amount) => Flat {
+        First::Missing => NOTHING,
+        First::Unread => Flat { tag: 1, ..NOTHING },
+        First::Says(stated) => Flat {
             tag: 2,
-            amount: amount.0,
-            a: count,
-            b: 0,
+            amount: stated.sum.0,
+            a: stated.count,
+            ..NOTHING
         },
     }
 }
 
-pub fn sum_from(f: Flat) -> FirstSum
+pub fn sum_from(f: Flat) -> First<Statement>
     ensures { result ≡ sum_from f }
 {
-    let tag = f.tag;
-    match tag {
-        1 => FirstSum::BrokenSum,
-        2 => FirstSum::Says(f.a, Amount(f.amount)),
-        _ => FirstSum::NoSum,
+    match f.tag {
+        1 => First::Unread,
+        2 => First::Says(Statement {
+            count: f.a,
+            sum: Amount(f.amount),
+        }),
+        _ => First::Missing,
     }
 }

@@ -13,20 +13,22 @@
 #![tactic(auto)]
 
 ghost use Rattle.std.specs.Prelude.{◌≡◌, ◌<◌, length};
-ghost use Rattle.carried.specs.Words.{flat_at, flats_of, wide_of, narrow_of, small_of, words_of, ledger_in, field_in, said_in, pend_in, heading_in, kc_in, span_in, group_at, group_in, stated_in, block_in, wait_in, starts_in, pass_of};
+ghost use Rattle.carried.specs.Words.{flats_of, wide_of, narrow_of, small_of, words_of, ledger_in, field_in, said_in, pend_in, heading_in, kc_in, span_in, group_at, group_in, stated_in, block_in, wait_in, starts_in, pass_of};
 
-use blocks::Block;
+use blocks::{Block, Course};
 use closing::Wait;
 use flats::Flat;
 use headings::{Code, Heading, ItemNo};
 use judging::opening::{Open, Pend};
 use ledger::Ledger;
 use pass::Pass;
-use rules::{FirstIn, FirstKc, Sum, Sums};
+use rules::{First, Payment, Range, Sum, Sums};
 use shutting::Starts;
+use std::array;
 
 pub mod flats;
 
+// Arrays of fixed sizes: a C caller holds them (`store` and `state_in` of `stored`).
 #[derive(Clone, Copy)]
 pub struct Words {
     pub wide: [u64; 38],
@@ -36,30 +38,11 @@ pub struct Words {
 
 // ---- written
 
-fn flat_at(groups: [Sum; 10], i: usize) -> Flat
-    requires { i < 10 }
-    ensures { result ≡ flat_at groups i }
-{
-    let group = groups[i];
-    let stated = group.stated;
-    flats::flat_sum(stated)
-}
-
 // What an item says of S0 to S9.
 fn flats_of(groups: [Sum; 10]) -> [Flat; 10]
     ensures { (result ≡ flats_of groups) × (length groups ≡ 10) }
 {
-    let s0 = flat_at(groups, 0);
-    let s1 = flat_at(groups, 1);
-    let s2 = flat_at(groups, 2);
-    let s3 = flat_at(groups, 3);
-    let s4 = flat_at(groups, 4);
-    let s5 = flat_at(groups, 5);
-    let s6 = flat_at(groups, 6);
-    let s7 = flat_at(groups, 7);
-    let s8 = flat_at(groups, 8);
-    let s9 = flat_at(groups, 9);
-    [s0, s1, s2, s3, s4, s5, s6, s7, s8, s9]
+    groups.map(|group| flats::flat_sum(group.stated))
 }
 
 fn wide_of(
@@ -72,7 +55,8 @@ fn wide_of(
 ) -> [u64; 38]
     ensures { (result ≡ wide_of counts sums p said kc s) × (length counts ≡ 10) × (length sums ≡ 10) }
 {
-    [
+    let mut wide = [0; 38];
+    wide[..8].copy_from_slice(&[
         p.ledger.kept as u64,
         p.ledger.total,
         p.field.marks,
@@ -81,37 +65,11 @@ fn wide_of(
         p.top,
         kc.amount,
         p.wait.marks,
-        counts[0],
-        counts[1],
-        counts[2],
-        counts[3],
-        counts[4],
-        counts[5],
-        counts[6],
-        counts[7],
-        counts[8],
-        counts[9],
-        sums[0],
-        sums[1],
-        sums[2],
-        sums[3],
-        sums[4],
-        sums[5],
-        sums[6],
-        sums[7],
-        sums[8],
-        sums[9],
-        s[0].amount,
-        s[1].amount,
-        s[2].amount,
-        s[3].amount,
-        s[4].amount,
-        s[5].amount,
-        s[6].amount,
-        s[7].amount,
-        s[8].amount,
-        s[9].amount,
-    ]
+    ]);
+    wide[8..18].copy_from_slice(&counts);
+    wide[18..28].copy_from_slice(&sums);
+    wide[28..38].copy_from_slice(&s.map(|flat| flat.amount));
+    wide
 }
 
 fn narrow_of(p: Pass, said: Flat, kc: Flat, span: Flat, s: [Flat; 10]) -> [u32; 33]
@@ -119,9 +77,10 @@ fn narrow_of(p: Pass, said: Flat, kc: Flat, span: Flat, s: [Flat; 10]) -> [u32; 
 {
     let field = p.field;
     let h = p.heading;
-    let block = p.block;
+    let course = p.block.course;
     let starts = p.starts;
-    [
+    let mut narrow = [0; 33];
+    narrow[..23].copy_from_slice(&[
         field.no,
         field.tail,
         said.a,
@@ -137,52 +96,37 @@ fn narrow_of(p: Pass, said: Flat, kc: Flat, span: Flat, s: [Flat; 10]) -> [u32; 
         kc.a,
         span.a,
         span.b,
-        block.day,
-        block.first.0,
-        block.last.0,
+        course.day,
+        course.first.0,
+        course.last.0,
         p.wait.line,
         starts.field,
         starts.head,
         starts.wait,
         p.n,
-        s[0].a,
-        s[1].a,
-        s[2].a,
-        s[3].a,
-        s[4].a,
-        s[5].a,
-        s[6].a,
-        s[7].a,
-        s[8].a,
-        s[9].a,
-    ]
+    ]);
+    narrow[23..].copy_from_slice(&s.map(|flat| flat.a));
+    narrow
 }
 
 fn small_of(p: Pass, said: Flat, kc: Flat, span: Flat, s: [Flat; 10]) -> [u8; 19]
     ensures { result ≡ small_of p said kc span s }
 {
-    let block = p.block;
-    [
+    let course = p.block.course;
+    let mut small = [0; 19];
+    small[..9].copy_from_slice(&[
         p.field.class,
         said.tag,
         p.reads as u8,
         kc.tag,
         span.tag,
-        block.classed as u8,
-        block.priority as u8,
-        block.any as u8,
-        block.some as u8,
-        s[0].tag,
-        s[1].tag,
-        s[2].tag,
-        s[3].tag,
-        s[4].tag,
-        s[5].tag,
-        s[6].tag,
-        s[7].tag,
-        s[8].tag,
-        s[9].tag,
-    ]
+        course.classed as u8,
+        course.priority as u8,
+        course.any as u8,
+        course.some as u8,
+    ]);
+    small[9..].copy_from_slice(&s.map(|flat| flat.tag));
+    small
 }
 
 // What the pass holds, as numbers.
@@ -190,26 +134,14 @@ pub fn words_of(p: Pass) -> Words
     ensures value { result ≡ words_of p }
     ensures result_value { pass_of result ≡ p }
 {
-    let pend = p.pend;
-    let told = pend.said;
-    let first_kc = p.kc;
-    let first_in = p.span;
-    let stated = p.stated;
-    let groups = stated.groups;
-    let block = p.block;
-    let counts = block.counts;
-    let sums = block.sums;
-    let said = flats::flat_reading(told);
-    let kc = flats::flat_kc(first_kc);
-    let span = flats::flat_in(first_in);
-    let s = flats_of(groups);
-    let wide = wide_of(counts, sums, p, said, kc, s);
-    let narrow = narrow_of(p, said, kc, span, s);
-    let small = small_of(p, said, kc, span, s);
+    let said = flats::flat_reading(p.pend.said);
+    let kc = flats::flat_kc(p.kc);
+    let span = flats::flat_in(p.span);
+    let s = flats_of(p.stated.groups);
     Words {
-        wide,
-        narrow,
-        small,
+        wide: wide_of(p.block.counts, p.block.sums, p, said, kc, s),
+        narrow: narrow_of(p, said, kc, span, s),
+        small: small_of(p, said, kc, span, s),
     }
 }
 
@@ -249,10 +181,10 @@ fn said_in(w: Words) -> Flat
 fn pend_in(w: Words) -> Pend
     ensures { result ≡ pend_in w }
 {
-    let ident = w.wide[3] as usize;
-    let flat = said_in(w);
-    let said = flats::reading_from(flat);
-    Pend { ident, said }
+    Pend {
+        ident: w.wide[3] as usize,
+        said: flats::reading_from(said_in(w)),
+    }
 }
 
 fn heading_in(w: Words) -> Heading
@@ -269,41 +201,36 @@ fn heading_in(w: Words) -> Heading
     }
 }
 
-fn kc_in(w: Words) -> FirstKc
+fn kc_in(w: Words) -> First<Payment>
     ensures { result ≡ kc_in w }
 {
-    let flat = Flat {
+    flats::kc_from(Flat {
         tag: w.small[3],
         amount: w.wide[6],
         a: w.narrow[12],
         b: 0,
-    };
-    flats::kc_from(flat)
+    })
 }
 
-fn span_in(w: Words) -> FirstIn
+fn span_in(w: Words) -> First<Range>
     ensures { result ≡ span_in w }
 {
-    let flat = Flat {
+    flats::in_from(Flat {
         tag: w.small[4],
         amount: 0,
         a: w.narrow[13],
         b: w.narrow[14],
-    };
-    flats::in_from(flat)
+    })
 }
 
 fn group_at(w: Words, i: usize) -> Flat
     requires { i < 10 }
     ensures { result ≡ group_at w i }
 {
-    let in_wide = 28 + i;
-    let in_narrow = 23 + i;
-    let in_small = 9 + i;
     Flat {
-        tag: w.small[in_small],
-        amount: w.wide[in_wide],
-        a: w.narrow[in_narrow],
+        tag: w.small[9 + i],
+        amount: w.wide[28 + i],
+        a: w.narrow[23 + i],
         b: 0,
     }
 }
@@ -312,49 +239,34 @@ fn group_in(w: Words, i: usize) -> Sum
     requires { i < 10 }
     ensures { result ≡ group_in w i }
 {
-    let flat = group_at(w, i);
-    let stated = flats::sum_from(flat);
-    Sum { stated }
+    Sum {
+        stated: flats::sum_from(group_at(w, i)),
+    }
 }
 
 fn stated_in(w: Words) -> Sums
     ensures { result ≡ stated_in w }
 {
-    let s0 = group_in(w, 0);
-    let s1 = group_in(w, 1);
-    let s2 = group_in(w, 2);
-    let s3 = group_in(w, 3);
-    let s4 = group_in(w, 4);
-    let s5 = group_in(w, 5);
-    let s6 = group_in(w, 6);
-    let s7 = group_in(w, 7);
-    let s8 = group_in(w, 8);
-    let s9 = group_in(w, 9);
-    let groups = [s0, s1, s2, s3, s4, s5, s6, s7, s8, s9];
-    Sums { groups }
+    Sums {
+        groups: array::from_fn(|i| group_in(w, i)),
+    }
 }
 
 fn block_in(w: Words) -> Block
     ensures { result ≡ block_in w }
 {
-    let counts = [
-        w.wide[8], w.wide[9], w.wide[10], w.wide[11], w.wide[12], w.wide[13], w.wide[14],
-        w.wide[15], w.wide[16], w.wide[17],
-    ];
-    let sums = [
-        w.wide[18], w.wide[19], w.wide[20], w.wide[21], w.wide[22], w.wide[23], w.wide[24],
-        w.wide[25], w.wide[26], w.wide[27],
-    ];
     Block {
-        classed: w.small[5] != 0,
-        priority: w.small[6] != 0,
-        any: w.small[7] != 0,
-        some: w.small[8] != 0,
-        day: w.narrow[15],
-        first: ItemNo(w.narrow[16]),
-        last: ItemNo(w.narrow[17]),
-        counts,
-        sums,
+        course: Course {
+            classed: w.small[5] != 0,
+            priority: w.small[6] != 0,
+            any: w.small[7] != 0,
+            some: w.small[8] != 0,
+            day: w.narrow[15],
+            first: ItemNo(w.narrow[16]),
+            last: ItemNo(w.narrow[17]),
+        },
+        counts: array::from_fn(|i| w.wide[8 + i]),
+        sums: array::from_fn(|i| w.wide[18 + i]),
     }
 }
 
@@ -378,37 +290,24 @@ fn starts_in(w: Words) -> Starts
 }
 
 // What the pass held, from its numbers.
+#[tactic(auto, unfolding(crate::specs::Words::pass_of))]
 pub fn pass_of(w: Words) -> Pass
     ensures { result ≡ pass_of w }
 {
-    let since = w.narrow[4];
-    let top = w.wide[5];
-    let reads = w.small[2] != 0;
-    let n = w.narrow[22];
-    let ledger = ledger_in(w);
-    let field = field_in(w);
-    let pend = pend_in(w);
-    let heading = heading_in(w);
-    let kc = kc_in(w);
-    let span = span_in(w);
-    let stated = stated_in(w);
-    let block = block_in(w);
-    let wait = wait_in(w);
-    let starts = starts_in(w);
     Pass {
-        ledger,
-        field,
-        pend,
-        since,
-        top,
-        reads,
-        heading,
-        kc,
-        span,
-        stated,
-        block,
-        wait,
-        starts,
-        n,
+        ledger: ledger_in(w),
+        field: field_in(w),
+        pend: pend_in(w),
+        since: w.narrow[4],
+        top: w.wide[5],
+        reads: w.small[2] != 0,
+        heading: heading_in(w),
+        kc: kc_in(w),
+        span: span_in(w),
+        stated: stated_in(w),
+        block: block_in(w),
+        wait: wait_in(w),
+        starts: starts_in(w),
+        n: w.narrow[22],
     }
 }

@@ -6,7 +6,6 @@ use Prim.Native.Nat.{ℕ, ◌+◌}
 use native.Mathlib.Omega.{arith}
 use lib.Dec.{eqb}
 use Rattle.laws.specs.Tests.{mark}
-use Rattle.headings.specs.declared.Read.{Read}
 use Rattle.rules.specs.Blocks.{closes_at}
 use Rattle.rules.specs.Said.{is_unreadable}
 use Rattle.own_rules.specs.declared.Basis.{Basis}
@@ -18,6 +17,8 @@ use Rattle.items.specs.Claims.{Claims}
 use Rattle.closing.specs.declared.Wait.{Wait}
 use Rattle.closing.specs.declared.Shut.{Shut}
 use Rattle.closing.specs.Closing.{Ended, shut_as, shut_by, close_as, close_by, counts_by, sums_by}
+use Rattle.headings.specs.declared.Heading.{Heading}
+use Rattle.std.specs.Prelude.{Option}
 
 -- a course that has closed, with groups beside it
 abbrev pub whole : Shut → List ℕ → List ℕ → Ended
@@ -30,7 +31,7 @@ parted false true a c c' cs cs' ss ss' w n m = refl
 parted false false true c c' cs cs' ss ss' w n m = refl
 parted false false false c c' cs cs' ss ss' w n m = refl
 
-module _ (j : Basis) (c : Course) (counts sums : List ℕ) (w : Wait) (n m : ℕ) (r : Read) (cl : Claims) where
+module _ (j : Basis) (c : Course) (counts sums : List ℕ) (w : Wait) (n m : ℕ) (r : Option Heading) (cl : Claims) where
   pub close_parts : close_as j (block_of c counts sums) w n m r cl
       ≡ whole (close_by j c w n m r cl.kc cl.span (groups_on counts sums cl.sums r)) (counts_by counts n r cl.kc) (sums_by sums n r cl.kc)
   unfolding close_as close_by

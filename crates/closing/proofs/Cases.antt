@@ -4,9 +4,9 @@ use mathlib.Core.Bool.{Bool, true, false, cond, not}
 use Prim.Native.Nat.{ℕ, ◌+◌}
 use lib.Dec.{eqb}
 use Rattle.laws.specs.Tests.{mark}
-use Rattle.headings.specs.declared.Read.{Read}
-use Rattle.rules.specs.declared.FirstKc.{FirstKc}
-use Rattle.rules.specs.declared.FirstIn.{FirstIn}
+use Rattle.rules.specs.declared.First.{First}
+use Rattle.rules.specs.declared.Payment.{Payment}
+use Rattle.rules.specs.declared.Range.{Range}
 use Rattle.rules.specs.Blocks.{closes_at}
 use Rattle.rules.specs.Said.{is_unreadable}
 use Rattle.own_rules.specs.declared.Basis.{Basis}
@@ -15,8 +15,10 @@ use Rattle.account.specs.declared.Accounted.{Accounted}
 use Rattle.account.specs.Model.{close_course}
 use Rattle.closing.specs.declared.Wait.{Wait}
 use Rattle.closing.specs.Closing.{no_wait, shut_by, close_by}
+use Rattle.headings.specs.declared.Heading.{Heading}
+use Rattle.std.specs.Prelude.{Option}
 
-module _ (j : Basis) (c : Course) (w : Wait) (n own : ℕ) (r : Read) (kc : FirstKc) (span : FirstIn) (groups : ℕ) where
+module _ (j : Basis) (c : Course) (w : Wait) (n own : ℕ) (r : Option Heading) (kc : First Payment) (span : First Range) (groups : ℕ) where
   pub close_none : eqb n 0 ≡ true → record { course = c; wait = w; told = 0; marks = 0 } ≡ close_by j c w n own r kc span groups
   unfolding close_by
   close_none h = rw h

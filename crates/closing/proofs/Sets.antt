@@ -5,8 +5,6 @@ use mathlib.Core.Bool.{Bool}
 use mathlib.Core.List.{List, ◌∷◌, ◌++◌, map}
 use native.Mathlib.Omega.{arith}
 use Rattle.laws.specs.Tests.{mark}
-use Rattle.headings.specs.declared.Read.{Read}
-use Rattle.headings.specs.declared.Read.TheVariants.{Reads, Unreadable}
 use Rattle.rules.specs.Tests.{◌if◌}
 use Rattle.rules.specs.Terms.{Terms}
 use Rattle.rules.specs.Rows.{Row}
@@ -18,6 +16,8 @@ use Rattle.rules.specs.HeadingRules.{rule6_at}
 use Rattle.ledger.specs.Marks.{set_of}
 use Rattle.account.specs.Summary.{marks_by}
 use Rattle.items.proofs.Ideal.{tests_as}
+use Rattle.headings.specs.declared.Heading.{Heading}
+use Rattle.std.specs.Prelude.{None, Option, Some}
 
 unfoldable pub line_marks : Row → ℕ
 line_marks r = mark 1 (rule1 r) + mark 4 (rule4 r)
@@ -31,9 +31,9 @@ module _ (terms : Terms) where
   unfolding tests_as head_marks line_marks own_tests block_tests
   head_set z above i = go (head_of i.head)
     where
-      go : (hd : Read)
+      go : (hd : Option Heading)
           → set_of ((1 if rule1 i.head.owner) ∷ (4 if rule4 i.head.owner) ∷ (6 if is_unreadable hd)
           ∷ (own_tests terms (digest i) hd ++ ((16 if z) ∷ block_tests (map digest above) (digest i) hd)))
           ≡ line_marks i.head.owner + mark 6 (is_unreadable hd) + marks_by terms (map digest above) (digest i) hd + mark 16 z
-      go (Reads h) = omega arith
-      go Unreadable = omega arith
+      go (Some h) = omega arith
+      go None = omega arith

@@ -8,8 +8,6 @@ use native.Mathlib.Omega.{arith}
 use lib.Dec.{eqb}
 use borrow.Author.Tests.{ne_eqb}
 use Rattle.laws.specs.Tests.{mark}
-use Rattle.headings.specs.declared.Read.{Read}
-use Rattle.headings.specs.declared.Read.TheVariants.{Unreadable}
 use Rattle.fields.specs.Kinds.{named}
 use Rattle.rules.specs.Terms.{Terms}
 use Rattle.rules.specs.Faults.{Fault}
@@ -34,6 +32,8 @@ use Rattle.closing.specs.declared.Wait.{Wait}
 use Rattle.closing.specs.Closing.{Ended, no_wait, shut, shut_as, digest_of, close_as, last_marks}
 use Rattle.closing.proofs.Sets.{line_marks, head_marks, head_set}
 use Rattle.closing.proofs.Within.{digest_within}
+use Rattle.headings.specs.declared.Heading.{Heading}
+use Rattle.std.specs.Prelude.{None, Option}
 
 pub no_zero : (n : ℕ) → 0 < n → eqb n 0 ≡ false
 no_zero n h = ne_eqb n 0 (λ z. omega arith)
@@ -47,7 +47,7 @@ put_none n l = rw no_rules
 abbrev pub account_of : List Item → Block
 account_of b = summary (map digest b)
 
-pub any_is : (b : List Item) → (account_of b).any ≡ not (fresh b)
+pub any_is : (b : List Item) → (account_of b).course.any ≡ not (fresh b)
 unfolding summary
 any_is b = refl
 
@@ -83,7 +83,7 @@ module _ (terms : Terms) where
       go false true ih = head_put z b i l
       go false false ih = ih
 
-  pub last_out : (b : List Item) (l : List Fault) → put_all put (waits terms b true) l ≡ insert_all (marked (wait b).line (last_marks (account_of b).any (wait b))) l
+  pub last_out : (b : List Item) (l : List Fault) → put_all put (waits terms b true) l ≡ insert_all (marked (wait b).line (last_marks (account_of b).course.any (wait b))) l
   unfolding last_marks summary insert_all
   last_out b l = waits_is b true l ∙ go (fresh b) (wait b)
     where
@@ -180,9 +180,9 @@ own_of (early ups x ls) = 0
 own_of (at_head b h ls) = line_marks h
 own_of (at_field b h hl ups x ls) = line_marks h
 
-abbrev pub read_now : Pieces → Read
-read_now start = Unreadable
-read_now (early ups x ls) = Unreadable
+abbrev pub read_now : Pieces → Option Heading
+read_now start = None
+read_now (early ups x ls) = None
 read_now (at_head b h ls) = head_of (closed h ls)
 read_now (at_field b h hl ups x ls) = head_of (closed h hl)
 

@@ -14,9 +14,9 @@ use account::Outline;
 use blocks::Course;
 use blocks::groups::group_marks;
 use blocks::marks::{MARK_6, MARK_16, flag};
-use headings::Read;
+use headings::Heading;
 use own_rules::Basis;
-use rules::{FirstIn, FirstKc, Sums};
+use rules::{First, Payment, Range, Sums};
 
 // The first heading of the open block with its marks, which waits for rule 16.
 #[derive(Clone, Copy)]
@@ -41,25 +41,21 @@ pub fn no_wait() -> Wait
     Wait { line: 0, marks: 0 }
 }
 
-fn is_unreadable(read: Read) -> bool
+fn is_unreadable(read: Option<Heading>) -> bool
     ensures { result ≡ is_unreadable read }
 {
-    match read {
-        Read::Reads(_) => false,
-        Read::Unreadable => true,
-    }
+    read.is_none()
 }
 
 // 30 to 39 at a 51 that reads.
 pub fn group_marks_of(counts: [u64; 10], sums: [u64; 10], stated: Sums) -> u64
     ensures { (result ≡ group_marks counts sums stated.groups) × (result ≤ 2 ^ 40 - 2 ^ 30) }
 {
-    let groups = stated.groups;
-    group_marks(counts, sums, groups)
+    group_marks(counts, sums, stated.groups)
 }
 
 // All marks of the open heading but 16: those of its line, those that its course gives, and 30 to 39.
-fn head_marks(own: u64, read: Read, marks: u64, groups: u64) -> u64
+fn head_marks(own: u64, read: Option<Heading>, marks: u64, groups: u64) -> u64
     requires { (marks < 2 ^ 23) × (own ≤ 18) × (groups ≤ 2 ^ 40 - 2 ^ 30) }
     ensures { (result ≡ own + mark 6 (is_unreadable read) + marks + groups) × (result < 2 ^ 41) }
 {
@@ -73,9 +69,9 @@ pub fn close_item(
     w: Wait,
     no: u32,
     own: u64,
-    read: Read,
-    kc: FirstKc,
-    span: FirstIn,
+    read: Option<Heading>,
+    kc: First<Payment>,
+    span: First<Range>,
     groups: u64,
 ) -> Shut
     requires { (w.marks < 2 ^ 41) × (own ≤ 18) × (groups ≤ 2 ^ 40 - 2 ^ 30) }
@@ -99,10 +95,9 @@ pub fn close_item(
     let course = a.course;
     let m = head_marks(own, read, a.marks, groups);
     if account::closes_block(read) {
-        let wait = no_wait();
         return Shut {
             course,
-            wait,
+            wait: no_wait(),
             told: flag(any, w.marks),
             marks: m,
         };

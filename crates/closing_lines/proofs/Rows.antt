@@ -5,7 +5,7 @@ use Prim.Native.Nat.{ℕ, suc, ◌+◌, ◌≤◌, ◌<◌}
 use native.Mathlib.Numerals.{add-one}
 use native.Mathlib.Omega.{arith}
 use lib.Dec.{eqb}
-use borrow.Author.Tests.{eq-eqb, ne_eqb}
+use borrow.Author.Tests.{eq-eqb}
 use lib.ListN.{length, drop, get_or, drop_of_length-le}
 use lib.Seq.{drop-cons}
 use Rattle.laws.proofs.Truth.{by_test}
@@ -52,12 +52,9 @@ with_rows d n t ts = by_test (eqb n 0)
     (λ q. rw q)
     (λ q. rw q (rows_cons (sum_text d n t) ts))
 
--- an empty group is not written, any other is
+-- an empty group is not written
 pub group_empty : (d n t : ℕ) → n ≡ 0 → rows_text (with_sum d n t []) ≡ []
 group_empty d n t e = rw (eq-eqb n 0 e) no_rows
-
-pub group_some : (d n t : ℕ) → (n ≡ 0 → ⊥) → rows_text (with_sum d n t []) ≡ rows_text (sum_text d n t ∷ [])
-group_some d n t e = rw (ne_eqb n 0 e)
 
 -- what the groups from d on are written as
 abbrev pub left_of : ℕ → List ℕ → List ℕ → List ℕ

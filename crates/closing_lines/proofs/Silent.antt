@@ -14,7 +14,6 @@ use Rattle.laws.proofs.Any.{weaker}
 use Rattle.laws.proofs.Finite.{agree}
 use Rattle.text.specs.Characters.{is_inadmissible, is_odd}
 use Rattle.headings.specs.declared.Heading.{Heading}
-use Rattle.headings.specs.declared.Read.{Read}
 use Rattle.figures.specs.declared.parts.Halves.{Halves}
 use Rattle.fields.specs.declared.readings.Reading.TheVariants.{Span}
 use Rattle.fields.specs.Kinds.{named, place, kind_of}
@@ -34,21 +33,22 @@ use Rattle.closing_lines.specs.Closing.{in_text, sum_text, sum_texts_from, closi
 use Rattle.closing_lines.proofs.ReadBack.{in_kind, in_class_lem, in_reads, in_says, group_field, group_class, group_digit, sum_kind, sum_reads, sum_says}
 use Rattle.closing_lines.proofs.Plain.{in_plain, sum_plain, not_inadmissible}
 use Rattle.closing_lines.proofs.AsFields.{bare_field, AsFields, nothing, next, one_ident, says_bare, said_of}
+use Rattle.std.specs.Prelude.{Option}
 
 -- no rule is broken at any of some fields, by those above them with the nearest first
-abbrev pub Silent : Terms → Read → List (Owned FieldRow) → List (Owned FieldRow) → Type 0
+abbrev pub Silent : Terms → Option Heading → List (Owned FieldRow) → List (Owned FieldRow) → Type 0
 Silent terms h above [] = Unit {0}
 Silent terms h above (g ∷ gs) = (broken_of (field_tests terms h above g) ≡ []) × Silent terms h (g ∷ above) gs
 
 -- those below, and then more
-pub silent_more : (terms : Terms) (h : Read) (above gs hs : List (Owned FieldRow)) → Silent terms h above gs → Silent terms h (reverse_aux gs above) hs
+pub silent_more : (terms : Terms) (h : Option Heading) (above gs hs : List (Owned FieldRow)) → Silent terms h above gs → Silent terms h (reverse_aux gs above) hs
     → Silent terms h above (gs ++ hs)
 silent_more terms h above [] hs s r = r
 silent_more terms h above (g ∷ gs) hs s r = (s.0, silent_more terms h (g ∷ above) gs hs s.1 r)
 
 -- ---- one field
 
-module _ (terms : Terms) (h : Read) (above : List (Owned FieldRow)) (n i : ℕ) (t : List ℕ) where
+module _ (terms : Terms) (h : Option Heading) (above : List (Owned FieldRow)) (n i : ℕ) (t : List ℕ) where
   field_silent : any_of is_odd t ≡ false → stands i above ≡ false → reads (class_of i) t [] ≡ true → eqb i (named "KC") ≡ false
       → ((wrong : Halves → Bool) → of_party wrong (says (bare_field n i t)) ≡ false)
       → broken_of (field_tests terms h above (bare_field n i t)) ≡ []
@@ -75,7 +75,7 @@ in_no_kc = refl
 
 -- ---- all of them
 
-module _ (terms : Terms) (h : Read) where
+module _ (terms : Terms) (h : Option Heading) where
   sum_silent : (above : List (Owned FieldRow)) (d n t m : ℕ) → d < 10 → n < 10000000 → t < 100000000000000000 → stands (group_field d) above ≡ false
       → broken_of (field_tests terms h above (bare_field m (group_field d) (sum_text d n t))) ≡ []
   sum_silent above d n t m k u v s =

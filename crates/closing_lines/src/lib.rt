@@ -12,6 +12,7 @@ ghost use Rattle.closing_lines.specs.Closing.{in_text, sum_text, with_sum, sum_t
 use text::decimals::put_decimal;
 use text::strings::put;
 
+#[tactic(auto, using(text::proofs::Bare::room_for))]
 fn put_in(out: &mut [u8], at: usize, first: u64, last: u64) -> usize
     requires { at + 46 ≤ length out.old }
     ensures text { Wrote out.old at (rows_text (in_text first last ∷ [])) out.new result }
@@ -24,6 +25,7 @@ fn put_in(out: &mut [u8], at: usize, first: u64, last: u64) -> usize
     put(out, next, b"\r\n")
 }
 
+#[tactic(auto, using(text::proofs::Bare::room_for))]
 fn put_sum(out: &mut [u8], at: usize, group: u64, count: u64, sum: u64) -> usize
     requires { at + 65 ≤ length out.old }
     ensures text { Wrote out.old at (rows_text (sum_text group count sum ∷ [])) out.new result }
@@ -50,16 +52,14 @@ fn put_group(out: &mut [u8], at: usize, group: u64, count: u64, sum: u64) -> usi
     put_sum(out, at, group, count, sum)
 }
 
-fn put_groups(out: &mut [u8], at: usize, counts: &[u64], sums: &[u64]) -> usize
-    requires { (length counts.now ≡ 10) × (length sums.now ≡ 10) × (at + 650 ≤ length out.old) }
+fn put_groups(out: &mut [u8], at: usize, counts: &[u64; 10], sums: &[u64; 10]) -> usize
+    requires { at + 650 ≤ length out.old }
     ensures text { Wrote out.old at (rows_text (sum_texts_from 0 counts.now sums.now)) out.new result }
     ensures end { result ≤ at + 650 }
 {
     let mut next = at;
-    let mut d = 0;
-    while d < 10 {
-        next = put_group(out, next, d as u64, counts[d], sums[d]);
-        d += 1;
+    for group in 0..10 {
+        next = put_group(out, next, group as u64, counts[group], sums[group]);
     }
     next
 }

@@ -1,41 +1,38 @@
--- A loop that looks for a byte: at place i, the place in what is left, counted from i, is the place in all of it, counted from its start.
-use mathlib.Core.Path.{◌≡◌, refl, sym, ◌∙◌}
-use mathlib.Core.List.{List}
-use Prim.Native.Nat.{ℕ, ◌+◌, ◌≤◌, ◌<◌}
-use native.Mathlib.Numerals.{add-one}
-use native.Mathlib.Omega.{arith}
-use lib.ListN.{length, get_or, drop, drop_of_length-le}
-use lib.Seq.{drop-cons}
-use borrow.Author.Tests.{eq-eqb, ne_eqb}
+-- The first place of a byte, as `position` answers it: a number, or none where the byte does not stand.
+use Rattle.std.proofs.Common.{◌≡◌, ℕ, ◌+◌, ◌-◌, ◌≤◌, cond, eqb, List, [], ◌∷◌, length, take, drop, sym, refl, ap, ◌∙◌, arith, take_all, length-drop, eq-eqb, ne_eqb, eqb-true}
+use lib.Dec.{ltb}
+use borrow.Author.Tests.{eqb-false, ltb-false}
+use Rattle.std.specs.Prelude.{Option, Some, None}
+use Rattle.std.specs.Option.{unwrap_or}
+use Rattle.std.specs.List.{position_or_len}
+use Rattle.laws.proofs.Truth.{by_test}
 use Rattle.fields.specs.Kinds.{place}
+use Rattle.fields.proofs.Places.{place_most}
 
-pub record Going (s : List ℕ) (at x i : ℕ) : Type 0 where
-  pub past : at ≤ i
-  pub inside : i ≤ length s
-  pub same : at + place x (drop at s) ≡ i + place x (drop i s)
+placed : (x : ℕ) (s : List ℕ) → position_or_len (λ b. eqb b x) s ≡ place x s
+unfolding place
+placed x [] = refl
+placed x (y ∷ s) = by_test (eqb y x)
+    (λ e. rw (e, eq-eqb x y (sym (eqb-true y x e))))
+    (λ e. rw (e, ne_eqb x y (λ q. eqb-false y x e (sym q)), placed x s) (omega arith))
 
--- what is answered
-abbrev pub Answer : List ℕ → ℕ → ℕ → ℕ → Type 0
-Answer s at x i = (i ≡ at + place x (drop at s)) × (at ≤ i) × (i ≤ length s)
+-- .. with the text's length for none
+or_length : (p n : ℕ) → p ≤ n → unwrap_or (cond (ltb p n) (Some p) None) n ≡ p
+or_length p n h = by_test (ltb p n)
+    (λ e. rw e)
+    (λ e. rw e (omega (arith, ltb-false p n e)))
 
-pub begun : (s : List ℕ) (at x : ℕ) → at ≤ length s → Going s at x at
-begun s at x h = record { past = omega arith; inside = h; same = refl }
+-- what is left of a text from a place on, as the code lends it
+module _ (s : List ℕ) (at x : ℕ) (h : at ≤ length s) where
+  abbrev left : List ℕ
+  left = take (length s - at) (drop at s)
 
-module _ (s : List ℕ) (at x i : ℕ) (g : Going s at x i) where
-  answered : place x (drop i s) ≡ 0 → Answer s at x i
-  answered e = (omega (arith, g.same), g.past, g.inside)
+  left_is : left ≡ drop at s
+  left_is = take_all (length s - at) (drop at s) (rw (length-drop at s) (omega arith))
 
-  pub ended : length s ≤ i → Answer s at x i
-  unfolding place
-  ended h = answered (rw (drop_of_length-le s h))
-
-  module _ (h : i < length s) where
-    pub hit : get_or s i 0 ≡ x → Answer s at x i
-    unfolding place
-    hit e = answered (rw (drop-cons s i 0 h, eq-eqb x (get_or s i 0) (sym e)))
-
-    pub goes_on : (get_or s i 0 ≡ x → ⊥) → Going s at x (i + 1)
-    unfolding place
-    goes_on n =
-        let e : i + place x (drop i s) ≡ i + 1 + place x (drop (i + 1) s) = rw (add-one i, drop-cons s i 0 h, ne_eqb x (get_or s i 0) (λ q. n (sym q))) (omega arith) in
-        record { past = omega (arith, g.past); inside = omega arith; same = g.same ∙ e }
+  pub answered : {r : Option ℕ} {n : ℕ} → r ≡ cond (ltb (position_or_len (λ b. eqb b x) left) (length left)) (Some (position_or_len (λ b. eqb b x) left)) None
+      → n ≡ unwrap_or r (length left) → (at + n ≡ at + place x (drop at s)) × (at ≤ at + n) × (at + n ≤ length s)
+  answered p q =
+      let m : place x (drop at s) ≤ length (drop at s) = place_most x (drop at s) in
+      let e = q ∙ rw (p, left_is, placed x (drop at s)) (or_length (place x (drop at s)) (length (drop at s)) m) in
+      (ap (λ (k : ℕ). at + k) e, omega arith, omega (arith, e, m, length-drop at s))

@@ -43,12 +43,6 @@ pub fn find(s: &[u8], at: usize, x: u8) -> usize
     requires { at ≤ length s.now }
     ensures { (result ≡ at + place x (drop at s.now)) × (at ≤ result) × (result ≤ length s.now) }
 {
-    let mut i = at;
-    while i < s.len() {
-        if s[i] == x {
-            return i;
-        }
-        i += 1;
-    }
-    i
+    let left = &s[at..];
+    at + left.iter().position(|b| *b == x).unwrap_or(left.len())
 }

@@ -1,20 +1,21 @@
 -- Laws of the rows of month lengths and of the running day number.
-use mathlib.Core.Path.{◌≡◌, refl, ap, sym, ◌∙◌}
-use mathlib.Core.Bool.{Bool, true, false, cond, not, ◌&&◌, ◌||◌, and-true}
+use mathlib.Core.Path.{◌≡◌, refl, ap, subst, sym, ◌∙◌}
+use mathlib.Core.Bool.{Bool, true, false, not, ◌&&◌, ◌||◌, and-true}
 use mathlib.Core.List.{List, [], ◌∷◌}
-use Prim.Native.Nat.{ℕ, zero, suc, ◌+◌, ◌-◌, ◌*◌, ◌/◌, ◌%◌, ◌≤◌, ◌<◌, zero-le}
+use Prim.Native.Nat.{ℕ, zero, suc, ◌+◌, ◌-◌, ◌*◌, ◌/◌, ◌%◌, ◌≤◌, ◌<◌, min, zero-le}
+use native.Mathlib.Nat.{min-eq_left, min-eq_right, le_of_lt}
 use native.Mathlib.Omega.{arith}
 use lib.ListN.{get_or, take, get_or-eq_default}
 use lib.Seq.{take_all}
-use lib.Dec.{leb, ltb, eqb, leb→le, eqb→eq}
-use mathlib.Core.Logic.{◌⊎◌, ⊎_elim}
+use lib.Dec.{leb, eqb, leb→le, eqb→eq}
+use mathlib.Core.Logic.{◌⊎◌, inl, inr, ⊎_elim}
+use Rattle.std.specs.Int.{from_bool}
 use borrow.Author.Tests.{le-leb, lt-leb, leb-true, leb-false, eqb-true, eqb-false}
 use Rattle.laws.proofs.Truth.{le_or_lt}
 use Rattle.laws.proofs.Entries.{at}
 use Rattle.laws.proofs.Finite.{at as below_at}
-use Rattle.laws.proofs.Every.{one_fails}
 use Rattle.laws.specs.Lists.{sum}
-use Rattle.days.specs.Days.{is_leap, row, days_before, year_of, month_of, date_of, is_real, real_tests, month_length}
+use Rattle.days.specs.Days.{is_leap, row, days_before, year_of, month_of, date_of, is_real, month_length}
 
 row_past : (b : Bool) (k : ℕ) → 12 ≤ k → get_or (row b) k 0 ≡ 0
 unfolding row
@@ -33,19 +34,38 @@ sum_more [] (suc k) = refl
 sum_more (x ∷ xs) zero = omega arith
 sum_more (x ∷ xs) (suc k) = omega (arith, sum_more xs k)
 
--- the days before a month, as the code reckons them from its number: at each number up to 13, which it takes for all later ones
-abbrev reckoned : Bool → ℕ → ℕ
-reckoned b m = cond (ltb m 3) (cond (eqb m 2) 31 0) (cond b ((153 * m - 162) / 5 + 1) ((153 * m - 162) / 5))
-
-pub starts : (b : Bool) (m : ℕ) → m < 14 → reckoned b m ≡ sum (take (m - 1) (row b))
+pub january : (b : Bool) → 31 ≡ sum (take 1 (row b))
 unfolding row
-starts true m h = eqb→eq _ _ (below_at (λ k. eqb (reckoned true k) (sum (take (k - 1) (row true)))) 14 tt m h)
-starts false m h = eqb→eq _ _ (below_at (λ k. eqb (reckoned false k) (sum (take (k - 1) (row false)))) 14 tt m h)
+january true = refl
+january false = refl
 
-pub all_before : (b : Bool) (m : ℕ) → 13 < m → sum (take (13 - 1) (row b)) ≡ sum (take (m - 1) (row b))
+-- the days before a month, by its number: from March on, five months have 153 days
+abbrev reckoned : Bool → ℕ → ℕ
+reckoned b m = (153 * m - 162) / 5 + from_bool b
+
+by_fives : (b : Bool) (k : ℕ) → k < 11 → reckoned b (3 + k) ≡ sum (take (3 + k - 1) (row b))
+unfolding row
+by_fives true k h = eqb→eq _ _ (below_at (λ j. eqb (reckoned true (3 + j)) (sum (take (3 + j - 1) (row true)))) 11 tt k h)
+by_fives false k h = eqb→eq _ _ (below_at (λ j. eqb (reckoned false (3 + j)) (sum (take (3 + j - 1) (row false)))) 11 tt k h)
+
+all_before : (b : Bool) (m : ℕ) → 13 ≤ m → sum (take (13 - 1) (row b)) ≡ sum (take (m - 1) (row b))
 unfolding row
 all_before true m h = ap sum (sym (take_all (m - 1) (row true) (omega arith)))
 all_before false m h = ap sum (sym (take_all (m - 1) (row false) (omega arith)))
+
+-- .. and past the twelfth, all of them
+pub from_march : (b : Bool) (m : ℕ) → 3 ≤ m → reckoned b (min m 13) ≡ sum (take (m - 1) (row b))
+from_march b m l = by (le_or_lt m 13)
+  where
+    by : (m ≤ 13) ⊎ (13 < m) → reckoned b (min m 13) ≡ sum (take (m - 1) (row b))
+    by (inl h) =
+        let e : 3 + (m - 3) ≡ m = omega arith in
+        rw (min-eq_left h) (subst (λ (j : ℕ). reckoned b j ≡ sum (take (j - 1) (row b))) e (by_fives b (m - 3) (omega arith)))
+    by (inr h) = rw (min-eq_right (le_of_lt h)) (by_fives b 10 (omega arith) ∙ all_before b m (omega arith))
+
+pub few : (b : Bool) (m : ℕ) → reckoned b (min m 13) ≤ 366
+few true m = omega arith
+few false m = omega arith
 
 after_more : (s d l : ℕ) → leb (s + d) (s + l) ≡ leb d l
 after_more s d l = go (leb d l) refl
@@ -132,11 +152,7 @@ pub years : (y : ℕ) → days_before y ≡ closed y
 years zero = refl
 years (suc y) = ap (λ (n : ℕ). n + sum (row (is_leap y))) (years y) ∙ year y
 
--- a day is not real where one of its tests fails; and where the others hold, the last decides
-pub not_real : (n k : ℕ) → get_or (real_tests n) k true ≡ false → false ≡ is_real n
-unfolding is_real
-not_real n k e = one_fails (real_tests n) k e
-
+-- where the other tests of a real day hold, the last decides
 pub real_by_last : (n : ℕ) → 1 ≤ year_of n → year_of n ≤ 9999 → 1 ≤ month_of n → month_of n ≤ 12 → 1 ≤ date_of n → leb (date_of n) (month_length n) ≡ is_real n
 unfolding is_real
 real_by_last n a b c d e = rw (le-leb _ _ a, le-leb _ _ b, le-leb _ _ c, le-leb _ _ d, le-leb _ _ e, and-true)

@@ -9,49 +9,32 @@ ghost use Rattle.std.specs.Prelude.{◌≡◌, suc, ◌+◌, ◌-◌, ◌≤◌,
 ghost use Rattle.laws.specs.Lists.{sum};
 ghost use Rattle.days.specs.Days.{is_leap, row, is_real, days_before, day_number, day_of};
 
+#[tactic(auto, unfolding(crate::specs::Days::is_leap))]
 fn is_leap(year: u32) -> bool
     ensures { result ≡ is_leap year }
 {
-    ((year % 4 == 0) & !(year % 100 == 0)) | (year % 400 == 0)
+    (year % 4 == 0 && year % 100 != 0) || year % 400 == 0
 }
 
 // The days of a year before one of its months; past the twelfth, all of them. From March on, five months have 153 days.
 fn days_before(leap: bool, month: u32) -> u32
     ensures { (result ≡ sum (take (month - 1) (row leap))) × (result ≤ 366) }
 {
-    if month < 3 {
-        if month == 2 {
-            return 31;
-        }
-        return 0;
+    match month {
+        0 | 1 => 0,
+        2 => 31,
+        _ => (153 * month.min(13) - 162) / 5 + u32::from(leap),
     }
-    let m = if 13 < month { 13 } else { month };
-    let n = (153 * m - 162) / 5;
-    if leap {
-        return n + 1;
-    }
-    n
 }
 
+#[tactic(auto, unfolding(crate::specs::Days::is_real))]
 pub fn is_real(day: u32) -> bool
     ensures { result ≡ is_real day }
 {
     let year = day / 10000;
     let month = day / 100 % 100;
     let date = day % 100;
-    if year < 1 {
-        return false;
-    }
-    if 9999 < year {
-        return false;
-    }
-    if month < 1 {
-        return false;
-    }
-    if 12 < month {
-        return false;
-    }
-    if date < 1 {
+    if !(1..=9999).contains(&year) || !(1..=12).contains(&month) || date < 1 {
         return false;
     }
     let leap = is_leap(year);
@@ -67,6 +50,7 @@ fn years_before(year: u32) -> u32
 }
 
 // Real days are as many days apart as their numbers are.
+#[tactic(auto, unfolding(crate::specs::Days::day_number))]
 pub fn day_number(day: u32) -> u32
     ensures { result ≡ day_number day }
 {
@@ -83,9 +67,10 @@ fn year_of(number: u32) -> u32
 {
     let guess = 400 * (number + 1) / 146097;
     if number <= years_before(guess) {
-        return guess - 1;
+        guess - 1
+    } else {
+        guess
     }
-    guess
 }
 
 // The month of a day that is counted from the start of its year. From March on, five months have 153 days.

@@ -10,8 +10,8 @@ use borrow.Author.Tests.{eq-eqb, ne_eqb}
 use Rattle.laws.proofs.Put.{put_is}
 use Rattle.laws.proofs.Refusals.{chosen}
 use Rattle.text.specs.Strings.{Wrote}
-use Rattle.delivery.specs.declared.Delivered.{Delivered}
-use Rattle.delivery.specs.declared.Delivered.TheVariants.{Written}
+use Rattle.std.specs.Prelude.{Result, Ok}
+use Rattle.delivery.specs.declared.DeliverError.{DeliverError}
 use Rattle.delivery.specs.Delivery.{delivered_number, delivered_or}
 use Rattle.delivery.specs.Model.{Answers}
 
@@ -20,7 +20,7 @@ target_by b text before = cond b (text ++ drop (length text) before) before
 
 module _ {refusal : ℕ} {text before : List ℕ} where
   -- a refusal leaves the target as it was
-  pub refused : (r : Delivered) → delivered_number r ≡ refusal → 1 ≤ delivered_number r → ((old : ℕ) → delivered_or r old ≡ old) → Answers refusal text before r before
+  pub refused : (r : Result ℕ DeliverError) → delivered_number r ≡ refusal → 1 ≤ delivered_number r → ((old : ℕ) → delivered_or r old ≡ old) → Answers refusal text before r before
   refused r e h w =
       let z = ne_eqb refusal 0 (λ q. omega (arith, e, h, q)) in
       record {
@@ -29,7 +29,7 @@ module _ {refusal : ℕ} {text before : List ℕ} where
         target = sym (ap (λ (b : Bool). target_by b text before) z);
       }
 
-  pub done : refusal ≡ 0 → {after : List ℕ} {n : ℕ} → Wrote before 0 text after n → Answers refusal text before (Written n) after
+  pub done : refusal ≡ 0 → {after : List ℕ} {n : ℕ} → Wrote before 0 text after n → Answers refusal text before (Ok n) after
   done e {after} {n} w =
       let z = eq-eqb refusal 0 e in
       record {
@@ -42,7 +42,7 @@ module _ {refusal : ℕ} {text before : List ℕ} where
       }
 
   -- the same answer by another list of refusals, of which the same comes first; where none does, of the same text
-  pub answers_as : {refusal' : ℕ} {text' : List ℕ} {r : Delivered} {after : List ℕ} → refusal ≡ refusal' → (refusal ≡ 0 → text ≡ text')
+  pub answers_as : {refusal' : ℕ} {text' : List ℕ} {r : Result ℕ DeliverError} {after : List ℕ} → refusal ≡ refusal' → (refusal ≡ 0 → text ≡ text')
       → Answers refusal text before r after → Answers refusal' text' before r after
   answers_as {refusal'} {text'} {r} {after} e f A = record {
     number = A.number ∙ e;

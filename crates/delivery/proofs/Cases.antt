@@ -2,16 +2,19 @@
 use Prim.Native.Nat.{ℕ, ◌+◌, ◌≤◌, min}
 use native.Mathlib.Omega.{arith}
 use mathlib.Core.Path.{◌≡◌, refl, sym, ap, subst}
-use mathlib.Core.Bool.{Bool, true, false}
-use mathlib.Core.List.{List, ◌++◌}
+use mathlib.Core.Bool.{Bool, true, false, ◌||◌}
+use mathlib.Core.List.{List, [], ◌∷◌, ◌++◌}
 use lib.Dec.{ltb}
 use lib.ListN.{length, length-append}
 use borrow.Author.Tests.{le-ltb}
+use Rattle.std.specs.List.{list_any}
+use Rattle.laws.specs.Lists.{any_of}
 use Rattle.laws.specs.Refusals.{first}
 use Rattle.text.specs.Strings.{Wrote}
 use Rattle.text.proofs.Wrote.{then}
-use Rattle.delivery.specs.declared.Delivered.{Delivered}
-use Rattle.delivery.specs.declared.Delivered.TheVariants.{Written, TooLarge}
+use Rattle.std.specs.Prelude.{Result, Ok, Err}
+use Rattle.delivery.specs.declared.DeliverError.{DeliverError}
+use Rattle.delivery.specs.declared.DeliverError.TheVariants.{TooLarge}
 use Rattle.delivery.specs.Model.{Answers, lines_refusals}
 use Rattle.delivery.proofs.Answered.{refused, done}
 
@@ -31,17 +34,23 @@ module _ (front rest before : List ℕ) {t : ℕ} (z : min 4000000001 (length fr
     e = le-ltb 4000000000 (length text) (omega (arith, z, long, h))
 
     module _ (l : t + length rest ≤ length before) where
-      pub lines_done : {mid after : List ℕ} {next end : ℕ} → Wrote before 0 front mid next → Wrote mid next rest after end → Answers refusal text before (Written end) after
+      pub lines_done : {mid after : List ℕ} {next end : ℕ} → Wrote before 0 front mid next → Wrote mid next rest after end → Answers refusal text before (Ok end) after
       lines_done v w =
           let f : ltb (length before) (length text) ≡ false = le-ltb (length before) (length text) (omega (arith, z, long, h, l)) in done (rw (e, f)) (then v w)
 
+-- std's word for it, and that of the rules
+pub same_any : (f : ℕ → Bool) (xs : List ℕ) → list_any f xs ≡ any_of f xs
+unfolding any_of
+same_any f [] = refl
+same_any f (x ∷ xs) = ap (λ (b : Bool). f x || b) (same_any f xs)
+
 -- a sum that is too large, whatever the text
-pub sums_large : (large : Bool) (text before : List ℕ) → large ≡ true → Answers (first (lines_refusals large text (length before))) text before TooLarge before
+pub sums_large : (large : Bool) (text before : List ℕ) → large ≡ true → Answers (first (lines_refusals large text (length before))) text before (Err TooLarge) before
 sums_large large text before e =
-    refused TooLarge (sym (ap (λ (b : Bool). first (lines_refusals b text (length before))) e)) (omega arith) (λ old. refl)
+    refused (Err TooLarge) (sym (ap (λ (b : Bool). first (lines_refusals b text (length before))) e)) (omega arith) (λ old. refl)
 
 -- what a first text says of the same one in other words
-pub same_lines : (large : Bool) {text text' before : List ℕ} {r : Delivered} {after : List ℕ} → large ≡ false → text ≡ text'
+pub same_lines : (large : Bool) {text text' before : List ℕ} {r : Result ℕ DeliverError} {after : List ℕ} → large ≡ false → text ≡ text'
     → Answers (first (lines_refusals false text (length before))) text before r after → Answers (first (lines_refusals large text' (length before))) text' before r after
 same_lines large {text} {text'} {before} {r} {after} e p A =
     subst (λ (b : Bool). Answers (first (lines_refusals b text' (length before))) text' before r after) (sym e)

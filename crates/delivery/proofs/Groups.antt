@@ -11,8 +11,9 @@ use Rattle.laws.proofs.Truth.{by_test}
 use Rattle.laws.specs.Lists.{any_of, sum}
 use Rattle.laws.proofs.Any.{or_left, or_right}
 use Rattle.headings.specs.ItemTypes.{group_of}
-use Rattle.rules.specs.declared.FirstKc.{FirstKc}
-use Rattle.rules.specs.declared.FirstKc.TheVariants.{NoKc, BrokenKc, Pays}
+use Rattle.rules.specs.declared.First.{First}
+use Rattle.rules.specs.declared.First.TheVariants.{Missing, Unread, Says}
+use Rattle.rules.specs.declared.Payment.{Payment}
 use Rattle.rules.specs.Tree.{Item}
 use Rattle.rules.specs.Blocks.{with_amount}
 use Rattle.blocks.specs.Model.{count_cap, sum_cap}
@@ -23,11 +24,11 @@ use Rattle.surveying.specs.Items.{out_kind, amounts_out, counts_out, sums_out}
 use Rattle.delivery.specs.Delivery.{is_large_sum}
 
 -- ---- counts
-with_few : (kc : FirstKc) (b : Bool) (ns : List ℕ) → length (with_amount kc b ns) ≤ suc (length ns)
-with_few NoKc b ns = omega arith
-with_few BrokenKc b ns = omega arith
-with_few (Pays a d) true ns = omega arith
-with_few (Pays a d) false ns = omega arith
+with_few : (kc : First Payment) (b : Bool) (ns : List ℕ) → length (with_amount kc b ns) ≤ suc (length ns)
+with_few Missing b ns = omega arith
+with_few Unread b ns = omega arith
+with_few (Says p) true ns = omega arith
+with_few (Says p) false ns = omega arith
 
 amounts_few : (q : Orders) (d k : ℕ) (is : List Item) → length (amounts_out q d k is) ≤ length is
 unfolding amounts_out

@@ -25,8 +25,9 @@ use Rattle.item_reader.proofs.Starts.{kind_told, heading_told, heading_not}
 use Rattle.outgoing_lines.specs.Outgoing.{Orders}
 use Rattle.surveying.specs.Items.{items_of, first_to, any_unsent, mixed}
 use Rattle.surveying.proofs.Leading.{unheaded_barred}
-use Rattle.delivery.specs.declared.Delivered.{Delivered}
-use Rattle.delivery.specs.declared.Delivered.TheVariants.{BadCode, BadDay, NotItems, NotSent}
+use Rattle.std.specs.Prelude.{Result, Err}
+use Rattle.delivery.specs.declared.DeliverError.{DeliverError}
+use Rattle.delivery.specs.declared.DeliverError.TheVariants.{BadCode, BadDay, NotItems, NotSent}
 use Rattle.delivery.specs.Delivery.{output_file, not_items, not_sent, too_large, deliver_refusals, Delivers}
 use Rattle.delivery.specs.Model.{Answers, items_refusals}
 use Rattle.delivery.proofs.Answered.{refused, answers_as}
@@ -74,23 +75,23 @@ module _ (s : List ℕ) (q : Orders) (certis day : ℕ) (before : List ℕ) wher
       (33 if too_large s q certis day) ∷
       (34 if ltb (length before) (length file)) ∷ []
 
-  delivers : {r : Delivered} {after : List ℕ} → Answers refusal file before r after → Delivers s q certis day before r after
+  delivers : {r : Result ℕ DeliverError} {after : List ℕ} → Answers refusal file before r after → Delivers s q certis day before r after
   delivers A = record { number = A.number; written = A.written; target = A.target }
 
   in_order : refusal ≡ by (not (is_code certis)) (not (is_accounting_day day)) (not_items q items) rest
   unfolding deliver_refusals
   in_order = refl
 
-  pub bad_code : is_code certis ≡ false → Delivers s q certis day before BadCode before
+  pub bad_code : is_code certis ≡ false → Delivers s q certis day before (Err BadCode) before
   bad_code e =
-      delivers (refused BadCode (sym (in_order ∙ ap (λ (t : Bool). by (not t) (not (is_accounting_day day)) (not_items q items) rest) e)) (omega arith) (λ old. refl))
+      delivers (refused (Err BadCode) (sym (in_order ∙ ap (λ (t : Bool). by (not t) (not (is_accounting_day day)) (not_items q items) rest) e)) (omega arith) (λ old. refl))
 
   module _ (c : is_code certis ≡ true) where
     past_1 : refusal ≡ by false (not (is_accounting_day day)) (not_items q items) rest
     past_1 = in_order ∙ ap (λ (t : Bool). by (not t) (not (is_accounting_day day)) (not_items q items) rest) c
 
-    pub bad_day : is_accounting_day day ≡ false → Delivers s q certis day before BadDay before
-    bad_day e = delivers (refused BadDay (sym (past_1 ∙ ap (λ (t : Bool). by false (not t) (not_items q items) rest) e)) (omega arith) (λ old. refl))
+    pub bad_day : is_accounting_day day ≡ false → Delivers s q certis day before (Err BadDay) before
+    bad_day e = delivers (refused (Err BadDay) (sym (past_1 ∙ ap (λ (t : Bool). by false (not t) (not_items q items) rest) e)) (omega arith) (λ old. refl))
 
     module _ (d : is_accounting_day day ≡ true) (n : ℕ) (k : n ≡ min 30001 (length items)) where
       past_2 : refusal ≡ by false false (not_items q items) rest
@@ -102,8 +103,8 @@ module _ (s : List ℕ) (q : Orders) (certis day : ℕ) (before : List ℕ) wher
       test_is : test ≡ not_items q items
       test_is = same_test n (length items) (length q.outcomes) (length q.standings) k
 
-      pub no_items : test ≡ true → Delivers s q certis day before NotItems before
-      no_items e = delivers (refused NotItems (sym (past_2 ∙ ap (λ (t : Bool). by false false t rest) (sym test_is ∙ e))) (omega arith) (λ old. refl))
+      pub no_items : test ≡ true → Delivers s q certis day before (Err NotItems) before
+      no_items e = delivers (refused (Err NotItems) (sym (past_2 ∙ ap (λ (t : Bool). by false false t rest) (sym test_is ∙ e))) (omega arith) (λ old. refl))
 
       module _ (e : test ≡ false) where
         past_30 : refusal ≡ first rest
@@ -127,14 +128,14 @@ module _ (s : List ℕ) (q : Orders) (certis day : ℕ) (before : List ℕ) wher
         bytes : 0 < length s
         bytes = let c = counted in some_bytes s (omega (arith, c.0, c.1))
 
-        pub not_headed : begins s (ascii "HD:") ≡ false → Delivers s q certis day before NotSent before
+        pub not_headed : begins s (ascii "HD:") ≡ false → Delivers s q certis day before (Err NotSent) before
         not_headed z =
             let w : not_sent s q certis day ≡ true =
             ap (λ (t : Bool). t || any_unsent q (first_to q items) 0 items) (unheaded_barred s bytes (input certis day) (λ y. heading_not s z (sym (first_kind s bytes) ∙ y))) in
-            delivers (refused NotSent (sym (past_30 ∙ ap (λ (t : Bool). first ((31 if t) ∷ after_31)) w)) (omega arith) (λ old. refl))
+            delivers (refused (Err NotSent) (sym (past_30 ∙ ap (λ (t : Bool). first ((31 if t) ∷ after_31)) w)) (omega arith) (λ old. refl))
 
         pub headed : begins s (ascii "HD:") ≡ true → Headed s 0 × (0 < length s)
         headed z = (first_kind s bytes ∙ heading_told s z, bytes)
 
-        pub as_items : {r : Delivered} {after : List ℕ} → Answers (first rest) file before r after → Delivers s q certis day before r after
+        pub as_items : {r : Result ℕ DeliverError} {after : List ℕ} → Answers (first rest) file before r after → Delivers s q certis day before r after
         as_items A = delivers (answers_as (sym past_30) (λ _. refl) A)

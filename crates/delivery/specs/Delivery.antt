@@ -1,6 +1,7 @@
 -- Writing an output file (document 02, A7, amended by A12): its refusals in their order, the file, and what the target holds after. Below, s is
 -- the slice of items, 'cut as in document 01 but with no end mark'.
-use Rattle.std.specs.Prelude.{ℕ, ◌+◌, ◌-◌, ◌^◌, ◌≡◌, Bool, cond, not, ◌||◌, List, [], ◌∷◌, ◌++◌, leb, ltb, eqb, length, drop}
+use Rattle.std.specs.Prelude.{ℕ, ◌+◌, ◌-◌, ◌^◌, ◌≡◌, Bool, cond, not, ◌||◌, List, [], ◌∷◌, ◌++◌, leb, ltb, eqb, length, drop, Result, Ok, Err}
+use Rattle.std.specs.Result.{result_unwrap_or}
 use Rattle.laws.specs.Lists.{any_of}
 use Rattle.laws.specs.Refusals.{Refusal, ◌if◌, first}
 use Rattle.lines.specs.Lines.{lines}
@@ -15,8 +16,8 @@ use Rattle.vetting.specs.Vetting.{any_barred}
 use Rattle.outgoing_lines.specs.Outgoing.{Orders, texts_from}
 use Rattle.surveying.specs.Items.{items_of, first_to, any_unsent, mixed, counts_out, sums_out}
 use Rattle.closing_lines.specs.Closing.{closing_texts}
-use Rattle.delivery.specs.declared.Delivered.{Delivered}
-use Rattle.delivery.specs.declared.Delivered.TheVariants.{Written, BadCode, BadDay, NotItems, NotSent, Mixed, TooLarge, TooShort}
+use Rattle.delivery.specs.declared.DeliverError.{DeliverError}
+use Rattle.delivery.specs.declared.DeliverError.TheVariants.{BadCode, BadDay, NotItems, NotSent, Mixed, TooLarge, TooShort}
 
 -- ---- the file
 -- 'closed by a 51 with both numbers zero, the accounting day, a given CERTIS code first, the recipient second, zero third'
@@ -73,29 +74,25 @@ deliver_refusals s q certis day room =
     (34 if ltb room (length (output_file s q certis day))) ∷ []
 
 -- ---- the answer
-abbrev pub delivered_number : Delivered → ℕ
-delivered_number (Written n) = 0
-delivered_number BadCode = 1
-delivered_number BadDay = 2
-delivered_number NotItems = 30
-delivered_number NotSent = 31
-delivered_number Mixed = 32
-delivered_number TooLarge = 33
-delivered_number TooShort = 34
+abbrev pub undelivered_number : DeliverError → ℕ
+undelivered_number BadCode = 1
+undelivered_number BadDay = 2
+undelivered_number NotItems = 30
+undelivered_number NotSent = 31
+undelivered_number Mixed = 32
+undelivered_number TooLarge = 33
+undelivered_number TooShort = 34
+
+abbrev pub delivered_number : Result ℕ DeliverError → ℕ
+delivered_number (Ok n) = 0
+delivered_number (Err e) = undelivered_number e
 
 -- how many bytes were written, or another number where none was
-abbrev pub delivered_or : Delivered → ℕ → ℕ
-delivered_or (Written n) old = n
-delivered_or BadCode old = old
-delivered_or BadDay old = old
-delivered_or NotItems old = old
-delivered_or NotSent old = old
-delivered_or Mixed old = old
-delivered_or TooLarge old = old
-delivered_or TooShort old = old
+abbrev pub delivered_or : Result ℕ DeliverError → ℕ → ℕ
+delivered_or r old = result_unwrap_or r old
 
 -- what writing an output file answers, and the target after: the file, then what stood behind it; on a refusal what stood there
-pub record Delivers (s : List ℕ) (q : Orders) (certis day : ℕ) (before : List ℕ) (r : Delivered) (after : List ℕ) : Type 0 where
+pub record Delivers (s : List ℕ) (q : Orders) (certis day : ℕ) (before : List ℕ) (r : Result ℕ DeliverError) (after : List ℕ) : Type 0 where
   pub number : delivered_number r ≡ first (deliver_refusals s q certis day (length before))
   pub written : (old : ℕ) → delivered_or r old ≡ cond (eqb (first (deliver_refusals s q certis day (length before))) 0) (length (output_file s q certis day)) old
   pub target : after ≡ cond (eqb (first (deliver_refusals s q certis day (length before))) 0) (output_file s q certis day ++ drop (length (output_file s q certis day)) before) before

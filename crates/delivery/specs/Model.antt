@@ -1,5 +1,5 @@
 -- Model of the code, not part of the statement: what the parts of writing an output file promise each other.
-use Rattle.std.specs.Prelude.{ℕ, ◌+◌, ◌-◌, ◌≡◌, Bool, cond, ◌||◌, List, [], ◌∷◌, ◌++◌, ltb, eqb, length, drop}
+use Rattle.std.specs.Prelude.{ℕ, ◌+◌, ◌-◌, ◌≡◌, Bool, cond, ◌||◌, List, [], ◌∷◌, ◌++◌, ltb, eqb, length, drop, Result}
 use Rattle.laws.specs.Refusals.{Refusal, ◌if◌}
 use Rattle.lines.specs.Lines.{lines}
 use Rattle.lines.specs.Texts.{file_of}
@@ -8,11 +8,11 @@ use Rattle.rules.specs.Rows.{rows_from}
 use Rattle.outgoing_lines.specs.Outgoing.{Orders, texts_from}
 use Rattle.surveying.specs.Items.{items_of, mixed}
 use Rattle.closing_lines.specs.Closing.{closing_texts}
-use Rattle.delivery.specs.declared.Delivered.{Delivered}
+use Rattle.delivery.specs.declared.DeliverError.{DeliverError}
 use Rattle.delivery.specs.Delivery.{closing_heading, output_file, not_sent, too_large, delivered_number, delivered_or}
 
 -- an answer by the number of its refusal, and the target after, where a text is written if that is 0
-pub record Answers (refusal : ℕ) (text before : List ℕ) (r : Delivered) (after : List ℕ) : Type 0 where
+pub record Answers (refusal : ℕ) (text before : List ℕ) (r : Result ℕ DeliverError) (after : List ℕ) : Type 0 where
   pub number : delivered_number r ≡ refusal
   pub written : (old : ℕ) → delivered_or r old ≡ cond (eqb refusal 0) (length text) old
   pub target : after ≡ cond (eqb refusal 0) (text ++ drop (length text) before) before

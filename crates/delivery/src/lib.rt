@@ -5,6 +5,7 @@
 #![tactic(auto)]
 
 ghost use Rattle.std.specs.Prelude.{◌≡◌, false, not, ◌||◌, ◌++◌, ◌≤◌, ◌<◌, eqb, ltb, length};
+ghost use Rattle.std.specs.List.{list_any};
 ghost use Rattle.laws.specs.Lists.{any_of};
 ghost use Rattle.laws.specs.Refusals.{first};
 ghost use Rattle.text.specs.Strings.{Wrote};
@@ -14,7 +15,7 @@ ghost use Rattle.rules.specs.Rows.{rows_from};
 ghost use Rattle.item_reader.specs.Slips.{Headed};
 ghost use Rattle.outgoing_lines.specs.Outgoing.{any_underived, items_text};
 ghost use Rattle.surveying.specs.Items.{items_of};
-ghost use Rattle.delivery.specs.Delivery.{is_large_sum, output_file, delivered_number, delivered_or, Delivers};
+ghost use Rattle.delivery.specs.Delivery.{is_large_sum, output_file, undelivered_number, delivered_number, Delivers};
 ghost use Rattle.delivery.specs.Model.{Answers, closing_rows, lines_refusals, items_refusals, sent_file};
 
 use closing_lines::put_closing;
@@ -22,13 +23,12 @@ use heading_writer::put_heading;
 use headings::{Code, Heading, ItemNo};
 use listing::checking;
 use outgoing_lines::{at_or_zero, put_lines, size_of};
-use surveying::{Survey, count_items, lead_of, survey_all};
+use surveying::{count_items, lead_of, survey_all};
 use text::strings::{put, starts};
 
-// How many bytes were written, or why none.
-#[derive(Clone, Copy)]
-pub enum Delivered {
-    Written(u64),
+// Why no file is written.
+#[derive(Clone, Copy, Debug, PartialEq, Eq)]
+pub enum DeliverError {
     BadCode,
     BadDay,
     NotItems,
@@ -36,6 +36,23 @@ pub enum Delivered {
     Mixed,
     TooLarge,
     TooShort,
+}
+
+// Document 02's number of a refusal.
+impl From<DeliverError> for u32 {
+    ghost from_gives = { λ error number. number ≡ undelivered_number error };
+
+    fn from(error: DeliverError) -> u32 {
+        match error {
+            DeliverError::BadCode => 1,
+            DeliverError::BadDay => 2,
+            DeliverError::NotItems => 30,
+            DeliverError::NotSent => 31,
+            DeliverError::Mixed => 32,
+            DeliverError::TooLarge => 33,
+            DeliverError::TooShort => 34,
+        }
+    }
 }
 
 // A closing item and the end mark, from the start on.
@@ -55,7 +72,7 @@ fn put_end(
 {
     let h = Heading {
         kind: 51,
-        day: day,
+        day,
         first: Code(certis),
         number: ItemNo(0),
         second: Code(to),
@@ -70,16 +87,9 @@ fn put_end(
 
 // Whether a sum has more digits than a closing item takes.
 fn any_large(sums: &[u64]) -> bool
-    ensures { result ≡ any_of is_large_sum sums.now }
+    ensures { result ≡ list_any is_large_sum sums.now }
 {
-    let mut d = 0;
-    while d < sums.len() {
-        if 100000000000000000 <= sums[d] {
-            return true;
-        }
-        d += 1;
-    }
-    false
+    sums.iter().any(|sum| 100000000000000000 <= *sum)
 }
 
 // The items' lines, and what follows them.
@@ -90,21 +100,21 @@ fn put_file(
     start: u32,
     rest: &[u8],
     target: &mut [u8],
-) -> Delivered
+) -> Result<u64, DeliverError>
     requires value { any_underived (record { outcomes = outcomes.now; standings = standings.now; start = start }) 0 (rows_from 1 (lines items.now)) ≡ false }
     requires rest_len_bound { length rest.now ≤ 753 }
     ensures { Answers (first (lines_refusals false (items_text (record { outcomes = outcomes.now; standings = standings.now; start = start }) items.now ++ rest.now) (length target.old))) (items_text (record { outcomes = outcomes.now; standings = standings.now; start = start }) items.now ++ rest.now) target.old result target.new }
 {
     let size = size_of(items, outcomes) + (rest.len() as u64);
     if 4000000000 < size {
-        return Delivered::TooLarge;
+        return Err(DeliverError::TooLarge);
     }
     if (target.len() as u64) < size {
-        return Delivered::TooShort;
+        return Err(DeliverError::TooShort);
     }
     let next = put_lines(target, items, outcomes, standings, start);
     let end = put(target, next, rest);
-    Delivered::Written(end as u64)
+    Ok(end as u64)
 }
 
 // Items that are sent, n of them and of one class, by their groups.
@@ -120,13 +130,13 @@ fn deliver_sent(
     counts: &[u64; 10],
     sums: &[u64; 10],
     target: &mut [u8],
-) -> Delivered
+) -> Result<u64, DeliverError>
     requires value { any_underived (record { outcomes = outcomes.now; standings = standings.now; start = start }) 0 (rows_from 1 (lines items.now)) ≡ false }
     requires le_n { (1 ≤ n) × (n ≤ 30000) }
     ensures { Answers (first (lines_refusals (any_of is_large_sum sums.now) (sent_file items.now (record { outcomes = outcomes.now; standings = standings.now; start = start }) certis day n to counts.now sums.now) (length target.old))) (sent_file items.now (record { outcomes = outcomes.now; standings = standings.now; start = start }) certis day n to counts.now sums.now) target.old result target.new }
 {
     if any_large(sums) {
-        return Delivered::TooLarge;
+        return Err(DeliverError::TooLarge);
     }
     let mut rest = [0u8; 753];
     let last = (start as u64) + ((n - 1) as u64);
@@ -144,17 +154,19 @@ fn deliver_items(
     start: u32,
     n: usize,
     target: &mut [u8],
-) -> Delivered
+) -> Result<u64, DeliverError>
     requires headed { Headed items.now 0 × (0 < length items.now) }
     requires n_value { (n ≡ length (items_of items.now)) × (1 ≤ n) × (n ≤ 30000) }
     ensures { Answers (first (items_refusals items.now (record { outcomes = outcomes.now; standings = standings.now; start = start }) certis day (length target.old))) (output_file items.now (record { outcomes = outcomes.now; standings = standings.now; start = start }) certis day) target.old result target.new }
 {
     let outcome = at_or_zero(outcomes, 0);
     let standing = at_or_zero(standings, 0);
-    let lead = lead_of(items, outcome, standing, start as u64);
+    let Some(lead) = lead_of(items, outcome, standing, start as u64) else {
+        return Err(DeliverError::NotSent);
+    };
     let mut counts = [0u64; 10];
     let mut sums = [0u64; 10];
-    match survey_all(
+    let Some(other) = survey_all(
         items,
         outcomes,
         standings,
@@ -164,24 +176,22 @@ fn deliver_items(
         lead,
         &mut counts,
         &mut sums,
-    ) {
-        Survey::NotSent => Delivered::NotSent,
-        Survey::Sent(other) => {
-            if other {
-                return Delivered::Mixed;
-            }
-            deliver_sent(
-                items, outcomes, standings, certis, day, start, n, lead.to, &counts, &sums, target,
-            )
-        }
+    ) else {
+        return Err(DeliverError::NotSent);
+    };
+    if other {
+        return Err(DeliverError::Mixed);
     }
+    deliver_sent(
+        items, outcomes, standings, certis, day, start, n, lead.to, &counts, &sums, target,
+    )
 }
 
 // No items, too many, or not as many outcomes or standings.
 fn not_items(n: usize, outcomes: usize, standings: usize) -> bool
     ensures { result ≡ (eqb n 0 || (ltb 30000 n || (not (eqb outcomes n) || not (eqb standings n)))) }
 {
-    (n == 0) | ((30000 < n) | (!(outcomes == n) | !(standings == n)))
+    (n == 0) | (30000 < n) | (outcomes != n) | (standings != n)
 }
 
 pub fn deliver(
@@ -192,54 +202,32 @@ pub fn deliver(
     day: u32,
     start: u32,
     target: &mut [u8],
-) -> Delivered
+) -> Result<u64, DeliverError>
     ensures { Delivers items.now (record { outcomes = outcomes.now; standings = standings.now; start = start }) certis day target.old result target.new }
 {
     if !checking::is_code(certis) {
-        return Delivered::BadCode;
+        return Err(DeliverError::BadCode);
     }
     if !checking::is_accounting_day(day) {
-        return Delivered::BadDay;
+        return Err(DeliverError::BadDay);
     }
     let n = count_items(items);
     if not_items(n, outcomes.len(), standings.len()) {
-        return Delivered::NotItems;
+        return Err(DeliverError::NotItems);
     }
     // A line before the first heading breaks rule 3.
     if !starts(items, b"HD:") {
-        return Delivered::NotSent;
+        return Err(DeliverError::NotSent);
     }
     deliver_items(items, outcomes, standings, certis, day, start, n, target)
 }
 
 // Document 02's number of an answer, 0 for a file that was written.
-pub fn number_of(r: Delivered) -> u32
-    ensures { result ≡ delivered_number r }
+pub fn number_of(answer: Result<u64, DeliverError>) -> u32
+    ensures { result ≡ delivered_number answer }
 {
-    match r {
-        Delivered::Written(_) => 0,
-        Delivered::BadCode => 1,
-        Delivered::BadDay => 2,
-        Delivered::NotItems => 30,
-        Delivered::NotSent => 31,
-        Delivered::Mixed => 32,
-        Delivered::TooLarge => 33,
-        Delivered::TooShort => 34,
-    }
-}
-
-// How many bytes were written, or another number where none was.
-pub fn written_or(r: Delivered, old: u64) -> u64
-    ensures { result ≡ delivered_or r old }
-{
-    match r {
-        Delivered::Written(n) => n,
-        Delivered::BadCode => old,
-        Delivered::BadDay => old,
-        Delivered::NotItems => old,
-        Delivered::NotSent => old,
-        Delivered::Mixed => old,
-        Delivered::TooLarge => old,
-        Delivered::TooShort => old,
+    match answer {
+        Ok(_) => 0,
+        Err(error) => u32::from(error),
     }
 }

@@ -5,7 +5,7 @@
 
 ghost use Rattle.delivery_face.specs.Face.{DeliveredAt};
 
-use results::store_total;
+use results::leave;
 
 pub fn deliver(
     items: &[u8],
@@ -20,7 +20,5 @@ pub fn deliver(
     ensures { DeliveredAt items.now (record { outcomes = outcomes.now; standings = standings.now; start = start }) certis day target.old written.old result target.new written.new }
 {
     let answer = delivery::deliver(items, outcomes, standings, certis, day, start, target);
-    let refusal = delivery::number_of(answer);
-    store_total(written, refusal == 0, delivery::written_or(answer, 0));
-    refusal
+    leave(answer, written)
 }

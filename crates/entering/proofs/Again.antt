@@ -14,8 +14,6 @@ use Rattle.laws.proofs.Truth.{and_parts, one_holds, first_holds, second_holds, b
 use Rattle.days.specs.Days.{is_real, later, day_number}
 use Rattle.days.proofs.Order.{real_parts, later_number}
 use Rattle.headings.specs.declared.Heading.{Heading}
-use Rattle.headings.specs.declared.Read.{Read}
-use Rattle.headings.specs.declared.Read.TheVariants.{Reads}
 use Rattle.rules.specs.Terms.{is_code, is_accounting_day, Terms, input}
 use Rattle.rules.specs.HeadingRules.{rule11}
 use Rattle.rules.specs.Faults.{faults}
@@ -32,15 +30,15 @@ use Rattle.register.specs.Spans.{Fits, Sound}
 use Rattle.register.proofs.Sets.{order_strung, strung_order, all_sound, all_ordered}
 use Rattle.register.proofs.RoundTrip.{length_register}
 use Rattle.register.proofs.Formed.{Formed, formed, stand_sound, stands_again, read_again}
-use Rattle.adding.specs.declared.Entered.TheVariants.{Written, NotRegister}
+use Rattle.adding.specs.declared.EnterError.TheVariants.{NotRegister}
 use Rattle.adding.specs.Answers.{uses_refusals}
-use Rattle.entering.specs.declared.blanking.Blanked.TheVariants.{Done}
 use Rattle.gathering.specs.Keys.{Dated}
 use Rattle.entering.specs.Jobs.{uses_of, enter_refusals, Enters, new_register, blank_refusals, Blanks}
 use Rattle.adding.proofs.Uses.{uses_fit, kept_strung, kept_sound}
 use Rattle.laws.proofs.Refusals.{NoneOf, none_applies}
 use Rattle.laws.proofs.Entries.{and_right}
 use Rattle.adding.proofs.Lengths.{is_formed}
+use Rattle.std.specs.Prelude.{Option, Some, Ok, Err}
 
 -- ---- days that a register of a latest day may have
 abbrev pub DayStands : ℕ → ℕ → Type 0
@@ -64,8 +62,8 @@ day_stands terms h e = go (is_real h.day) refl (later h.day terms.today 0) refl 
     go true p true q z r e = absurd (false≢true (sym e))
     go false p y q z r e = absurd (false≢true (sym e))
 
-use_days : (terms : Terms) (head : Read) (h : Heading) → head ≡ Reads h → rule11 terms h ≡ false → (us : List Use) → UseDays terms.today us → UseDays terms.today (used_at head us)
-use_days terms head h e r us D = subst (λ (head : Read). UseDays terms.today (used_at head us)) (sym e) (go (eqb h.number.0 0))
+use_days : (terms : Terms) (head : Option Heading) (h : Heading) → head ≡ Some h → rule11 terms h ≡ false → (us : List Use) → UseDays terms.today us → UseDays terms.today (used_at head us)
+use_days terms head h e r us D = subst (λ (head : Option Heading). UseDays terms.today (used_at head us)) (sym e) (go (eqb h.number.0 0))
   where
     go : (x : Bool) → UseDays terms.today (cond x us (record { day = h.day; number = h.number.0 } ∷ us))
     go true = D
@@ -225,7 +223,7 @@ module _ (register file : List ℕ) (code day room : ℕ) (e : first (enter_refu
   read_back = read_again new few new_formed
 
 -- they are those of the register with the file's numbers
-pub enter_writes : (register file : List ℕ) (code day : ℕ) (before : List ℕ) (n : ℕ) (after : List ℕ) → Enters register file code day before (Written n) after
+pub enter_writes : (register file : List ℕ) (code day : ℕ) (before : List ℕ) (n : ℕ) (after : List ℕ) → Enters register file code day before (Ok n) after
     → take n after ≡ register_bytes (entered (register_of register) day (uses_of file))
 enter_writes register file code day before n after E =
     let g : Register = entered (register_of register) day (uses_of file) in
@@ -236,7 +234,7 @@ enter_writes register file code day before n after E =
     ap (take n) t ∙ take_at (register_bytes g) (drop (size_of (length g.ranges)) before) n (length_register g ∙ sym s)
 
 -- so the bytes that an answer says were written can be entered in again
-pub enter_again : (register file : List ℕ) (code day : ℕ) (before : List ℕ) (n : ℕ) (after : List ℕ) → Enters register file code day before (Written n) after → is_register (take n after) ≡ true
+pub enter_again : (register file : List ℕ) (code day : ℕ) (before : List ℕ) (n : ℕ) (after : List ℕ) → Enters register file code day before (Ok n) after → is_register (take n after) ≡ true
 enter_again register file code day before n after E =
     ap is_register (enter_writes register file code day before n after E) ∙ entered_stands register file code day (length before) (sym E.number)
 
@@ -244,7 +242,7 @@ enter_again register file code day before n after E =
 pub blank_stands : (code : ℕ) → is_code code ≡ true → is_register (register_bytes (new_register code)) ≡ true
 blank_stands code e = stands_again (new_register code) (omega arith) (both_hold (leb 1 code && leb code 9999) ((is_real 0 || true) && true) e (both_hold (is_real 0 || true) true (second_holds (is_real 0) true refl) refl))
 
-pub blank_again : (code : ℕ) (before after : List ℕ) → Blanks code before Done after → is_register (take 13 after) ≡ true
+pub blank_again : (code : ℕ) (before after : List ℕ) → Blanks code before (Ok tt) after → is_register (take 13 after) ≡ true
 blank_again code before after B =
     let e : first (blank_refusals code (length before)) ≡ 0 = sym B.number in
     let z = eq-eqb (first (blank_refusals code (length before))) 0 e in
@@ -275,7 +273,7 @@ first_without [] k ss = refl
 first_without ((j if true) ∷ rs) k ss = refl
 first_without ((j if false) ∷ rs) k ss = first_without rs k ss
 
-pub never_23 : (register file : List ℕ) (code day : ℕ) (before : List ℕ) (after : List ℕ) → is_register register ≡ true → Enters register file code day before NotRegister after → ⊥
+pub never_23 : (register file : List ℕ) (code day : ℕ) (before : List ℕ) (after : List ℕ) → is_register register ≡ true → Enters register file code day before (Err NotRegister) after → ⊥
 never_23 register file code day before after e E =
     absent_first 23 (check_refusals file (input code day) 0 0 0 ++ rest) (omega arith) tt
     (sym (first_without (check_refusals file (input code day) 0 0 0) 23 rest) ∙ ap (λ (b : Bool). first (check_refusals file (input code day) 0 0 0 ++ ((23 if not b) ∷ rest))) (sym e) ∙ sym E.number)

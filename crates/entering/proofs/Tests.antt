@@ -12,11 +12,10 @@ use Rattle.laws.proofs.Put.{put_is}
 use Rattle.text.specs.Strings.{Wrote}
 use Rattle.lines.specs.Lines.{body}
 use Rattle.file_body.proofs.Body.{body_take}
-use Rattle.rules.specs.Terms.{input}
+use Rattle.rules.specs.Terms.{is_code, input}
 use Rattle.rules.specs.Faults.{faults}
 use Rattle.item_reader.specs.Slips.{slips_from}
-use Rattle.listing.specs.declared.checking.Checked.{Checked}
-use Rattle.listing.specs.declared.checking.Checked.TheVariants.{Total, Refused}
+use Rattle.std.specs.Prelude.{Result, Ok, Err}
 use Rattle.listing.specs.declared.checking.Unchecked.{Unchecked}
 use Rattle.listing.proofs.Answers.{body_and_mark}
 use Rattle.listing.proofs.Unique.{some_number}
@@ -24,9 +23,9 @@ use Rattle.listing.specs.Checking.{check_refusals, unchecked_number, checked_num
 use Rattle.register.specs.Register.{head_bytes, register_bytes, register_of, is_register}
 use Rattle.register.specs.Entering.{used, entered}
 use Rattle.register.proofs.RoundTrip.{length_register}
-use Rattle.entering.specs.declared.blanking.Blanked.TheVariants.{Done, BadCode as BadBlank, TooShort as TooShortBlank}
-use Rattle.adding.specs.declared.Entered.{Entered}
-use Rattle.adding.specs.declared.Entered.TheVariants.{Refused as RefusedBy, NotRegister, OtherCode, DayBefore, HasFaults}
+use Rattle.entering.specs.declared.blanking.BlankError.TheVariants.{BadCode as BadBlank, TooShort as TooShortBlank}
+use Rattle.adding.specs.declared.EnterError.{EnterError}
+use Rattle.adding.specs.declared.EnterError.TheVariants.{Refused, NotRegister, OtherCode, DayBefore, HasFaults}
 use Rattle.adding.specs.Answers.{uses_refusals}
 use Rattle.entering.specs.Jobs.{uses_of, enter_refusals, Enters, new_register, Blanks}
 use Rattle.adding.specs.Steps.{EntersUses}
@@ -45,20 +44,20 @@ module _ (register file : List ℕ) (code day : ℕ) (before : List ℕ) where
       (26 if not (eqb (length (faults (input code day) file)) 0)) ∷
       uses_refusals (register_of register) (uses_of file) day (length before)
 
-  module _ {c : Checked} (C : Totals file (input code day) c) where
-    pub refused_by : (u : Unchecked) → c ≡ Refused u → Enters register file code day before (RefusedBy u) before
+  module _ {c : Result ℕ Unchecked} (C : Totals file (input code day) c) where
+    pub refused_by : (u : Unchecked) → c ≡ Err u → Enters register file code day before (Err (Refused u)) before
     refused_by u e =
-        refused (RefusedBy u)
+        refused (Err (Refused u))
         (sym (first_here (check_refusals file (input code day) 0 0 0) ((23 if not (is_register register)) ∷ from_24) (unchecked_number u) (sym (sym (ap checked_number e) ∙ C.number)) (some_number u)))
         (some_number u) (λ old. refl)
 
-    module _ (n : ℕ) (e : c ≡ Total n) where
+    module _ (n : ℕ) (e : c ≡ Ok n) where
       none : first (check_refusals file (input code day) 0 0 0) ≡ 0
       none = sym (sym (ap checked_number e) ∙ C.number)
 
       pub total_is : n ≡ length (faults (input code day) file)
       total_is =
-          sym (ap (λ (c : Checked). checked_or c 0) e) ∙ C.total 0
+          sym (ap (λ (c : Result ℕ Unchecked). checked_or c 0) e) ∙ C.total 0
           ∙ ap (λ (b : Bool). cond b (length (faults (input code day) file)) 0) (eq-eqb (first (check_refusals file (input code day) 0 0 0)) 0 none)
 
       pub not_long : length file ≤ 10000000
@@ -71,16 +70,16 @@ module _ (register file : List ℕ) (code day : ℕ) (before : List ℕ) where
       past : refusal ≡ first ((23 if not (is_register register)) ∷ from_24)
       past = first_past (check_refusals file (input code day) 0 0 0) ((23 if not (is_register register)) ∷ from_24) tt none
 
-      pub not_register : is_register register ≡ false → Enters register file code day before NotRegister before
-      not_register a = refused NotRegister (sym (past ∙ ap (λ (b : Bool). first ((23 if not b) ∷ from_24)) a)) (omega arith) (λ old. refl)
+      pub not_register : is_register register ≡ false → Enters register file code day before (Err NotRegister) before
+      not_register a = refused (Err NotRegister) (sym (past ∙ ap (λ (b : Bool). first ((23 if not b) ∷ from_24)) a)) (omega arith) (λ old. refl)
 
       module _ (a : is_register register ≡ true) where
         past_23 : refusal ≡ first from_24
         past_23 = past ∙ ap (λ (b : Bool). first ((23 if not b) ∷ from_24)) a
 
-        pub other_code : ((register_of register).code ≡ code → ⊥) → Enters register file code day before OtherCode before
+        pub other_code : ((register_of register).code ≡ code → ⊥) → Enters register file code day before (Err OtherCode) before
         other_code h =
-            refused OtherCode
+            refused (Err OtherCode)
             (sym (past_23 ∙ ap (λ (b : Bool). first ((24 if not b) ∷ (25 if ltb day (register_of register).latest) ∷ (26 if not (eqb (length (faults (input code day) file)) 0)) ∷ uses_refusals (register_of register) (uses_of file) day (length before))) (ne_eqb (register_of register).code code h)))
             (omega arith) (λ old. refl)
 
@@ -88,9 +87,9 @@ module _ (register file : List ℕ) (code day : ℕ) (before : List ℕ) where
           past_24 : refusal ≡ first ((25 if ltb day (register_of register).latest) ∷ (26 if not (eqb (length (faults (input code day) file)) 0)) ∷ uses_refusals (register_of register) (uses_of file) day (length before))
           past_24 = past_23 ∙ ap (λ (b : Bool). first ((24 if not b) ∷ (25 if ltb day (register_of register).latest) ∷ (26 if not (eqb (length (faults (input code day) file)) 0)) ∷ uses_refusals (register_of register) (uses_of file) day (length before))) (eq-eqb (register_of register).code code b)
 
-          pub day_before : day < (register_of register).latest → Enters register file code day before DayBefore before
+          pub day_before : day < (register_of register).latest → Enters register file code day before (Err DayBefore) before
           day_before h =
-              refused DayBefore
+              refused (Err DayBefore)
               (sym (past_24 ∙ ap (λ (b : Bool). first ((25 if b) ∷ (26 if not (eqb (length (faults (input code day) file)) 0)) ∷ uses_refusals (register_of register) (uses_of file) day (length before))) (lt-ltb day (register_of register).latest h)))
               (omega arith) (λ old. refl)
 
@@ -98,13 +97,13 @@ module _ (register file : List ℕ) (code day : ℕ) (before : List ℕ) where
             past_25 : refusal ≡ first ((26 if not (eqb (length (faults (input code day) file)) 0)) ∷ uses_refusals (register_of register) (uses_of file) day (length before))
             past_25 = past_24 ∙ ap (λ (b : Bool). first ((25 if b) ∷ (26 if not (eqb (length (faults (input code day) file)) 0)) ∷ uses_refusals (register_of register) (uses_of file) day (length before))) (le-ltb day (register_of register).latest d)
 
-            pub has_faults : (n ≡ 0 → ⊥) → Enters register file code day before HasFaults before
+            pub has_faults : (n ≡ 0 → ⊥) → Enters register file code day before (Err HasFaults) before
             has_faults h =
-                refused HasFaults
+                refused (Err HasFaults)
                 (sym (past_25 ∙ ap (λ (b : Bool). first ((26 if not b) ∷ uses_refusals (register_of register) (uses_of file) day (length before))) (ne_eqb (length (faults (input code day) file)) 0 (λ z. h (total_is ∙ z)))))
                 (omega arith) (λ old. refl)
 
-            pub items : n ≡ 0 → (k : ℕ) → k ≡ length (body file) → {r : Entered} {after : List ℕ} → EntersUses (register_of register) (used (slips_from 1 (take k file))) code day before r after
+            pub items : n ≡ 0 → (k : ℕ) → k ≡ length (body file) → {r : Result ℕ EnterError} {after : List ℕ} → EntersUses (register_of register) (used (slips_from 1 (take k file))) code day before r after
                 → Enters register file code day before r after
             items z k q {r} {after} A =
                 let t : take k file ≡ body file = ap (λ (n : ℕ). take n file) q ∙ body_take file in
@@ -121,25 +120,14 @@ front_fits (suc k) (x ∷ l) = let h = front_fits k l in omega arith
 
 -- ---- a new register
 module _ (code : ℕ) (before : List ℕ) where
-  bad_is : (ltb code 1 || ltb 9999 code) ≡ not (leb 1 code && leb code 9999)
-  bad_is = go (ltb code 1) refl (ltb 9999 code) refl
-    where
-      go : (x : Bool) → ltb code 1 ≡ x → (y : Bool) → ltb 9999 code ≡ y → (x || y) ≡ not (leb 1 code && leb code 9999)
-      go true p y q = rw (lt-leb 1 code (ltb-true code 1 p))
-      go false p true q = rw (le-leb 1 code (ltb-false code 1 p), lt-leb code 9999 (ltb-true 9999 code q))
-      go false p false q = rw (le-leb 1 code (ltb-false code 1 p), le-leb code 9999 (ltb-false 9999 code q))
+  pub blank_bad : not (is_code code) ≡ true → Blanks code before (Err BadBlank) before
+  blank_bad b = record { number = rw b; target = rw b }
 
-  pub blank_bad : (ltb code 1 || ltb 9999 code) ≡ true → Blanks code before BadBlank before
-  blank_bad a = let b : not (leb 1 code && leb code 9999) ≡ true = sym bad_is ∙ a in record { number = rw b; target = rw b }
-
-  module _ (a : (ltb code 1 || ltb 9999 code) ≡ false) where
-    b : not (leb 1 code && leb code 9999) ≡ false
-    b = sym bad_is ∙ a
-
-    pub blank_short : length before < 13 → Blanks code before TooShortBlank before
+  module _ (b : not (is_code code) ≡ false) where
+    pub blank_short : length before < 13 → Blanks code before (Err TooShortBlank) before
     blank_short h = let c : ltb (length before) 13 ≡ true = lt-ltb _ _ h in record { number = rw (b, c); target = rw (b, c) }
 
-    pub blank_done : 13 ≤ length before → {after : List ℕ} {n : ℕ} → Wrote before 0 (head_bytes code 0 0) after n → Blanks code before Done after
+    pub blank_done : 13 ≤ length before → {after : List ℕ} {n : ℕ} → Wrote before 0 (head_bytes code 0 0) after n → Blanks code before (Ok tt) after
     blank_done h {after} w =
         let c : ltb (length before) 13 ≡ false = le-ltb _ _ h in
         let l : 0 + length (head_bytes code 0 0) ≡ 13 = (let s = length_register (new_register code) in let t = ap length (append-nil (head_bytes code 0 0)) in omega arith) in

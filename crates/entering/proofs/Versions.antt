@@ -13,7 +13,8 @@ use Rattle.listing.specs.Checking.{check_refusals}
 use Rattle.register.specs.Register.{Register, bytes_in, most_of, register_of, well_formed, is_register}
 use Rattle.register.specs.Entering.{entered}
 use Rattle.register.proofs.Formed.{kept_meaning}
-use Rattle.adding.specs.declared.Entered.{Entered}
+use Rattle.std.specs.Prelude.{Result}
+use Rattle.adding.specs.declared.EnterError.{EnterError}
 use Rattle.adding.specs.Answers.{uses_refusals, Answers}
 use Rattle.entering.specs.Jobs.{uses_of, Enters}
 use Rattle.entering.proofs.Unique.{enter_unique}
@@ -29,12 +30,12 @@ module _ (file : List ℕ) (code day : ℕ) (before : List ℕ) where
       (26 if not (eqb (length (faults (input code day) file)) 0)) ∷
       uses_refusals g (uses_of file) day (length before))
 
-  alike : (s t : List ℕ) → is_register s ≡ is_register t → register_of s ≡ register_of t → {r : Entered} {after : List ℕ} → Enters s file code day before r after → Enters t file code day before r after
+  alike : (s t : List ℕ) → is_register s ≡ is_register t → register_of s ≡ register_of t → {r : Result ℕ EnterError} {after : List ℕ} → Enters s file code day before r after → Enters t file code day before r after
   alike s t a b {r} {after} E =
       subst (λ (g : Register). Answers (asked (is_register t) g) (entered g day (uses_of file)) before r after) b
       (subst (λ (good : Bool). Answers (asked good (register_of s)) (entered (register_of s) day (uses_of file)) before r after) a E)
 
-  pub enter_kept : (g : Register) → length g.ranges ≤ most_of 1 → well_formed g ≡ true → {r r' : Entered} {after after' : List ℕ}
+  pub enter_kept : (g : Register) → length g.ranges ≤ most_of 1 → well_formed g ≡ true → {r r' : Result ℕ EnterError} {after after' : List ℕ}
       → Enters (bytes_in 1 g) file code day before r after → Enters (bytes_in 2 g) file code day before r' after' → (r ≡ r') × (after ≡ after')
   enter_kept g h e E E' =
       let m = kept_meaning g h e in

@@ -1,6 +1,6 @@
 -- Classes as numbers: the table of them, held to the classes at each identifier, and the class that a number tells.
 use mathlib.Core.Path.{◌≡◌, refl, ap, sym, ◌∙◌}
-use mathlib.Core.Bool.{Bool, true, false, false≢true, cond, ◌&&◌}
+use mathlib.Core.Bool.{Bool, true, false≢true, cond, ◌&&◌}
 use mathlib.Core.List.{List, [], ◌∷◌}
 use Prim.Native.Nat.{ℕ, zero, suc, ◌+◌, ◌<◌}
 use native.Mathlib.Nat.{add-zero, zero-add, add-suc, suc-add, not-suc-le-zero, le_of_suc-le-suc}
@@ -10,7 +10,7 @@ use Rattle.laws.proofs.Entries.{and_left, and_right}
 use Rattle.fields.specs.declared.classes.Class.{Class}
 use Rattle.fields.specs.declared.classes.Class.TheVariants.{Money, Number, Range, Group, Account, Text, Free}
 use Rattle.fields.specs.Kinds.{place}
-use Rattle.fields.specs.Classes.{money_fields, number_fields, range_fields, group_fields, account_fields, text_fields, class_of}
+use Rattle.fields.specs.Classes.{money_fields, number_fields, range_fields, account_fields, text_fields, class_of}
 use Rattle.fields.specs.Codes.{code_by, code_of, claims}
 
 -- a list with v at each of some places
@@ -19,8 +19,16 @@ fill [] v l = l
 fill (k ∷ ks) v l = fill ks v (set l k v)
 
 -- the table as the code fills it; both sides are computed at each place
+abbrev others : List ℕ
+others = fill range_fields 5 (fill text_fields 4 (fill account_fields 3 (fill number_fields 2 (fill money_fields 1 (replicate 1296 0)))))
+
+-- .. and with so many of the groups
+abbrev pub grouped : ℕ → List ℕ
+grouped zero = others
+grouped (suc k) = set (grouped k) (1008 + k) 6
+
 abbrev table : List ℕ
-table = fill money_fields 1 (fill number_fields 2 (fill range_fields 5 (fill group_fields 6 (fill account_fields 3 (fill text_fields 4 (replicate 1296 0))))))
+table = grouped 10
 
 -- a list holds g's numbers from i on: one walk over it computes that, and then each place can be asked
 abbrev holds : (ℕ → ℕ) → ℕ → List ℕ → Bool

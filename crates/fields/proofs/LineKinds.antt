@@ -92,6 +92,10 @@ module _ (l : List ℕ) (a b : ℕ) (p : a ≡ place (get_or l 0 0) symbols) (q 
       let g = sym asked ∙ e in
       rw (never_true (begins l (ascii "HD:")) (λ h. false≢true (sym g ∙ (heading_is l h).0)), g, f)
 
+-- both places are below 36 where a field is asked for
+pub few : (a b : ℕ) (t : Bool) → ((ltb a 36 && ltb b 36) && t) ≡ true → (a < 36) × (b < 36)
+few a b t e = let p = and_parts (ltb a 36) (ltb b 36) (and_parts (ltb a 36 && ltb b 36) t e).0 in (ltb-true a 36 p.0, ltb-true b 36 p.1)
+
 -- what the kind of a field tells of its line
 abbrev Told : List ℕ → Kind → Type 0
 Told l Heading = Unit {0}

@@ -8,10 +8,10 @@ use native.Mathlib.Nat.{eq-or-lt_of_le}
 use native.Mathlib.Omega.{arith}
 use lib.ListN.{length, get_or, set, replicate}
 use lib.Dec.{leb, ltb, eqb, eqb→eq, ltb→lt, leb-suc-suc}
-use borrow.Author.Tests.{ne_eqb, le-leb, lt-ltb, leb-true, ltb-true, eqb-true, eqb-false}
+use borrow.Author.Tests.{ne_eqb, le-leb, lt-leb, lt-ltb, leb-true, ltb-true, eqb-true, eqb-false}
 use Rattle.laws.specs.Tests.{among}
 use Rattle.laws.proofs.Finite.{at}
-use Rattle.laws.proofs.Truth.{and_parts}
+use Rattle.laws.proofs.Truth.{and_parts, never_true}
 use Rattle.fields.specs.Kinds.{symbols, place, ident_of, is_field}
 use Rattle.fields.specs.Classes.{group_fields, sum_group}
 
@@ -67,6 +67,22 @@ found b = cond (leb 48 b && leb b 57) (b - 48) (cond (leb 65 b && leb b 90) (b -
 pub symbol_at : (b : ℕ) → b < 256 → found b ≡ place b symbols
 unfolding place
 symbol_at b h = eqb→eq _ _ (at (λ c. eqb (found c) (place c symbols)) 256 tt b h)
+
+-- by the range that it is in
+module _ (b : ℕ) where
+  pub digit_at : 48 ≤ b → b ≤ 57 → b - 48 ≡ place b symbols
+  digit_at l h = rw (le-leb 48 b l, le-leb b 57 h) at (symbol_at b (omega arith))
+
+  pub letter_at : 65 ≤ b → b ≤ 90 → b - 65 + 10 ≡ place b symbols
+  letter_at l h =
+      let s : b - 65 + 10 ≡ b - 55 = omega arith in
+      s ∙ rw (le-leb 48 b (omega arith), lt-leb b 57 (omega arith), le-leb 65 b l, le-leb b 90 h) at (symbol_at b (omega arith))
+
+  pub no_symbol : b < 256 → (48 ≤ b → b ≤ 57 → ⊥) → (65 ≤ b → b ≤ 90 → ⊥) → 36 ≡ place b symbols
+  no_symbol w d l = rw (outside 48 57 d, outside 65 90 l) at (symbol_at b w)
+    where
+      outside : (lo hi : ℕ) → (lo ≤ b → b ≤ hi → ⊥) → (leb lo b && leb b hi) ≡ false
+      outside lo hi n = never_true (leb lo b && leb b hi) (λ e. let p = and_parts (leb lo b) (leb b hi) e in n (leb-true lo b p.0) (leb-true b hi p.1))
 
 -- the table of places, as the code fills it, symbol by symbol
 abbrev pub filled : ℕ → List ℕ

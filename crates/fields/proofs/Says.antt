@@ -2,17 +2,18 @@
 use mathlib.Core.Path.{◌≡◌, refl, ap, ◌∙◌, sym}
 use mathlib.Core.Bool.{Bool, true, false, true≢false, not, ◌&&◌, ◌||◌, and-true}
 use mathlib.Core.List.{List, [], ◌∷◌}
-use Prim.Native.Nat.{ℕ, ◌+◌, ◌-◌, ◌<◌}
+use Prim.Native.Nat.{ℕ, ◌+◌, ◌-◌, min}
 use native.Mathlib.Nat.{zero-add}
 use native.Mathlib.Omega.{arith}
 use lib.ListN.{length, take, drop, length-drop, drop_of_length-le}
 use lib.Seq.{drop-drop, length-take-le, take_all}
 use lib.Dec.{eqb, leb}
 use Rattle.laws.specs.Refusals.{first}
-use Rattle.laws.proofs.Truth.{and_parts}
+use borrow.Author.Tests.{leb-true, leb-false}
+use Rattle.laws.proofs.Truth.{and_parts, by_test}
 use Rattle.text.specs.Digits.{is_digit, value}
 use Rattle.number_reader.specs.declared.Run.{Run}
-use Rattle.number_reader.specs.declared.Two.TheVariants.{Found, NotTwo}
+use Rattle.number_reader.specs.declared.Two.{Two}
 use Rattle.fields.specs.declared.classes.Class.{Class}
 use Rattle.fields.specs.declared.classes.Class.TheVariants.{Money, Number, Range, Group, Account, Text, Free}
 use Rattle.fields.specs.declared.readings.Reading.{Reading}
@@ -20,7 +21,7 @@ use Rattle.fields.specs.declared.readings.Reading.TheVariants.{Broken, Plain, Pa
 use Rattle.figures.specs.Layouts.{Part, num, space, run, head_is, fits, part, maybe_name}
 use Rattle.number_reader.specs.Numbers.{number_at, two_of}
 use Rattle.figures.specs.declared.parts.Halves.{Halves}
-use Rattle.figures.specs.declared.accounts.Account.TheVariants.{Judged}
+use Rattle.std.specs.Prelude.{Some, None, Ok}
 use Rattle.figures.specs.Accounts.{halves_of, are_digits, account_of, account_refusals}
 use Rattle.fields.specs.Codes.{code_by, claims}
 use Rattle.fields.specs.Readings.{text_of, layout_of, said_by, if_fits, reading_of}
@@ -60,22 +61,27 @@ module _ (k : Class) (l₁ h₁ l₂ h₂ : ℕ) (ps : List Part) (t : List ℕ)
   said = rw (split, first_part, second_part)
 
   -- no two numbers: the text is broken, whatever the layout asks after them
-  pub not_two : two_of l₁ h₁ l₂ h₂ t ≡ NotTwo → Broken ≡ reading_of k t
+  pub not_two : two_of l₁ h₁ l₂ h₂ t ≡ None → Broken ≡ reading_of k t
   not_two e = sym (said ∙ rw (not_found l₁ h₁ l₂ h₂ t e))
 
-  module _ (v m w z : ℕ) (e : two_of l₁ h₁ l₂ h₂ t ≡ Found v m w z) where
+  module _ (x : Two) (e : two_of l₁ h₁ l₂ h₂ t ≡ Some x) where
+    abbrev first_text : List ℕ
+    first_text = take x.mid t
+
+    abbrev second_text : List ℕ
+    second_text = take (x.end - (x.mid + 1)) (drop (x.mid + 1) t)
+
     -- two numbers: what is left of the text decides
-    two : if_fits (fits ps (drop z t)) (said_by k (take m t) (take (z - (m + 1)) (drop (m + 1) t))) ≡ reading_of k t
-    two = let q = known l₁ h₁ l₂ h₂ t v m w z e in sym (said ∙ rw (q.0, ← size l₁ h₁ l₂ h₂ t v m w z e, q.1, q.4))
+    two : if_fits (fits ps (drop x.end t)) (said_by k first_text second_text) ≡ reading_of k t
+    two = let q = known l₁ h₁ l₂ h₂ t x e in sym (said ∙ rw (q.0, ← size l₁ h₁ l₂ h₂ t x e, q.1, q.4))
 
     -- the code's answer, made of the two texts, or of the two numbers
-    pub made : (r : Reading) (b : Bool) → b ≡ fits ps (drop z t) → r ≡ said_by k (take m t) (take (z - (m + 1)) (drop (m + 1) t)) → if_fits b r ≡ reading_of k t
+    pub made : (r : Reading) (b : Bool) → b ≡ fits ps (drop x.end t) → r ≡ said_by k first_text second_text → if_fits b r ≡ reading_of k t
     made r b p q = rw (p, q) two
 
-    pub made_by : (f : ℕ → ℕ → Reading) (b : Bool) → b ≡ fits ps (drop z t)
-        → f (value (take m t)) (value (take (z - (m + 1)) (drop (m + 1) t))) ≡ said_by k (take m t) (take (z - (m + 1)) (drop (m + 1) t))
-        → if_fits b (f v w) ≡ reading_of k t
-    made_by f b p q = made (f v w) b p (ap (λ (x : ℕ). f x w) (first_is l₁ h₁ l₂ h₂ t v m w z e) ∙ ap (f (value (take m t))) (second_is l₁ h₁ l₂ h₂ t v m w z e) ∙ q)
+    pub made_by : (f : ℕ → ℕ → Reading) (b : Bool) → b ≡ fits ps (drop x.end t) → f (value first_text) (value second_text) ≡ said_by k first_text second_text
+        → if_fits b (f x.first x.second) ≡ reading_of k t
+    made_by f b p q = made (f x.first x.second) b p (ap (λ (y : ℕ). f y x.second) (first_is l₁ h₁ l₂ h₂ t x e) ∙ ap (f (value first_text)) (second_is l₁ h₁ l₂ h₂ t x e) ∙ q)
 
 -- one number
 pub one_number : (t : List ℕ) (a : Run) → a ≡ number_at 10 t 0 → if_fits (leb 1 a.end && fits [] (drop a.end t)) Plain ≡ reading_of Number t
@@ -100,16 +106,20 @@ rest Text t e c p q = ap (λ (m : ℕ). if_fits (not (eqb m 4) || (leb 1 (length
 rest Free t e c p q = ap (λ (m : ℕ). if_fits (not (eqb m 4) || (leb 1 (length t) && leb (length t) 35)) Plain) (sym e)
 
 -- the text after the colon, as the code lends it
-lent : (l : List ℕ) (n : ℕ) → drop n l ≡ text_of l → take (length l - n) (drop n l) ≡ text_of l
-lent l n e = take_all (length l - n) (drop n l) (rw (length-drop n l) (omega arith)) ∙ e
-
-pub too_short : (l : List ℕ) → length l < 3 → drop (length l) l ≡ text_of l
+pub lent : (l : List ℕ) → take (length l - min (length l) 3) (drop (min (length l) 3) l) ≡ text_of l
 unfolding text_of
-too_short l h = drop_of_length-le l {i = length l} (omega arith) ∙ sym (drop_of_length-le l {i = 3} (omega arith))
+lent l = take_all (length l - m) (drop m l) (rw (length-drop m l) (omega arith)) ∙ by_test (leb 3 (length l))
+    (λ e. let k : m ≡ 3 = omega (arith, leb-true 3 (length l) e) in rw k)
+    (λ e.
+    let h = leb-false 3 (length l) e in
+    drop_of_length-le l {i = m} (omega arith) ∙ sym (drop_of_length-le l {i = 3} (omega arith)))
+  where
+    m : ℕ
+    m = min (length l) 3
 
 -- what the code reads of it as of one class is what the line says as of another, where the two are one
-pub read_as : (j k : Class) (n : ℕ) (l : List ℕ) (r : Reading) → drop n l ≡ text_of l → r ≡ reading_of j (take (length l - n) (drop n l)) → j ≡ k → r ≡ reading_of k (text_of l)
-read_as j k n l r e p q = p ∙ rw (lent l n e, q)
+pub read_as : (j k : Class) (l s : List ℕ) (r : Reading) → s ≡ text_of l → r ≡ reading_of j s → j ≡ k → r ≡ reading_of k (text_of l)
+read_as j k l s r e p q = p ∙ rw (e, q)
 
 -- a run of digits, taken alone, is a part of the open account check
 alone : (lo h : ℕ) (s : List ℕ) → fits (num lo h ∷ []) (take (run is_digit h s) s) ≡ leb lo (run is_digit h s)
@@ -134,7 +144,7 @@ account_line t e =
 -- where a line's account fits, the open check of its two parts refuses nothing and answers what the line says
 pub line_check : (t : List ℕ) → fits (layout_of Account).own t ≡ true
     → (first (account_refusals (part 0 (layout_of Account).own t) (part 1 (layout_of Account).own t)) ≡ 0)
-    × (h : Halves) × (account_of (part 0 (layout_of Account).own t) (part 1 (layout_of Account).own t) ≡ Judged h) × (reading_of Account t ≡ Party h)
+    × (h : Halves) × (account_of (part 0 (layout_of Account).own t) (part 1 (layout_of Account).own t) ≡ Ok h) × (reading_of Account t ≡ Party h)
 unfolding account_of
 line_check t e =
     let p = part 0 (layout_of Account).own t in

@@ -4,7 +4,7 @@ ghost use Rattle.fields.specs.Classes.{sum_group};
 ghost use Rattle.fields.specs.Codes.{code_of};
 
 // KC; EC, AK, ZK; IN; S0 to S9; UD, UK; DI, KI, ZP, AV; any other identifier.
-#[derive(Clone, Copy)]
+#[derive(Clone, Copy, Debug, PartialEq, Eq)]
 pub enum Class {
     Money,
     Number,
@@ -50,9 +50,10 @@ pub fn sum_group(ident: usize) -> usize
     ensures { result ≡ sum_group ident }
 {
     if (S0 <= ident) & (ident < S0 + GROUPS) {
-        return ident - S0;
+        ident - S0
+    } else {
+        GROUPS
     }
-    GROUPS
 }
 
 // The class of each identifier as a number, 0 for any that is not named here. A caller makes it once and lends it.
@@ -71,15 +72,8 @@ pub fn codes() -> [u8; 1296]
     t[ZP] = 4;
     t[AV] = 4;
     t[IN] = 5;
-    t[S0] = 6;
-    t[S0 + 1] = 6;
-    t[S0 + 2] = 6;
-    t[S0 + 3] = 6;
-    t[S0 + 4] = 6;
-    t[S0 + 5] = 6;
-    t[S0 + 6] = 6;
-    t[S0 + 7] = 6;
-    t[S0 + 8] = 6;
-    t[S0 + 9] = 6;
+    for group in S0..S0 + GROUPS {
+        t[group] = 6;
+    }
     t
 }

@@ -5,7 +5,7 @@ ghost use Rattle.fields.specs.Kinds.{symbols, place, kind_of};
 use crate::classes::HD;
 
 // What a line is; a field with its identifier's number, which is below 1296.
-#[derive(Clone, Copy)]
+#[derive(Clone, Copy, Debug, PartialEq, Eq)]
 pub enum Kind {
     Heading,
     Continuation,
@@ -17,14 +17,13 @@ pub enum Kind {
 fn place_of(b: u8) -> usize
     ensures { (result ≡ place b symbols) × (result ≤ 36) }
 {
-    let n = b as usize;
-    if (48 <= n) & (n <= 57) {
-        return n - 48;
+    if b.is_ascii_digit() {
+        usize::from(b - b'0')
+    } else if b.is_ascii_uppercase() {
+        usize::from(b - b'A') + 10
+    } else {
+        36
     }
-    if (65 <= n) & (n <= 90) {
-        return n - 55;
-    }
-    36
 }
 
 // The place of each byte. A caller that looks at many lines makes it once and lends it.
@@ -33,10 +32,8 @@ pub fn places() -> [u8; 256]
 {
     let symbols = b"0123456789ABCDEFGHIJKLMNOPQRSTUVWXYZ";
     let mut t = [36u8; 256];
-    let mut k: usize = 0;
-    while k < 36 {
-        t[symbols[k] as usize] = k as u8;
-        k += 1;
+    for (k, symbol) in symbols.iter().enumerate() {
+        t[usize::from(*symbol)] = k as u8;
     }
     t
 }
@@ -45,7 +42,7 @@ fn place_at(places: &[u8; 256], b: u8) -> usize
     requires { (b : ℕ) → b < 256 → get_or places.now b 0 ≡ place b symbols }
     ensures { result ≡ place b symbols }
 {
-    places[b as usize] as usize
+    usize::from(places[usize::from(b)])
 }
 
 // The kind of a line of three bytes or more, by the places of its first two. A heading is a field whose identifier is HD.
@@ -62,11 +59,13 @@ fn kind_by(line: &[u8], a: usize, b: usize) -> Kind
         return Kind::Field(ident);
     }
     if text::strings::starts(line, b"   ") {
-        return Kind::Continuation;
+        Kind::Continuation
+    } else {
+        Kind::Other
     }
-    Kind::Other
 }
 
+// Apart from `kind_from`: one function over a closure would take three clauses on the closure, where each of the two has none.
 pub fn kind_of(line: &[u8]) -> Kind
     ensures { result ≡ kind_of line.now }
 {

@@ -8,7 +8,6 @@ use crate::classes::Class;
 use figures::parts;
 use figures::parts::Halves;
 use headings::{Amount, ItemNo};
-use number_reader::Two;
 
 // `Broken` where the text has not its layout. An amount and its day; the first and the last number; a group's count and sum;
 // the halves of an account.
@@ -25,10 +24,7 @@ pub enum Reading {
 pub fn if_fits(fits: bool, said: Reading) -> Reading
     ensures { result ≡ if_fits fits said }
 {
-    if fits {
-        return said;
-    }
-    Reading::Broken
+    if fits { said } else { Reading::Broken }
 }
 
 // Whether nothing stands from a place on.
@@ -42,75 +38,50 @@ fn ends(t: &[u8], at: usize) -> bool
 fn ends_or_rest(t: &[u8], at: usize) -> bool
     ensures { result ≡ fits maybe_rest (drop at t.now) }
 {
-    if t.len() <= at {
-        return true;
-    }
-    t[at] == 32
+    t.len() <= at || t[at] == b' '
 }
 
 // Whether nothing stands from a place on, or a space and a name.
 fn ends_or_name(t: &[u8], at: usize) -> bool
     ensures { result ≡ fits maybe_name (drop at t.now) }
 {
-    if t.len() <= at {
-        return true;
-    }
-    if t[at] != 32 {
-        return false;
-    }
-    t.len() - (at + 1) <= 20
+    t.len() <= at || (t[at] == b' ' && t.len() - (at + 1) <= 20)
 }
 
 fn read_money(t: &[u8]) -> Reading
     ensures { result ≡ reading_of Class.Money t.now }
 {
-    match number_reader::read_two(t, 1, 15, 8, 8) {
-        Two::Found {
-            first,
-            mid: _,
-            second,
-            end,
-        } => {
-            if_fits(
-                ends_or_rest(t, end),
-                Reading::Paid(Amount(first), second as u32),
-            )
-        }
-        Two::NotTwo => Reading::Broken,
-    }
+    let Some(two) = number_reader::read_two(t, 1, 15, 8, 8) else {
+        return Reading::Broken;
+    };
+    if_fits(
+        ends_or_rest(t, two.end),
+        Reading::Paid(Amount(two.first), two.second as u32),
+    )
 }
 
 fn read_range(t: &[u8]) -> Reading
     ensures { result ≡ reading_of Class.Range t.now }
 {
-    match number_reader::read_two(t, 1, 7, 1, 7) {
-        Two::Found {
-            first,
-            mid: _,
-            second,
-            end,
-        } => {
-            if_fits(
-                ends(t, end),
-                Reading::Span(ItemNo(first as u32), ItemNo(second as u32)),
-            )
-        }
-        Two::NotTwo => Reading::Broken,
-    }
+    let Some(two) = number_reader::read_two(t, 1, 7, 1, 7) else {
+        return Reading::Broken;
+    };
+    if_fits(
+        ends(t, two.end),
+        Reading::Span(ItemNo(two.first as u32), ItemNo(two.second as u32)),
+    )
 }
 
 fn read_group(t: &[u8]) -> Reading
     ensures { result ≡ reading_of Class.Group t.now }
 {
-    match number_reader::read_two(t, 1, 7, 1, 17) {
-        Two::Found {
-            first,
-            mid: _,
-            second,
-            end,
-        } => { if_fits(ends(t, end), Reading::Stated(first as u32, Amount(second))) }
-        Two::NotTwo => Reading::Broken,
-    }
+    let Some(two) = number_reader::read_two(t, 1, 7, 1, 17) else {
+        return Reading::Broken;
+    };
+    if_fits(
+        ends(t, two.end),
+        Reading::Stated(two.first as u32, Amount(two.second)),
+    )
 }
 
 // Each part is read and weighed in one loop, where it stands.
@@ -119,10 +90,7 @@ fn read_account(t: &[u8]) -> Reading
 {
     let a = parts::weighed_at(t, 0, 6);
     let mid = a.end;
-    if t.len() <= mid {
-        return Reading::Broken;
-    }
-    if t[mid] != 32 {
+    if t.len() <= mid || t[mid] != b' ' {
         return Reading::Broken;
     }
     let b = parts::weighed_at(t, mid + 1, 10);
@@ -147,22 +115,18 @@ fn read_number(t: &[u8]) -> Reading
     if_fits((1 <= end) & ends(t, end), Reading::Plain)
 }
 
-// Where the text of a field line begins: after the colon.
-fn after_colon(line: &[u8]) -> usize
-    ensures { (result ≤ length line.now) × (drop result line.now ≡ text_of line.now) }
+// The text of a field line: what stands after the colon.
+fn text_of(line: &[u8]) -> &[u8]
+    ensures { result.now ≡ text_of line.now }
 {
-    if line.len() < 3 {
-        return line.len();
-    }
-    3
+    &line[line.len().min(3)..]
 }
 
 // What a field line says whose class, by its number, claims something.
 pub fn read_claim(class: u8, line: &[u8]) -> Reading
     ensures { (k : Class) → code_by k ≡ class → claims class ≡ true → result ≡ reading_of k (text_of line.now) }
 {
-    let from = after_colon(line);
-    let t = &line[from..];
+    let t = text_of(line);
     if class == 1 {
         return read_money(t);
     }
@@ -177,8 +141,7 @@ pub fn read_claim(class: u8, line: &[u8]) -> Reading
 pub fn read_plain(class: u8, line: &[u8]) -> Reading
     ensures { (k : Class) → code_by k ≡ class → claims class ≡ false → result ≡ reading_of k (text_of line.now) }
 {
-    let from = after_colon(line);
-    let t = &line[from..];
+    let t = text_of(line);
     if class == 2 {
         return read_number(t);
     }

@@ -1,18 +1,20 @@
 -- The open account check: its answer in each case of the code, its refusal and what it says of each half.
-use Rattle.std.proofs.Common.{◌≡◌, ℕ, Bool, true, false, cond, not, ◌&&◌, eqb, leb, List, [], ◌∷◌, length, sym, refl, ap, ◌∙◌, le_antisymm, arith, leb-false, leb-true}
-use mathlib.Core.Bool.{and-false, not-not}
+use Rattle.std.proofs.Common.{◌≡◌, ℕ, Bool, true, false, cond, not, ◌&&◌, eqb, leb, List, [], ◌∷◌, length, sym, refl, ap, ◌∙◌, le_antisymm, arith, leb-false, leb-true, le-leb}
+use mathlib.Core.Bool.{and-false, not-not, false≢true}
 use lib.Dec.{leb-zero}
-use Rattle.laws.proofs.Truth.{by_test}
+use Rattle.std.proofs.lemmas.Option.{none-some, cond_some}
+use Rattle.laws.proofs.Truth.{by_test, never_true}
 use Rattle.laws.specs.Refusals.{◌if◌, first}
 use Rattle.text.specs.Digits.{is_digit, value}
 use Rattle.figures.specs.declared.parts.PartRead.{PartRead}
 use Rattle.figures.specs.declared.parts.Number.{Number}
 use Rattle.figures.specs.declared.parts.Number.TheVariants.{Good, Failing, Zero}
 use Rattle.figures.specs.declared.parts.Halves.{Halves}
-use Rattle.figures.specs.declared.accounts.Account.{Account}
-use Rattle.figures.specs.declared.accounts.Account.TheVariants.{Judged, NotDigits}
+use Rattle.std.specs.Prelude.{Some, None, Ok, Err}
+use Rattle.std.specs.Result.{IsErr}
+use Rattle.figures.specs.declared.accounts.AccountError.TheVariants.{NotDigits}
 use Rattle.figures.specs.Layouts.{num, run, fits}
-use Rattle.figures.specs.Accounts.{passes, number_by, halves_of, no_part, part_of, are_digits, account_by, account_of, account_refusals, account_number, prefix_answer, number_answer, prefix_value, number_value, Judges}
+use Rattle.figures.specs.Accounts.{passes, number_by, halves_of, part_of, are_digits, Account, account_by, account_of, account_refusals, account_number, prefix_answer, number_answer, prefix_value, number_value, Judges}
 use Rattle.figures.proofs.Runs.{run_length}
 use Rattle.figures.proofs.Endings.{empty_before}
 
@@ -25,31 +27,9 @@ some_digits h t = by_test (leb (length t) (run is_digit h t))
     rw (leb-zero (run is_digit h t), k))
     (λ e. rw (empty_before t (run is_digit h t) (leb-false (length t) (run is_digit h t) e), and-false, and-false, and-false))
 
-abbrev told : Bool → List ℕ → PartRead
-told t bs = cond t (record { digits = true; some = not (eqb (value bs) 0); passes = passes bs }) no_part
-
 -- the halves, from what was told of the parts
 abbrev halves_by : PartRead → PartRead → Halves
 halves_by a b = record { prefix = a.passes; number = number_by (not b.some) b.passes }
-
--- the open check, from what was told of its parts
-pub judged : (p n : List ℕ) {a b : PartRead} → a ≡ part_of 6 p → b ≡ part_of 10 n
-    → account_by (leb 1 (length n) && (a.digits && b.digits)) (halves_by a b) ≡ account_of p n
-unfolding part_of account_of
-judged p n ea eb =
-    (λ i. account_by (leb 1 (length n) && ((ea i).digits && (eb i).digits)) (halves_by (ea i) (eb i)))
-    ∙ go (leb 1 (length n)) (fits (num 0 6 ∷ []) p) (fits (num 0 10 ∷ []) n)
-    ∙ ap (λ (t : Bool). account_by (fits (num 0 6 ∷ []) p && t) (halves_of p n)) (sym (some_digits 10 n))
-  where
-    go : (t x y : Bool) → account_by (t && ((told x p).digits && (told y n).digits)) (halves_by (told x p) (told y n)) ≡ account_by (x && (t && y)) (halves_of p n)
-    go true true true = unfold halves_of in rw (not-not (eqb (value n) 0))
-    go true true false = refl
-    go true false true = refl
-    go true false false = refl
-    go false true true = refl
-    go false true false = refl
-    go false false true = refl
-    go false false false = refl
 
 -- the answer by document 01's number, and by the number of each half
 pub refusal_is : (p n : List ℕ) → account_number (account_of p n) ≡ first (account_refusals p n)
@@ -76,8 +56,40 @@ number_is p n old = go (are_digits p n)
     go true = refl
     go false = refl
 
-pub answered : (p n : List ℕ) {r : Account} → r ≡ account_of p n → Judges p n r
+answered : (p n : List ℕ) {r : Account} → r ≡ account_of p n → Judges p n r
 answered p n e = (ap account_number e ∙ refusal_is p n, e)
+
+-- what a part that was told of is
+told_part : (h : ℕ) (t : List ℕ) {a : PartRead} → part_of h t ≡ Some a → (fits (num 0 h ∷ []) t ≡ true) × (record { some = not (eqb (value t) 0); passes = passes t } ≡ a)
+unfolding part_of
+told_part h t e = cond_some _ _ _ e
+
+untold : (h : ℕ) (t : List ℕ) → part_of h t ≡ None → fits (num 0 h ∷ []) t ≡ false
+unfolding part_of
+untold h t e = never_true (fits (num 0 h ∷ []) t) (λ d. none-some (record { some = not (eqb (value t) 0); passes = passes t }) (sym e ∙ rw d))
+
+-- the open check, from what was told of its parts
+module _ (p n : List ℕ) where
+  pub judged : {a b : PartRead} → (length n ≡ 0 → ⊥) → part_of 6 p ≡ Some a → part_of 10 n ≡ Some b → Judges p n (Ok (halves_by a b))
+  unfolding account_of halves_of
+  judged l ea eb =
+      let x = told_part 6 p ea in
+      let y = told_part 10 n eb in
+      answered p n (rw (x.0, some_digits 10 n, y.0, le-leb 1 (length n) (omega arith), ← x.1, ← y.1, not-not (eqb (value n) 0)) refl)
+
+  refused : {r : Account} → are_digits p n ≡ false → IsErr r → Judges p n r
+  unfolding account_of
+  refused {r = Ok h} d e = absurd (false≢true e)
+  refused {r = Err NotDigits} d e = answered p n (rw d)
+
+  pub no_number : length n ≡ 0 → Judges p n (Err NotDigits)
+  no_number l = refused (rw (some_digits 10 n, l, and-false)) refl
+
+  pub no_first : {r : Account} → part_of 6 p ≡ None → IsErr r → Judges p n r
+  no_first e = refused (rw (untold 6 p e))
+
+  pub no_second : {r : Account} → part_of 10 n ≡ None → IsErr r → Judges p n r
+  no_second e = refused (rw (some_digits 10 n, untold 10 n e, and-false, and-false))
 
 -- two answers that meet the check's statement are one
 pub judges_unique : (p n : List ℕ) {r r' : Account} → Judges p n r → Judges p n r' → r ≡ r'
@@ -102,8 +114,8 @@ number_apart Zero Failing e = absurd (omega (arith, e))
 number_apart Zero Zero e = refl
 
 pub told_apart : (r r' : Account) → account_number r ≡ account_number r' → prefix_value r 0 ≡ prefix_value r' 0 → number_value r 0 ≡ number_value r' 0 → r ≡ r'
-told_apart (Judged h) (Judged k) e f g =
-    λ i. Judged (record { prefix = prefix_apart h.prefix k.prefix f i; number = number_apart h.number k.number g i })
-told_apart (Judged h) NotDigits e f g = absurd (omega (arith, e))
-told_apart NotDigits (Judged k) e f g = absurd (omega (arith, e))
-told_apart NotDigits NotDigits e f g = refl
+told_apart (Ok h) (Ok k) e f g =
+    λ i. Ok (record { prefix = prefix_apart h.prefix k.prefix f i; number = number_apart h.number k.number g i })
+told_apart (Ok h) (Err NotDigits) e f g = absurd (omega (arith, e))
+told_apart (Err NotDigits) (Ok k) e f g = absurd (omega (arith, e))
+told_apart (Err NotDigits) (Err NotDigits) e f g = refl

@@ -1,15 +1,16 @@
 -- A loop that reads the digits of a part: at place i, what is left, after the sum and the bits so far, gives what all of them give. And
 -- what the two tell of the part.
-use Rattle.std.proofs.Common.{◌≡◌, ℕ, suc, ◌+◌, ◌-◌, ◌*◌, ◌%◌, ◌^◌, ◌<◌, ◌≤◌, min, Bool, true, false, not, ◌&&◌, eqb, leb, List, [], ◌∷◌, length, get_or, take, drop, sym, refl, ap, ◌∙◌, pow-suc, add-one, arith, take_all, drop-cons, pow_mono, ne_eqb, eqb-true, le-leb, leb-false, leb-true}
+use Rattle.std.proofs.Common.{◌≡◌, ℕ, suc, ◌+◌, ◌-◌, ◌*◌, ◌%◌, ◌^◌, ◌<◌, ◌≤◌, min, Bool, true, false, not, eqb, List, [], ◌∷◌, length, get_or, take, drop, sym, refl, ap, ◌∙◌, pow-suc, add-one, arith, take_all, drop-cons, pow_mono, ne_eqb, eqb-true}
 use lib.Bits.{bit_or, or_add_and, and_le_r}
 use lib.Dec.{leb-zero}
-use borrow.Author.Tests.{lt-leb, eqb-false}
+use borrow.Author.Tests.{eqb-false}
 use Rattle.text.specs.Digits.{is_digit, value, value_after}
+use Rattle.std.specs.Prelude.{Some, None}
 use Rattle.figures.specs.declared.parts.Weighed.{Weighed}
 use Rattle.figures.specs.Layouts.{run, fits}
 use Rattle.figures.specs.Parts.{doubled_after, bits_after, weighed_from, weighed_at}
-use Rattle.figures.specs.Accounts.{passes, no_part, part_of}
-use Rattle.figures.proofs.Runs.{run_past, run_other}
+use Rattle.figures.specs.Accounts.{passes, part_of}
+use Rattle.figures.proofs.Runs.{run_ended, run_other, digit_by, other_by}
 use Rattle.figures.proofs.Endings.{empty_past, empty_before}
 use Rattle.figures.proofs.Weights.{doubled_passes}
 
@@ -54,28 +55,20 @@ module _ (t : List ℕ) (at most stop sum any i : ℕ) (r : Read t at most stop 
 
   -- so many digits, or the text's end
   pub read_end : stop ≤ i → Answer t at most sum any i
-  unfolding run
-  read_end h = answered (go (leb (length t) i) refl)
-    where
-      go : (b : Bool) → leb (length t) i ≡ b → run is_digit (at + most - i) (drop i t) ≡ 0
-      go true e = run_past is_digit (at + most - i) t i (leb-true (length t) i e)
-      go false e = let z : at + most - i ≡ 0 = omega (arith, r.until, leb-false (length t) i e) in rw z
+  read_end h = answered (run_ended is_digit t at most stop i r.until h)
 
   -- a byte, less 48 by remainder of 256
-  module _ (d : ℕ) (h : i < stop) (wraps : (d + 48) % 2 ^ 8 ≡ get_or t i 0) (byte : d < 2 ^ 8) where
+  module _ (d : ℕ) (h : i < stop) (byte : get_or t i 0 < 2 ^ 8) (wraps : d ≡ (get_or t i 0 + 208) % 256) where
     -- a digit
     pub read_more : d ≤ 9 → Read t at most stop (2 * sum + d) (bit_or any d) (i + 1)
     read_more l =
-        let e : get_or t i 0 - 48 ≡ d = omega arith in
-        let low : leb 48 (get_or t i 0) ≡ true = le-leb 48 (get_or t i 0) (omega arith) in
-        let high : leb (get_or t i 0) 57 ≡ true = le-leb (get_or t i 0) 57 (omega arith) in
+        let b = digit_by (get_or t i 0) d byte wraps l in
         let m : at + most - i ≡ suc (at + most - (i + 1)) = omega (arith, r.until) in
-        let g : is_digit (get_or t i 0) ≡ true = rw (low, high) in
         let j : i + 1 - at ≡ suc (i - at) = omega (arith, r.past) in
         record {
           few = r.few;
           until = r.until;
-          same = r.same ∙ rw (m, drop-cons t i 0 (omega (arith, r.until))) (rw (← add-one i) (rw (← e) (digit_first (at + most - (i + 1)) sum any i (get_or t i 0) (drop (i + 1) t) g)));
+          same = r.same ∙ rw (m, drop-cons t i 0 (omega (arith, r.until))) (rw (← add-one i) (rw (← b.1) (digit_first (at + most - (i + 1)) sum any i (get_or t i 0) (drop (i + 1) t) b.0)));
           past = omega (arith, r.past);
           inside = omega arith;
           small = let q : 2 ^ (i + 1 - at) ≡ 2 ^ (i - at) * 2 = ap (λ (k : ℕ). 2 ^ k) j ∙ pow-suc 2 (i - at) in omega (arith, r.small);
@@ -83,11 +76,7 @@ module _ (t : List ℕ) (at most stop sum any i : ℕ) (r : Read t at most stop 
 
     -- any other
     pub read_other : 9 < d → Answer t at most sum any i
-    read_other k = answered (run_other is_digit (at + most - i) t i (omega (arith, r.until)) (go (leb 48 (get_or t i 0)) refl))
-      where
-        go : (b : Bool) → leb 48 (get_or t i 0) ≡ b → (b && leb (get_or t i 0) 57) ≡ false
-        go true e = lt-leb (get_or t i 0) 57 (omega (arith, leb-true 48 (get_or t i 0) e))
-        go false e = refl
+    read_other k = answered (run_other is_digit (at + most - i) t i (omega (arith, r.until)) (other_by (get_or t i 0) d byte wraps k))
 
 -- the bits are 0 where the number is
 both_zero : (a d v : ℕ) → eqb a 0 ≡ eqb v 0 → eqb (bit_or a d) 0 ≡ eqb (v * 10 + d) 0
@@ -125,11 +114,11 @@ module _ (k : ℕ) (s : List ℕ) {w : Weighed} (e : w ≡ weighed_at k s 0) whe
   length_is : run is_digit k s ≡ w.end
   length_is = omega (arith, end_is k s 0 e)
 
-  pub no_part_lem : w.end < length s → no_part ≡ part_of k s
+  pub no_part : w.end < length s → None ≡ part_of k s
   unfolding part_of fits
-  no_part_lem h = rw (length_is, empty_before s w.end h, leb-zero w.end)
+  no_part h = rw (length_is, empty_before s w.end h, leb-zero w.end)
 
-  pub is_part : length s ≤ w.end → record { digits = true; some = not (eqb w.any 0); passes = eqb (w.sum % 11) 0 } ≡ part_of k s
+  pub is_part : length s ≤ w.end → Some (record { some = not (eqb w.any 0); passes = eqb (w.sum % 11) 0 }) ≡ part_of k s
   unfolding part_of fits
   is_part h =
       let a : take (run is_digit k s) s ≡ s = rw length_is (take_all w.end s h) in

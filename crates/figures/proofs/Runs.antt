@@ -1,5 +1,7 @@
 -- The run of bytes of a sort that a text begins with: how long it is, what stands in it, and that what follows it does not matter.
-use Rattle.std.proofs.Common.{◌≡◌, ℕ, zero, suc, ◌^◌, ◌<◌, ◌≤◌, Bool, true, false, cond, List, [], ◌∷◌, length, get_or, take, drop, refl, ◌∙◌, zero-le, le_of_suc-le-suc, not-suc-le-zero, arith, drop_of_length-le, length-take-le, drop-cons}
+use Rattle.std.proofs.Common.{◌≡◌, ℕ, zero, suc, ◌+◌, ◌-◌, ◌%◌, ◌^◌, ◌<◌, ◌≤◌, min, Bool, true, false, cond, List, [], ◌∷◌, length, get_or, take, drop, refl, ◌∙◌, zero-le, le_of_suc-le-suc, not-suc-le-zero, arith, drop_of_length-le, length-take-le, drop-cons, leb, le-leb, leb-false, leb-true}
+use borrow.Author.Tests.{lt-leb}
+use Rattle.laws.proofs.Truth.{by_test}
 use Rattle.text.specs.Digits.{is_digit, all_are_digits, value}
 use Rattle.text.proofs.Widths.{value_lt}
 use Rattle.text.proofs.Reading.{small}
@@ -63,6 +65,26 @@ pub run_other : (f : ℕ → Bool) (h : ℕ) (t : List ℕ) (i : ℕ) → i < le
 unfolding run
 run_other f zero t i l e = refl
 run_other f (suc h) t i l e = rw (drop-cons t i 0 l, e)
+
+-- at most so many from a place on: none is left where those, or the text, end
+pub run_ended : (f : ℕ → Bool) (t : List ℕ) (at most stop i : ℕ) → stop ≡ min (length t) (at + most) → stop ≤ i → run f (at + most - i) (drop i t) ≡ 0
+unfolding run
+run_ended f t at most stop i u h = by_test (leb (length t) i)
+    (λ e. run_past f (at + most - i) t i (leb-true (length t) i e))
+    (λ e. let z : at + most - i ≡ 0 = omega (arith, u, leb-false (length t) i e) in rw z)
+
+-- a byte, less 48 by remainder of 256: below 10 that is a digit, and above 9 no byte that is one
+module _ (b d : ℕ) (byte : b < 2 ^ 8) (wraps : d ≡ (b + 208) % 256) where
+  pub digit_by : d ≤ 9 → (is_digit b ≡ true) × (b - 48 ≡ d)
+  digit_by l =
+      let low : leb 48 b ≡ true = le-leb 48 b (omega arith) in
+      let high : leb b 57 ≡ true = le-leb b 57 (omega arith) in
+      (rw (low, high), omega arith)
+
+  pub other_by : 9 < d → is_digit b ≡ false
+  other_by k = by_test (leb 48 b)
+      (λ e. let high : leb b 57 ≡ false = lt-leb b 57 (omega (arith, leb-true 48 b e)) in rw (e, high))
+      (λ e. rw e)
 
 -- a run of digits
 pub all_digits : (s : List ℕ) → all_are_digits s ≡ all_of is_digit s

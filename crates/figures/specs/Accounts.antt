@@ -1,9 +1,9 @@
 -- The account check (document 01, 'Account check'; 002, 3.2; decree 169/2011; document 02, A4), and the open job.
-use Rattle.std.specs.Prelude.{◌≡◌, ℕ, ◌+◌, ◌-◌, ◌*◌, ◌%◌, ◌^◌, Bool, true, false, cond, not, ◌&&◌, List, [], ◌∷◌, length, ◌==◌}
+use Rattle.std.specs.Prelude.{◌≡◌, ℕ, ◌+◌, ◌-◌, ◌*◌, ◌%◌, ◌^◌, Bool, cond, not, ◌&&◌, List, [], ◌∷◌, length, ◌==◌, Option, Some, None, Result, Ok, Err}
 use Rattle.laws.specs.Refusals.{Refusal, ◌if◌, first}
 use Rattle.text.specs.Digits.{value}
-use Rattle.figures.specs.declared.accounts.Account.{Account}
-use Rattle.figures.specs.declared.accounts.Account.TheVariants.{Judged, NotDigits}
+use Rattle.figures.specs.declared.accounts.AccountError.{AccountError}
+use Rattle.figures.specs.declared.accounts.AccountError.TheVariants.{NotDigits}
 use Rattle.figures.specs.declared.parts.PartRead.{PartRead}
 use Rattle.figures.specs.declared.parts.Number.{Number}
 use Rattle.figures.specs.declared.parts.Number.TheVariants.{Good, Failing, Zero}
@@ -32,19 +32,19 @@ number_by zero passes = cond zero Zero (cond passes Good Failing)
 unfoldable pub halves_of : List ℕ → List ℕ → Halves
 halves_of prefix number = record { prefix = passes prefix; number = number_by (value number == 0) (passes number) }
 
--- what is told of a part of at most so many digits, and of what is none
-abbrev pub no_part : PartRead
-no_part = record { digits = false; some = false; passes = false }
-
-unfoldable pub part_of : ℕ → List ℕ → PartRead
-part_of most bs = cond (fits (num 0 most ∷ []) bs) (record { digits = true; some = not (value bs == 0); passes = passes bs }) no_part
+-- what is told of a part of at most so many digits
+unfoldable pub part_of : ℕ → List ℕ → Option PartRead
+part_of most bs = cond (fits (num 0 most ∷ []) bs) (Some (record { some = not (value bs == 0); passes = passes bs })) None
 
 -- a first part of 0 to 6 digits and a second of 1 to 10
 abbrev pub are_digits : List ℕ → List ℕ → Bool
 are_digits prefix number = fits (num 0 6 ∷ []) prefix && fits (num 1 10 ∷ []) number
 
+abbrev pub Account : Type 0
+Account = Result Halves AccountError
+
 abbrev pub account_by : Bool → Halves → Account
-account_by digits halves = cond digits (Judged halves) NotDigits
+account_by digits halves = cond digits (Ok halves) (Err NotDigits)
 
 -- the answer of the open job
 unfoldable pub account_of : List ℕ → List ℕ → Account
@@ -56,8 +56,8 @@ account_refusals prefix number = (10 if not (are_digits prefix number)) ∷ []
 
 -- document 01's number of each answer, 0 where nothing is refused
 abbrev pub account_number : Account → ℕ
-account_number (Judged h) = 0
-account_number NotDigits = 10
+account_number (Ok h) = 0
+account_number (Err NotDigits) = 10
 
 -- the two halves as numbers: 0 good, 1 failing, 2 zero
 abbrev pub prefix_answer : Bool → ℕ
@@ -70,12 +70,12 @@ number_answer Zero = 2
 
 -- and those of each answer; on a refusal what stood there before
 abbrev pub prefix_value : Account → ℕ → ℕ
-prefix_value (Judged h) old = prefix_answer h.prefix
-prefix_value NotDigits old = old
+prefix_value (Ok h) old = prefix_answer h.prefix
+prefix_value (Err e) old = old
 
 abbrev pub number_value : Account → ℕ → ℕ
-number_value (Judged h) old = number_answer h.number
-number_value NotDigits old = old
+number_value (Ok h) old = number_answer h.number
+number_value (Err e) old = old
 
 -- what the open job promises of its answer: document 01's number for it, and what it says of the two halves
 abbrev pub Judges : List ℕ → List ℕ → Account → Type 0

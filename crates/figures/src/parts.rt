@@ -1,7 +1,7 @@
 // The two parts of an account, and what each is as a half of it.
-ghost use Rattle.std.specs.Prelude.{◌≡◌, ◌+◌, ◌≤◌, min, length};
+ghost use Rattle.std.specs.Prelude.{◌≡◌, ◌≤◌, length};
 ghost use Rattle.figures.specs.Parts.{weighed_at};
-ghost use Rattle.figures.specs.Accounts.{number_by, no_part, part_of};
+ghost use Rattle.figures.specs.Accounts.{number_by, part_of};
 
 // Digits of a part: their sum, doubled and added from the left, their bits, and the place after them.
 #[derive(Clone, Copy)]
@@ -11,81 +11,56 @@ pub struct Weighed {
     pub end: usize,
 }
 
-pub fn wide(b: u8) -> u64
-    ensures { result ≡ b }
-{
-    b as u64
-}
-
-// Where so many bytes from a place on end, or the text does.
-fn stop_of(size: usize, at: usize, most: usize) -> usize
-    requires { at ≤ size }
-    ensures { result ≡ min size (at + most) }
-{
-    if size - at < most {
-        return size;
-    }
-    at + most
-}
-
 // The digits from a place on, at most so many. A weight is twice the one to its right, but for elevens, so each digit is added to twice
 // the sum of those to its left: that divides by 11 where the weighed sum does.
+#[tactic(auto, using(crate::proofs::Reading::sum_le, crate::proofs::Reading::read_start))]
 pub fn weighed_at(t: &[u8], at: usize, most: usize) -> Weighed
     requires { (at ≤ length t.now) × (most ≤ 10) }
     ensures { (result ≡ weighed_at most t.now at) × (at ≤ result.end) × (result.end ≤ length t.now) }
 {
-    let stop = stop_of(t.len(), at, most);
+    let stop = t.len().min(at + most);
     let mut sum: u64 = 0;
     let mut any: u64 = 0;
-    let mut i = at;
-    while i < stop {
-        let e = std::num::wrapping_sub_u8(t[i], 48);
+    for i in at..stop {
+        let e = t[i].wrapping_sub(b'0');
         if 9 < e {
             return Weighed { sum, any, end: i };
         }
-        let d = wide(e);
+        let d = u64::from(e);
         sum = 2 * sum + d;
-        any = any | d;
-        i += 1;
+        any |= d;
     }
-    Weighed { sum, any, end: i }
+    Weighed {
+        sum,
+        any,
+        end: stop,
+    }
 }
 
-// A part that may not be digits: whether it is at most so many of them; if so, whether one is not 0, and whether it passes.
+// A part of digits: whether one is not 0, and whether it passes.
 #[derive(Clone, Copy)]
 pub struct PartRead {
-    pub digits: bool,
     pub some: bool,
     pub passes: bool,
 }
 
-fn no_part() -> PartRead
-    ensures { result ≡ no_part }
-{
-    PartRead {
-        digits: false,
-        some: false,
-        passes: false,
-    }
-}
-
-pub fn part_of(s: &[u8], most: usize) -> PartRead
+// What a text is as a part of at most so many digits; `None` if it is no such part.
+pub fn part_of(s: &[u8], most: usize) -> Option<PartRead>
     requires { most ≤ 10 }
     ensures { result ≡ part_of most s.now }
 {
     let w = weighed_at(s, 0, most);
     if w.end < s.len() {
-        return no_part();
+        return None;
     }
-    PartRead {
-        digits: true,
+    Some(PartRead {
         some: w.any != 0,
         passes: w.sum % 11 == 0,
-    }
+    })
 }
 
 // A number whose sum divides or does not; or one of zero, whose sum is not judged.
-#[derive(Clone, Copy)]
+#[derive(Clone, Copy, Debug, PartialEq, Eq)]
 pub enum Number {
     Good,
     Failing,
@@ -93,7 +68,7 @@ pub enum Number {
 }
 
 // Whether the prefix is good, and what the number is.
-#[derive(Clone, Copy)]
+#[derive(Clone, Copy, Debug, PartialEq, Eq)]
 pub struct Halves {
     pub prefix: bool,
     pub number: Number,
@@ -103,10 +78,10 @@ pub fn number_by(zero: bool, passes: bool) -> Number
     ensures { result ≡ number_by zero passes }
 {
     if zero {
-        return Number::Zero;
+        Number::Zero
+    } else if passes {
+        Number::Good
+    } else {
+        Number::Failing
     }
-    if passes {
-        return Number::Good;
-    }
-    Number::Failing
 }

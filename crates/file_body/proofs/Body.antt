@@ -1,15 +1,19 @@
 -- Laws of the body: what its length says of the file, and the search for its end.
-use mathlib.Core.Path.{◌≡◌, refl, ap}
-use mathlib.Core.Bool.{Bool, true, false, cond, ◌&&◌, ◌||◌}
+use mathlib.Core.Path.{◌≡◌, refl, sym, ap, ◌∙◌}
+use mathlib.Core.Bool.{Bool, true, false, cond, not, ◌&&◌, ◌||◌}
 use mathlib.Core.List.{List, [], ◌∷◌}
 use Prim.Native.Nat.compare
-use Prim.Native.Nat.{ℕ, zero, suc, ◌+◌, ◌<◌, ◌≤◌}
+use Prim.Native.Nat.{ℕ, zero, suc, ◌+◌, ◌-◌, ◌<◌, ◌≤◌}
 use native.Mathlib.Numerals.{add-one}
 use native.Mathlib.Omega.{arith}
 use lib.Dec.{eqb, ltb}
-use lib.ListN.{length, take, drop, get_or, length-take, length-drop, drop_of_length-le}
+use lib.ListN.{length, take, drop, length-take, length-drop}
 use lib.Seq.{drop-cons, drop-drop}
-use borrow.Author.Tests.{lt-ltb, eq-eqb, ne_eqb}
+use borrow.Author.Tests.{lt-ltb, ltb-false, ne_eqb}
+use Rattle.std.specs.List.{list_any, position_or_len, position}
+use Rattle.std.specs.Prelude.{Some, None}
+use Rattle.std.specs.Option.{unwrap_or}
+use Rattle.laws.proofs.Truth.{by_test}
 use Rattle.laws.specs.Lists.{any_of}
 use Rattle.laws.specs.Tests.{is_byte}
 use Rattle.laws.proofs.Any.{or_left, or_right}
@@ -67,42 +71,40 @@ body_empty (b ∷ s) = go (is_byte 0x1a b)
     go true = refl
     go false = rw (ne_eqb (suc (length (body s))) 0 (λ e. omega arith))
 
--- ---- the search: from `at` to i no 1A was met
-
-pub record Passed (s : List ℕ) (at i : ℕ) : Type 0 where
-  pub rest : i + length (body (drop i s)) ≡ at + length (body (drop at s))
-
-pub pass_start : (s : List ℕ) (at : ℕ) → Passed s at at
-pass_start s at = record { rest = refl }
+-- ---- the search
 
 -- n bytes without 1A
-skip : (n : ℕ) (l : List ℕ) → n ≤ length l → any_of (is_byte 0x1a) (take n l) ≡ false → length (body l) ≡ n + length (body (drop n l))
-unfolding body any_of
+skip : (n : ℕ) (l : List ℕ) → n ≤ length l → list_any (is_byte 0x1a) (take n l) ≡ false → length (body l) ≡ n + length (body (drop n l))
+unfolding body
 skip zero l h e = omega arith
 skip (suc n) [] h e = absurd (omega arith)
 skip (suc n) (b ∷ l) h e =
-    let here : is_byte 0x1a b ≡ false = or_left (is_byte 0x1a b) (any_of (is_byte 0x1a) (take n l)) e in
-    let on : length (body l) ≡ n + length (body (drop n l)) = skip n l (omega arith) (or_right (is_byte 0x1a b) (any_of (is_byte 0x1a) (take n l)) e) in
+    let here : is_byte 0x1a b ≡ false = or_left (is_byte 0x1a b) (list_any (is_byte 0x1a) (take n l)) e in
+    let on : length (body l) ≡ n + length (body (drop n l)) = skip n l (omega arith) (or_right (is_byte 0x1a b) (list_any (is_byte 0x1a) (take n l)) e) in
     rw here (omega arith)
 
-pub pass_block : (s : List ℕ) (at i n : ℕ) → Passed s at i → i + n ≤ length s → any_of (is_byte 0x1a) (take n (drop i s)) ≡ false → Passed s at (i + n)
-pass_block s at i n P h e =
-    record { rest = omega (arith, P.rest, skip n (drop i s) (omega (arith, length-drop i s)) e, ap (λ (l : List ℕ). length (body l)) (drop-drop n i s)) }
+-- a block without 1A is passed by
+pub pass_block : (s rest block after : List ℕ) (n : ℕ) → length (body s) + length rest ≡ length s + length (body rest) → n ≤ length rest → block ≡ take n rest → after ≡ drop n rest
+    → list_any (is_byte 0x1a) block ≡ false → length (body s) + length after ≡ length s + length (body after)
+pass_block s rest block after n h k b a e =
+    let on : length (body rest) ≡ n + length (body after) = skip n rest k (ap (list_any (is_byte 0x1a)) (sym b) ∙ e) ∙ ap (λ (l : List ℕ). n + length (body l)) (sym a) in
+    let fewer : length after ≡ length rest - n = ap length a ∙ length-drop n rest in
+    omega arith
 
-pub pass_byte : (s : List ℕ) (at i : ℕ) → Passed s at i → i < length s → (get_or s i 0 ≡ 0x1a → ⊥) → Passed s at (i + 1)
+-- the first 1A, or the end
+first_mark : (s : List ℕ) → length (body s) ≡ position_or_len (is_byte 0x1a) s
 unfolding body
-pass_byte s at i P h k =
-    let on : length (body (drop i s)) ≡ suc (length (body (drop (i + 1) s))) = rw (drop-cons s i 0 h, ne_eqb (get_or s i 0) 0x1a k, add-one) in
-    record { rest = omega (arith, P.rest) }
+first_mark [] = refl
+first_mark (b ∷ s) = go (first_mark s) (is_byte 0x1a b)
+  where
+    go : length (body s) ≡ position_or_len (is_byte 0x1a) s → (t : Bool) → length (cond t [] (b ∷ body s)) ≡ cond (not t) (1 + position_or_len (is_byte 0x1a) s) 0
+    go ih true = refl
+    go ih false = omega arith
 
-pub pass_hit : (s : List ℕ) (at i : ℕ) → Passed s at i → i < length s → get_or s i 0 ≡ 0x1a → i ≡ at + length (body (drop at s))
-unfolding body
-pass_hit s at i P h k =
-    let none : length (body (drop i s)) ≡ 0 = rw (drop-cons s i 0 h, eq-eqb (get_or s i 0) 0x1a k) in
-    omega (arith, P.rest)
-
-pub pass_end : (s : List ℕ) (at i : ℕ) → Passed s at i → length s ≤ i → i ≡ at + length (body (drop at s))
-unfolding body
-pass_end s at i P h =
-    let none : length (body (drop i s)) ≡ 0 = rw (drop_of_length-le s h) in
-    omega (arith, P.rest)
+pub body_at : (s : List ℕ) → unwrap_or (position (is_byte 0x1a) s) (length s) ≡ length (body s)
+body_at s =
+    let n : ℕ = position_or_len (is_byte 0x1a) s in
+    let few : n ≤ length s = omega (arith, body_le s, first_mark s) in
+    by_test (ltb n (length s))
+    (λ e. ap (λ (t : Bool). unwrap_or (cond t (Some n) None) (length s)) e ∙ sym (first_mark s))
+    (λ e. let all : length s ≡ n = omega (arith, ltb-false n (length s) e) in ap (λ (t : Bool). unwrap_or (cond t (Some n) None) (length s)) e ∙ all ∙ sym (first_mark s))

@@ -1,16 +1,14 @@
--- The loops that make rows of keys: of a file's items, of the ranges that a register keeps, and the test of their order.
+-- The loops that make rows of keys: of a file's items, of the ranges that a register keeps.
 use Prim.Native.Nat.{ℕ, ◌+◌, ◌-◌, ◌*◌, ◌≤◌, ◌<◌}
 use native.Mathlib.Omega.{arith}
 use mathlib.Core.Path.{◌≡◌, refl, sym, ap, subst, ◌∙◌}
 use mathlib.Core.Bool.{Bool, true, false, cond}
 use mathlib.Core.List.{List, [], ◌∷◌, ◌++◌, append-nil}
 use lib.Dec.{eqb}
-use lib.ListN.{length, take, drop, get_or, set}
+use lib.ListN.{length, take, drop, set}
 use borrow.Author.Tests.{eqb-false, eq-eqb, ne_eqb}
 use Rattle.laws.proofs.Truth.{by_test}
 use Rattle.days.specs.Days.{later}
-use Rattle.headings.specs.declared.Read.{Read}
-use Rattle.headings.specs.declared.Read.TheVariants.{Reads, Unreadable}
 use Rattle.lines.specs.Lines.{lines}
 use Rattle.rules.specs.Rows.{rows_from}
 use Rattle.item_reader.specs.declared.Next.{Next}
@@ -18,37 +16,31 @@ use Rattle.item_reader.specs.declared.Slip.{Slip}
 use Rattle.item_reader.specs.declared.Numbered.{Numbered}
 use Rattle.item_reader.specs.Slips.{slips_from, Headed, IsFirst, IsSlip}
 use Rattle.item_reader.specs.Accepted.{Each, Readable, IsNumbered}
-use Rattle.sorting.specs.Sorting.{Rises}
 use Rattle.register.specs.Bytes.{big_at}
 use Rattle.register.specs.Register.{Range, ranges_in}
 use Rattle.register.specs.Entering.{Use, used_at, used, kept}
 use Rattle.register.specs.Spans.{Span, day_key, use_keys, span_of, spans_of, froms, tos}
 use Rattle.register_reader.proofs.Standing.{range, next_is}
 use Rattle.gathering.specs.Keys.{key_at, Gathered, Kept}
-use Rattle.merging.proofs.Turns.{drop_past, drop_more, stored}
-
--- ---- keys in order
-pub rises_more : (keys : List ℕ) (i last : ℕ) → i < length keys → last ≤ get_or keys i 0 → (Rises last (drop i keys) → Rises 0 keys) → Rises (get_or keys i 0) (drop (i + 1) keys) → Rises 0 keys
-rises_more keys i last h l f r = f (rw (drop_more keys i h) (l, r))
-
-pub rises_end : (keys : List ℕ) (i last : ℕ) → length keys ≤ i → (Rises last (drop i keys) → Rises 0 keys) → Rises 0 keys
-rises_end keys i last h f = f (rw (drop_past keys i h) tt)
+use Rattle.merging.proofs.Turns.{drop_past, stored}
+use Rattle.headings.specs.declared.Heading.{Heading}
+use Rattle.std.specs.Prelude.{None, Option, Some}
 
 -- ---- the keys of a file
-keyed : (head : Read) (us : List Use) → use_keys (used_at head us) ≡ cond (eqb (key_at head) 0) (use_keys us) (key_at head ∷ use_keys us)
-keyed (Reads h) us = by_test (eqb h.number.0 0)
+keyed : (head : Option Heading) (us : List Use) → use_keys (used_at head us) ≡ cond (eqb (key_at head) 0) (use_keys us) (key_at head ∷ use_keys us)
+keyed (Some h) us = by_test (eqb h.number.0 0)
     (λ p. rw p)
     (λ p. rw p (rw (ne_eqb (day_key h.day h.number.0) 0 (λ e. eqb-false h.number.0 0 p (omega (arith, e))))))
-keyed Unreadable us = refl
+keyed None us = refl
 
 module _ {s : List ℕ} {at : ℕ} {x : Numbered} (X : IsNumbered s at x) where
-  key_is : key_at (Reads X.heading) ≡ cond (eqb x.number 0) 0 (day_key x.day x.number)
+  key_is : key_at (Some X.heading) ≡ cond (eqb x.number 0) 0 (day_key x.day x.number)
   key_is = let d = sym X.day in let n = sym X.number in λ i. cond (eqb (n i) 0) 0 (day_key (d i) (n i))
 
-  pub key_none : x.number ≡ 0 → 0 ≡ key_at (Reads X.heading)
+  pub key_none : x.number ≡ 0 → 0 ≡ key_at (Some X.heading)
   key_none z = sym (key_is ∙ (rw (eq-eqb x.number 0 z)))
 
-  pub key_used : (x.number ≡ 0 → ⊥) → {k : ℕ} → k ≡ day_key x.day x.number → (k ≡ key_at (Reads X.heading)) × (k ≡ 0 → ⊥)
+  pub key_used : (x.number ≡ 0 → ⊥) → {k : ℕ} → k ≡ day_key x.day x.number → (k ≡ key_at (Some X.heading)) × (k ≡ 0 → ⊥)
   key_used z q = (q ∙ sym (key_is ∙ (rw (ne_eqb x.number 0 z))), λ e. z (omega (arith, e, q)))
 
 pub record Gathering (s keys : List ℕ) (n at : ℕ) : Type 0 where
@@ -98,9 +90,9 @@ module _ {s keys : List ℕ} where
       past : at + 54 ≤ x.next
       past = go x.slip.head refl
         where
-          go : (head : Read) → x.slip.head ≡ head → at + 54 ≤ x.next
-          go (Reads h) q = X.long h q
-          go Unreadable q = absurd (z (e ∙ ap key_at q))
+          go : (head : Option Heading) → x.slip.head ≡ head → at + 54 ≤ x.next
+          go (Some h) q = X.long h q
+          go None q = absurd (z (e ∙ ap key_at q))
 
       pub gather_room : n < length keys
       gather_room = omega (arith, past, X.within, G.few, room, long)

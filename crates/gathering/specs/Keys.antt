@@ -1,14 +1,13 @@
 -- Model of the code, not part of the statement: what a file uses and what a register keeps, as rows of keys in lent memory.
-use Rattle.std.specs.Prelude.{ℕ, ◌*◌, ◌≤◌, ◌≡◌, cond, List, [], ◌∷◌, eqb, length, take}
-use Rattle.headings.specs.declared.Read.{Read}
-use Rattle.headings.specs.declared.Read.TheVariants.{Reads, Unreadable}
+use Rattle.std.specs.Prelude.{ℕ, ◌*◌, ◌≤◌, ◌≡◌, cond, List, [], ◌∷◌, eqb, length, take, None, Option, Some}
 use Rattle.register.specs.Entering.{Use}
 use Rattle.register.specs.Spans.{Span, day_key, use_keys, froms, tos}
+use Rattle.headings.specs.declared.Heading.{Heading}
 
 -- the key of a heading, 0 where it uses no number
-abbrev pub key_at : Read → ℕ
-key_at (Reads h) = cond (eqb h.number.0 0) 0 (day_key h.day h.number.0)
-key_at Unreadable = 0
+abbrev pub key_at : Option Heading → ℕ
+key_at (Some h) = cond (eqb h.number.0 0) 0 (day_key h.day h.number.0)
+key_at None = 0
 
 -- each day is later than 0 and has eight digits, as a day of an accepted file has
 abbrev pub Dated : List Use → Type 0

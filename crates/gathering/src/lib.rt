@@ -9,7 +9,7 @@ ghost use Rattle.item_reader.specs.Accepted.{Readable, Each};
 ghost use Rattle.register.specs.Register.{ranges_in};
 ghost use Rattle.register.specs.Entering.{used, kept};
 ghost use Rattle.register.specs.Spans.{day_key, spans_of};
-ghost use Rattle.sorting.specs.Sorting.{Rises, Within, Ordered};
+ghost use Rattle.sorting.specs.Sorting.{Within, Ordered};
 ghost use Rattle.gathering.specs.Keys.{Gathered, Kept};
 
 use register::bytes;
@@ -31,6 +31,7 @@ pub fn gather(s: &[u8], keys: &mut [u64]) -> usize
     let mut word: u64 = 0;
     let mut day: u32 = 0;
     let mut at = item_reader::heading_from(s, 0);
+    // No range: how far an item reaches is known once it is read.
     while at < s.len() {
         let x = item_reader::number_at(s, at, word, day);
         let number = x.number;
@@ -45,31 +46,12 @@ pub fn gather(s: &[u8], keys: &mut [u64]) -> usize
     n
 }
 
-// No key is below the one before it.
-fn ascends(keys: &[u64]) -> bool
-    ensures { result ≡ true → Rises 0 keys.now }
-{
-    let mut last = 0;
-    let mut i = 0;
-    while i < keys.len() {
-        if keys[i] < last {
-            return false;
-        }
-        last = keys[i];
-        i += 1;
-    }
-    true
-}
-
 // The usual file has its numbers in order: there it is one walk.
 pub fn put_in_order(keys: &mut [u64])
     requires { Within 0 1000000000000000 keys.old }
     ensures { Ordered 0 keys.old keys.new }
 {
-    if ascends(keys) {
-        return;
-    }
-    sorting::sort(keys, 0, 1000000000000000);
+    sorting::sort(keys);
 }
 
 // The first and last keys of the ranges that stay for an accounting day.
@@ -78,19 +60,18 @@ pub fn keep(register: &[u8], day: u32, n: usize, starts: &mut [u64], ends: &mut 
     ensures { Kept (spans_of (kept day (ranges_in n (drop 13 register.now)))) result starts.new ends.new }
 {
     let mut k = 0;
-    let mut at = 13;
-    let mut left = n;
-    while 0 < left {
+    for i in 0..n {
+        let at = 13 + 12 * i;
         let then = bytes::read(register, at, 4);
         let from = bytes::read(register, at + 4, 4);
         let to = bytes::read(register, at + 8, 4);
-        at += 12;
-        left -= 1;
-        if !register_reader::later(day, then, 10) {
-            starts[k] = day_key(then, from);
-            ends[k] = day_key(then, to);
-            k += 1;
+        let old = register_reader::later(day, then, 10);
+        if old {
+            continue;
         }
+        starts[k] = day_key(then, from);
+        ends[k] = day_key(then, to);
+        k += 1;
     }
     k
 }

@@ -117,10 +117,9 @@ pub fn go_on(
     let next = j.next;
     if !j.ended {
         return Going {
-            pass,
             held: line,
-            at: g.at,
             came: g.came + s.len() as u32,
+            ..g
         };
     }
     let p = judge_kept(line, g.at, basis, lines, rules, offsets, stood, pass);

@@ -7,7 +7,7 @@ ghost use Rattle.headings.specs.ItemTypes.{group_of};
 ghost use Rattle.blocks.specs.Model.{count_cap, sum_cap};
 ghost use Rattle.group_sums.specs.Model.{plus_at};
 
-use blocks::groups::capped;
+use blocks::groups::{COUNT_CAP, SUM_CAP, capped};
 
 // One amount more in the group of a type.
 pub fn add_amount(counts: &mut [u64; 10], sums: &mut [u64; 10], kind: u32, amount: u64)
@@ -16,7 +16,7 @@ pub fn add_amount(counts: &mut [u64; 10], sums: &mut [u64; 10], kind: u32, amoun
 {
     let d = (kind / 10) as usize;
     if d < 10 {
-        counts[d] = capped(10000000, counts[d], 1);
-        sums[d] = capped(100000000000000000, sums[d], amount);
+        counts[d] = capped(COUNT_CAP, counts[d], 1);
+        sums[d] = capped(SUM_CAP, sums[d], amount);
     }
 }

@@ -13,14 +13,12 @@ pub fn is_ready(lines: &[u32], rules: &[u32], n: usize) -> bool
         return false;
     }
     let mut low = 0u64;
-    let mut i = 0;
-    while i < n {
+    for i in 0..n {
         let k = ledger::key_of(lines[i], rules[i]);
         if k < low {
             return false;
         }
         low = k;
-        i += 1;
     }
     true
 }

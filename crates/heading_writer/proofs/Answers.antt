@@ -1,11 +1,11 @@
--- Writing a heading, in each of its three cases.
+-- Writing a heading, where it is written.
 use mathlib.Core.Path.{◌≡◌, ap, ◌∙◌}
-use mathlib.Core.Bool.{true, false}
+use mathlib.Core.Bool.{true}
 use mathlib.Core.List.{List, ◌++◌}
-use Prim.Native.Nat.{ℕ, ◌≤◌, ◌<◌}
+use Prim.Native.Nat.{ℕ, ◌≤◌}
 use native.Mathlib.Nat.{zero-add}
 use lib.ListN.{length, drop}
-use borrow.Author.Tests.{lt-ltb, le-ltb}
+use borrow.Author.Tests.{le-ltb}
 use Rattle.laws.specs.Lists.{put}
 use Rattle.laws.specs.Refusals.{first}
 use Rattle.text.specs.Forms.{template}
@@ -24,16 +24,8 @@ pub at_start : (h : Heading) {before after : List ℕ} {end : ℕ} → Wrote bef
 unfolding put
 at_start h {before} w = w.holds ∙ ap (λ (n : ℕ). heading_text h ++ drop n before) (zero-add (length (heading_text h)) ∙ text_size h)
 
-module _ (h : Heading) (t : List ℕ) where
-  pub too_large : fits_heading h ≡ false → (17 ≡ first (write_refusals h (length t))) × (t ≡ written_target h t)
-  unfolding written_target
-  too_large e = (rw e, rw e)
-
-  module _ (e : fits_heading h ≡ true) where
-    pub too_short : length t < 54 → (16 ≡ first (write_refusals h (length t))) × (t ≡ written_target h t)
-    unfolding written_target
-    too_short l = (rw (e, lt-ltb _ 54 l), rw (e, lt-ltb _ 54 l))
-
-    pub done : 54 ≤ length t → (0 ≡ first (write_refusals h (length t))) × (heading_text h ++ drop 54 t ≡ written_target h t)
-    unfolding written_target
-    done l = (rw (e, le-ltb _ 54 l), rw (e, le-ltb _ 54 l))
+-- where nothing is refused
+pub done : (h : Heading) (t : List ℕ) → fits_heading h ≡ true → 54 ≤ length t
+    → (0 ≡ first (write_refusals h (length t))) × (heading_text h ++ drop 54 t ≡ written_target h t)
+unfolding written_target
+done h t e l = (rw (e, le-ltb _ 54 l), rw (e, le-ltb _ 54 l))

@@ -2,8 +2,9 @@
 use mathlib.Core.Path.{◌≡◌, sym, ◌∙◌}
 use mathlib.Core.List.{List}
 use Prim.Native.Nat.{ℕ}
-use Rattle.headings.specs.declared.Read.{Read}
 use Rattle.headings.specs.Reading.{ReadsAs}
+use Rattle.headings.specs.declared.Heading.{Heading}
+use Rattle.std.specs.Prelude.{Option}
 
-pub read_unique : (s : List ℕ) {r r' : Read} → ReadsAs s r → ReadsAs s r' → r ≡ r'
+pub read_unique : (s : List ℕ) {r r' : Option Heading} → ReadsAs s r → ReadsAs s r' → r ≡ r'
 read_unique s e f = e.1 ∙ sym f.1

@@ -1,11 +1,9 @@
 -- Reading a heading (document 01, 'Layouts'; 000, 3.1): which texts are one, and what they say.
-use Rattle.std.specs.Prelude.{ℕ, ◌≡◌, Bool, cond, not, List, [], ◌∷◌, get_or}
+use Rattle.std.specs.Prelude.{ℕ, ◌≡◌, Bool, cond, not, List, [], ◌∷◌, get_or, None, Option, Some}
 use Rattle.laws.specs.Ascii.{ascii}
 use Rattle.laws.specs.Refusals.{Refusal, ◌if◌, first}
 use Rattle.text.specs.Forms.{Piece, fixed, padded, template, has_form, numbers}
 use Rattle.headings.specs.declared.Heading.{Heading}
-use Rattle.headings.specs.declared.Read.{Read}
-use Rattle.headings.specs.declared.Read.TheVariants.{Reads, Unreadable}
 
 -- 'HD: type 2, day 8, first code 7, input number 7, second code 7, output number 7, third code 7, all fixed: 54 bytes'
 abbrev pub layout : List Piece
@@ -30,18 +28,18 @@ abbrev pub is_heading : List ℕ → Bool
 is_heading s = has_form (template layout) s
 
 -- what reading a text gives
-unfoldable pub heading_of : List ℕ → Read
-heading_of s = cond (is_heading s) (Reads (heading_from (numbers layout s))) Unreadable
+unfoldable pub heading_of : List ℕ → Option Heading
+heading_of s = cond (is_heading s) (Some (heading_from (numbers layout s))) None
 
 -- document 01's number for each answer
-abbrev pub read_number : Read → ℕ
-read_number (Reads h) = 0
-read_number Unreadable = 11
+abbrev pub read_number : Option Heading → ℕ
+read_number (Some h) = 0
+read_number None = 11
 
 -- '11: not 54 bytes in the heading layout'
 abbrev pub read_refusals : List ℕ → List Refusal
 read_refusals s = (11 if not (is_heading s)) ∷ []
 
 -- what reading promises of its answer: document 01's number for it, and the heading that the text says
-abbrev pub ReadsAs : List ℕ → Read → Type 0
+abbrev pub ReadsAs : List ℕ → Option Heading → Type 0
 ReadsAs s r = (read_number r ≡ first (read_refusals s)) × (r ≡ heading_of s)

@@ -2,42 +2,33 @@
 ghost use Rattle.std.specs.Prelude.{◌≡◌};
 ghost use Rattle.headings.specs.ItemTypes.{is_input, is_trilateral, is_priority, is_payment};
 
+#[tactic(auto, unfolding(crate::specs::ItemTypes::is_input))]
 pub fn is_input(kind: u32) -> bool
     ensures { result ≡ is_input kind }
 {
-    (kind == 1)
-        | (kind == 11)
-        | (kind == 12)
-        | (kind == 13)
-        | (kind == 14)
-        | (kind == 21)
-        | (kind == 32)
-        | (kind == 33)
-        | (kind == 35)
-        | (kind == 37)
-        | (kind == 44)
-        | (kind == 45)
-        | (kind == 51)
-        | (kind == 55)
-        | (kind == 96)
-        | (kind == 97)
-        | (kind == 98)
+    matches!(
+        kind,
+        1 | 11 | 12 | 13 | 14 | 21 | 32 | 33 | 35 | 37 | 44 | 45 | 51 | 55 | 96 | 97 | 98
+    )
 }
 
+#[tactic(auto, unfolding(crate::specs::ItemTypes::is_trilateral))]
 pub fn is_trilateral(kind: u32) -> bool
     ensures { result ≡ is_trilateral kind }
 {
-    (kind == 35) | (kind == 37) | (kind == 45)
+    matches!(kind, 35 | 37 | 45)
 }
 
+#[tactic(auto, unfolding(crate::specs::ItemTypes::is_priority))]
 pub fn is_priority(kind: u32) -> bool
     ensures { result ≡ is_priority kind }
 {
-    (kind == 1) | (kind == 21) | (kind == 44) | (kind == 45)
+    matches!(kind, 1 | 21 | 44 | 45)
 }
 
+#[tactic(auto, unfolding(crate::specs::ItemTypes::is_payment))]
 pub fn is_payment(kind: u32) -> bool
     ensures { result ≡ is_payment kind }
 {
-    is_input(kind) & !(kind == 51)
+    is_input(kind) && kind != 51
 }

@@ -29,10 +29,3 @@ pub struct Heading {
     pub output: ItemNo,
     pub third: Code,
 }
-
-// What a heading's text gives.
-#[derive(Clone, Copy)]
-pub enum Read {
-    Reads(Heading),
-    Unreadable,
-}

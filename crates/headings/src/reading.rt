@@ -2,17 +2,17 @@
 ghost use Rattle.std.specs.Prelude.{◌≡◌};
 ghost use Rattle.headings.specs.Reading.{read_number, ReadsAs};
 
-use super::{Code, Heading, ItemNo, Read};
+use super::{Code, Heading, ItemNo};
 use text::forms::{has_form, part};
 
-pub fn read(text: &[u8]) -> Read
+pub fn read(text: &[u8]) -> Option<Heading>
     ensures { ReadsAs text.now result }
 {
     if has_form(
         b"HD:00 00000000 0000000 0000000 0000000 0000000 0000000",
         text,
     ) {
-        Read::Reads(Heading {
+        Some(Heading {
             kind: part(text, 3, 2),
             day: part(text, 6, 8),
             first: Code(part(text, 15, 7)),
@@ -22,16 +22,16 @@ pub fn read(text: &[u8]) -> Read
             third: Code(part(text, 47, 7)),
         })
     } else {
-        Read::Unreadable
+        None
     }
 }
 
-// Document 01's number of an answer, 0 where nothing is refused.
-pub fn number_of(r: Read) -> u32
+// Document 01's number of an answer, 0 where nothing is refused. By hand: an Option carries no error that a From could number.
+pub fn number_of(r: Option<Heading>) -> u32
     ensures { result ≡ read_number r }
 {
     match r {
-        Read::Reads(h) => 0,
-        Read::Unreadable => 11,
+        Some(h) => 0,
+        None => 11,
     }
 }

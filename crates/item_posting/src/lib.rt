@@ -3,17 +3,17 @@
 // `listing` for checking's refusals, which an answer can hold.
 #![tactic(auto)]
 
-ghost use Rattle.std.specs.Prelude.{map, ◌≤◌, length};
+ghost use Rattle.std.specs.Prelude.{◌≡◌, map, ◌≤◌, length};
 ghost use Rattle.item_reader.specs.Slips.{slips_from};
 ghost use Rattle.turnovers.specs.Scheme.{posting_of};
-ghost use Rattle.item_posting.specs.Items.{PostsItems};
+ghost use Rattle.item_posting.specs.Items.{PostsItems, unposted_number};
+ghost use Rattle.item_posting.specs.declared.PostError.TheVariants.{Refused};
 
 use listing::checking::Unchecked;
 
-// The list's refusal, checking's own, then 20, 21, 22; otherwise the file is posted.
-#[derive(Clone, Copy)]
-pub enum Posted {
-    Done,
+// Why a file is not posted: the list's refusal, checking's own, then 20, 21, 22.
+#[derive(Clone, Copy, Debug, PartialEq, Eq)]
+pub enum PostError {
     BadList,
     Refused(Unchecked),
     HasFaults,
@@ -21,19 +21,42 @@ pub enum Posted {
     TooLarge,
 }
 
+impl From<Unchecked> for PostError {
+    ghost from_gives = { λ refusal error. error ≡ Refused refusal };
+
+    fn from(refusal: Unchecked) -> PostError {
+        PostError::Refused(refusal)
+    }
+}
+
+// Document 02's number of a refusal.
+impl From<PostError> for u32 {
+    ghost from_gives = { λ error number. number ≡ unposted_number error };
+
+    fn from(error: PostError) -> u32 {
+        match error {
+            PostError::BadList => 19,
+            PostError::Refused(refusal) => u32::from(refusal),
+            PostError::HasFaults => 20,
+            PostError::NotListed => 21,
+            PostError::TooLarge => 22,
+        }
+    }
+}
+
 // The items of an accepted file. All goes to a copy, which is stored once, so that a refusal found on the way leaves the sheet alone.
-pub fn post_items(codes: &[u32], turnovers: &mut [i64; 256], s: &[u8]) -> Posted
+pub fn post_items(codes: &[u32], turnovers: &mut [i64; 256], s: &[u8]) -> Result<(), PostError>
     requires { length codes.now ≤ 64 }
     ensures { PostsItems codes.now turnovers.old (map posting_of (slips_from 1 s.now)) result turnovers.new }
 {
     let mut work = *turnovers;
     let t = booking::book_items(codes, &mut work, s);
     if t.unlisted {
-        return Posted::NotListed;
+        return Err(PostError::NotListed);
     }
     if t.beyond {
-        return Posted::TooLarge;
+        return Err(PostError::TooLarge);
     }
     *turnovers = work;
-    Posted::Done
+    Ok(())
 }

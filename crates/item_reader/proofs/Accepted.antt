@@ -14,8 +14,6 @@ use Rattle.laws.proofs.Truth.{never_true, both_left}
 use Rattle.lines.specs.Lines.{body, lines}
 use Rattle.headings.specs.declared.Heading.{Heading}
 use Rattle.headings.specs.declared.Amount.{Amount}
-use Rattle.headings.specs.declared.Read.{Read}
-use Rattle.headings.specs.declared.Read.TheVariants.{Reads, Unreadable}
 use Rattle.headings.specs.HeadRules.{rule10, rule13, rule14}
 use Rattle.figures.specs.Layouts.{fits, part}
 use Rattle.fields.specs.Kinds.{place, named}
@@ -24,7 +22,7 @@ use Rattle.fields.specs.declared.classes.Class.TheVariants.{Money}
 use Rattle.fields.specs.declared.readings.Reading.TheVariants.{Paid as PaidReading}
 use Rattle.fields.specs.Readings.{text_of, layout_of, reading_of, said_by, if_fits}
 use Rattle.fields.specs.Tails.{takes, reads}
-use Rattle.rules.specs.declared.FirstKc.TheVariants.{Pays}
+use Rattle.rules.specs.declared.First.TheVariants.{Says}
 use Rattle.rules.specs.Terms.{Terms}
 use Rattle.rules.specs.Tests.{Spot, ◌if◌}
 use Rattle.rules.specs.Rows.{Row, FieldRow, rows_from}
@@ -40,6 +38,7 @@ use Rattle.rules.proofs.ByRule.{six_at_field, six_at_heading, at_readable}
 use Rattle.item_reader.specs.Slips.{kc_among, slip_of, slips_from}
 use Rattle.item_reader.specs.Accepted.{Fine, Each}
 use Rattle.item_reader.proofs.Passing.{says_kc}
+use Rattle.std.specs.Prelude.{None, Option, Some}
 
 -- ---- a KC that reads is paid
 paid_line : (s : List ℕ) → fits (layout_of Money).own s ≡ true → (a : Amount) × (d : ℕ) × (reading_of Money s ≡ PaidReading a d)
@@ -50,7 +49,7 @@ kc_reads : (l : List ℕ) (ls : List (List ℕ)) → reads (class_of (named "KC"
 unfolding reads takes class_of place
 kc_reads l ls e = both_left (fits (layout_of Money).own (text_of l)) true e
 
-paid_group : (g : Owned FieldRow) → g.owner.ident ≡ named "KC" → rule6 g ≡ false → (a : Amount) × (d : ℕ) × (kc_by (says g) ≡ Pays a d)
+paid_group : (g : Owned FieldRow) → g.owner.ident ≡ named "KC" → rule6 g ≡ false → (a : Amount) × (d : ℕ) × (kc_by (says g) ≡ Says (record { amount = a; day = d }))
 paid_group g i e =
     let b = g.owner.row.bytes in
     let r : reads (class_of (named "KC")) b (continuations g.below) ≡ true =
@@ -75,14 +74,14 @@ module _ (terms : Terms) (file : List ℕ) (clean : length (faults terms file) �
 
   -- ---- the fields of an item
   kc_in : (h : Owned Row) (above gs : List (Owned FieldRow)) → Within (fields terms (some h) above gs) → no_kc (kc_among gs) ≡ false
-      → (a : Amount) × (d : ℕ) × (kc_among gs ≡ Pays a d)
+      → (a : Amount) × (d : ℕ) × (kc_among gs ≡ Says (record { amount = a; day = d }))
   unfolding first_said
   kc_in h above [] W n = absurd (true≢false n)
   kc_in h above (g ∷ gs) W n = go (eqb g.owner.ident (named "KC")) refl (kc_in h (g ∷ above) gs (λ s m. W s (Memᴰ.tail (Memᴰ.append_right (lows inside g.below) m)))) n
     where
-      go : (t : Bool) → eqb g.owner.ident (named "KC") ≡ t → (no_kc (kc_among gs) ≡ false → (a : Amount) × (d : ℕ) × (kc_among gs ≡ Pays a d))
+      go : (t : Bool) → eqb g.owner.ident (named "KC") ≡ t → (no_kc (kc_among gs) ≡ false → (a : Amount) × (d : ℕ) × (kc_among gs ≡ Says (record { amount = a; day = d })))
           → no_kc (kc_of (or_else (if_there t (says g)) (first_said (is (named "KC")) gs))) ≡ false
-          → (a : Amount) × (d : ℕ) × (kc_of (or_else (if_there t (says g)) (first_said (is (named "KC")) gs)) ≡ Pays a d)
+          → (a : Amount) × (d : ℕ) × (kc_of (or_else (if_there t (says g)) (first_said (is (named "KC")) gs)) ≡ Says (record { amount = a; day = d }))
       go true q ih w =
           paid_group g (eqb-true g.owner.ident (named "KC") q)
           (holds_not (rule6 g) _ (six_at_field terms file h above g (W _ (Memᴰ.head refl))))
@@ -90,9 +89,9 @@ module _ (terms : Terms) (file : List ℕ) (clean : length (faults terms file) �
 
   -- ---- an item
   module _ (above : List Item) (i : Item) (below : List Item) (at : Memᴰ (head_spot terms above i below) (spots_of terms file)) (W : Within (fields terms (some i.head) [] i.fields)) where
-    module _ (h : Heading) (q : head_of i.head ≡ Reads h) where
+    module _ (h : Heading) (q : head_of i.head ≡ Some h) where
       -- 10 to 15
-      own : (r : ℕ) (b : Bool) → Memᴰ (r if b) (own_tests terms (digest i) (Reads h)) → b ≡ false
+      own : (r : ℕ) (b : Bool) → Memᴰ (r if b) (own_tests terms (digest i) (Some h)) → b ≡ false
       own r b t = holds_not b _ (at_readable terms file above i below at h q r b (inl t))
 
       fine_by : Fine terms (slip_of i)
@@ -114,9 +113,9 @@ module _ (terms : Terms) (file : List ℕ) (clean : length (faults terms file) �
     fine : Fine terms (slip_of i)
     fine = go (head_of i.head) refl (holds_not (rule6_at i.head) _ (six_at_heading terms file above i below at))
       where
-        go : (r : Read) → head_of i.head ≡ r → is_unreadable r ≡ false → Fine terms (slip_of i)
-        go (Reads h) q u = fine_by h q
-        go Unreadable q u = absurd (true≢false u)
+        go : (r : Option Heading) → head_of i.head ≡ r → is_unreadable r ≡ false → Fine terms (slip_of i)
+        go (Some h) q u = fine_by h q
+        go None q u = absurd (true≢false u)
 
   -- ---- all items
   all_fine : (above is : List Item) → Within (items terms above is) → Each (Fine terms) (map slip_of is)

@@ -1,14 +1,15 @@
 -- A heading that is known to read: its numbers stand at their places, and the next one may be searched for from the line after it on.
-use Prim.Native.Nat.{ℕ, zero, suc, ◌+◌, ◌-◌, ◌≤◌, ◌<◌}
+use Prim.Native.Nat.{ℕ, ◌+◌, ◌-◌, ◌≤◌, ◌<◌}
 use native.Mathlib.Omega.{arith}
 use mathlib.Core.Path.{◌≡◌, refl, sym, ap, subst, ◌∙◌}
 use mathlib.Core.Bool.{Bool, true, false, cond}
-use mathlib.Core.List.{List, [], ◌∷◌, ◌++◌}
+use mathlib.Core.List.{List, ◌∷◌, ◌++◌}
 use mathlib.Core.Logic.{inl, inr}
 use lib.ListN.{length, take, drop, replicate, length-take, length-drop}
 use lib.Seq.{take-take, drop-drop}
 use Rattle.laws.specs.Lists.{any_of}
 use Rattle.laws.specs.Tests.{is_byte}
+use Rattle.ledger.proofs.Putting.{drop_take}
 use Rattle.text.specs.Characters.{is_odd}
 use Rattle.text.specs.Digits.{all_are_digits, value}
 use Rattle.text.specs.Forms.{template, part_at, numbers}
@@ -19,7 +20,6 @@ use Rattle.words.specs.Words.{bytes_of}
 use Rattle.lines.specs.declared.Found.{Found}
 use Rattle.lines.proofs.Reading.{is_next, line_block}
 use Rattle.headings.specs.declared.Heading.{Heading}
-use Rattle.headings.specs.declared.Read.TheVariants.{Reads, Unreadable}
 use Rattle.headings.specs.Reading.{layout, heading_from, is_heading, heading_of}
 use Rattle.headings.proofs.Places.{found, read_size}
 use Rattle.item_reader.specs.Slips.{slips_from, Headed, IsFirst, IsHead}
@@ -27,19 +27,17 @@ use Rattle.item_reader.specs.Search.{reads_to, IsPast}
 use Rattle.item_reader.specs.Accepted.{Each, Readable, IsNumbered}
 use Rattle.item_reader.proofs.Passing.{slips_in, kc_in, top_in, kc_alike, top_alike, kc_small, item_here}
 use Rattle.item_reader.proofs.Slips.{read_plain}
+use Rattle.std.specs.Prelude.{None, Some}
 
 -- a part of a front
 part_of : (k n m : ℕ) (x : List ℕ) → k + n ≤ m → take n (drop k (take m x)) ≡ take n (drop k x)
-part_of zero n m x h = take-take n m x (omega arith)
-part_of (suc k) n zero x h = absurd (omega arith)
-part_of (suc k) n (suc m) [] h = refl
-part_of (suc k) n (suc m) (b ∷ x) h = part_of k n m x (omega arith)
+part_of k n m x h = ap (take n) (drop_take k m x) ∙ take-take n (m - k) (drop k x) (omega arith)
 
-reads_form : (x : List ℕ) (h : Heading) → heading_of x ≡ Reads h → is_heading x ≡ true
+reads_form : (x : List ℕ) (h : Heading) → heading_of x ≡ Some h → is_heading x ≡ true
 unfolding heading_of
 reads_form x h e = go (is_heading x) refl e
   where
-    go : (t : Bool) → is_heading x ≡ t → cond t (Reads (heading_from (numbers layout x))) Unreadable ≡ Reads h → is_heading x ≡ true
+    go : (t : Bool) → is_heading x ≡ t → cond t (Some (heading_from (numbers layout x))) None ≡ Some h → is_heading x ≡ true
     go true q w = q
     go false q w = let z : ◌≡◌ {A = ℕ} 0 1 = cc in absurd (omega arith)
 
@@ -53,17 +51,17 @@ module _ (s : List ℕ) (at : ℕ) (l : at < length s) (H : Headed s at) (R : Ea
   abbrev below : List Line
   below = lines (drop (line_at s at).next s)
 
-  item_at : (n : ℕ) → slips_from n (drop at s) ≡ record { head = cond (top_in n below) Unreadable (heading_of text); kc = kc_in n below } ∷ slips_in n below
+  item_at : (n : ℕ) → slips_from n (drop at s) ≡ record { head = cond (top_in n below) None (heading_of text); kc = kc_in n below } ∷ slips_in n below
   item_at n = ap (slips_in n) N.cut ∙ item_here (record { bytes = text; ended = (line_at s at).ended }) below n H
 
-  known : Readable (record { head = cond (top_in 1 below) Unreadable (heading_of text); kc = kc_in 1 below })
+  known : Readable (record { head = cond (top_in 1 below) None (heading_of text); kc = kc_in 1 below })
   known = (subst (Each Readable) (item_at 1) R).0
 
   -- it has no continuation, and its line reads
-  told : (top_in 1 below ≡ false) × (heading_of text ≡ Reads known.0)
+  told : (top_in 1 below ≡ false) × (heading_of text ≡ Some known.0)
   told = go (top_in 1 below) refl known.1
     where
-      go : (t : Bool) → top_in 1 below ≡ t → cond t Unreadable (heading_of text) ≡ Reads known.0 → (top_in 1 below ≡ false) × (heading_of text ≡ Reads known.0)
+      go : (t : Bool) → top_in 1 below ≡ t → cond t None (heading_of text) ≡ Some known.0 → (top_in 1 below ≡ false) × (heading_of text ≡ Some known.0)
       go true q e = let z : ◌≡◌ {A = ℕ} 0 1 = cc in absurd (omega arith)
       go false q e = (q, e)
 
@@ -94,7 +92,7 @@ module _ (s : List ℕ) (at : ℕ) (l : at < length s) (H : Headed s at) (R : Ea
   abbrev said : Heading
   said = heading_from (placed layout 0 text)
 
-  reads : heading_of text ≡ Reads said
+  reads : heading_of text ≡ Some said
   reads = sym (found text form).1
 
   -- ---- the line after it
@@ -128,7 +126,7 @@ module _ (s : List ℕ) (at : ℕ) (l : at < length s) (H : Headed s at) (R : Ea
     on : at + 54 ≤ next
     on = omega (arith, next_at P, F.from, N.closes, end_at)
 
-    head_known : IsHead s at (record { head = Reads said; next = next })
+    head_known : IsHead s at (record { head = Some said; next = next })
     head_known = record {
       kc = kc_in 0 below;
       item = record {
@@ -137,7 +135,7 @@ module _ (s : List ℕ) (at : ℕ) (l : at < length s) (H : Headed s at) (R : Ea
             let t : top_in n below ≡ false = top_alike below n 1 ∙ told.0 in
             let k = kc_alike below n 0 in
             let f = ap (λ (q : ℕ). slips_from n (drop q s)) (sym (next_at P)) ∙ F.after n in
-            item_at n ∙ (λ i. record { head = cond (t i) Unreadable (reads i); kc = k i } ∷ f i);
+            item_at n ∙ (λ i. record { head = cond (t i) None (reads i); kc = k i } ∷ f i);
         long = λ h w. on;
         moves = omega (arith, on);
         within = F.within;

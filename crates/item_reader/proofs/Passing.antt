@@ -12,7 +12,6 @@ use Rattle.laws.proofs.Truth.{never_true, both_left, both_right, by_test}
 use Rattle.text.specs.Strings.{begins}
 use Rattle.lines.specs.Lines.{Line, crlf, onto, lines}
 use Rattle.lines.proofs.Lines.{lines_cut, lines_on, crlf_not}
-use Rattle.headings.specs.declared.Read.TheVariants.{Unreadable}
 use Rattle.headings.specs.Reading.{heading_of}
 use Rattle.figures.specs.Layouts.{fits, part}
 use Rattle.figures.proofs.Runs.{run_value}
@@ -23,14 +22,16 @@ use Rattle.fields.specs.Kinds.{named, place, kind_of}
 use Rattle.fields.specs.Classes.{class_of}
 use Rattle.fields.specs.Readings.{text_of, layout_of, reading_of}
 use Rattle.fields.specs.Tails.{takes, says_of}
-use Rattle.rules.specs.declared.FirstKc.{FirstKc}
-use Rattle.rules.specs.declared.FirstKc.TheVariants.{NoKc}
+use Rattle.rules.specs.declared.First.{First}
+use Rattle.rules.specs.declared.First.TheVariants.{Missing}
+use Rattle.rules.specs.declared.Payment.{Payment}
 use Rattle.rules.specs.Rows.{Row, FieldRow, LowRow, sorted, sorted_as, rows_from}
 use Rattle.rules.specs.Tree.{Owned, File, tree, ◌▹◌}
 use Rattle.rules.specs.Said.{says, continued, head_of, or_else, if_there, first_said, is, kc_by, kc_of}
 use Rattle.item_reader.specs.declared.Slip.{Slip}
 use Rattle.item_reader.specs.Slips.{amount_of, kc_among, slip_of}
 use Rattle.item_reader.proofs.Starts.{kind_told, heading_not, kc_not}
+use Rattle.std.specs.Prelude.{None}
 
 -- ---- the first KC
 -- a KC says what its own line says: its continuations are carried unread
@@ -61,13 +62,13 @@ paid_small s = by_test (fits (layout_of Money).own s)
 abbrev pub slips_in : ℕ → List Line → List Slip
 slips_in n ls = map slip_of (tree (rows_from n ls)).items
 
-abbrev pub kc_in : ℕ → List Line → FirstKc
+abbrev pub kc_in : ℕ → List Line → First Payment
 kc_in n ls = kc_among (tree (rows_from n ls)).loose
 
 abbrev pub top_in : ℕ → List Line → Bool
 top_in n ls = continued (tree (rows_from n ls)).top
 
-pub none_in : (n : ℕ) → (slips_in n [] ≡ []) × (kc_in n [] ≡ NoKc) × (top_in n [] ≡ false)
+pub none_in : (n : ℕ) → (slips_in n [] ≡ []) × (kc_in n [] ≡ Missing) × (top_in n [] ≡ false)
 unfolding rows_from continued first_said
 none_in n = (refl, refl, refl)
 
@@ -84,7 +85,7 @@ module _ (l : Line) (ls : List Line) (n : ℕ) where
   cut_at k e = ap (λ (q : Kind). sorted_as q (row_of n l) ▹ rest) e
 
   in_heading : kind_of l.bytes ≡ Heading
-      → (slips_in n (l ∷ ls) ≡ record { head = cond (top_in (suc n) ls) Unreadable (heading_of l.bytes); kc = kc_in (suc n) ls } ∷ slips_in (suc n) ls) × (kc_in n (l ∷ ls) ≡ NoKc) × (top_in n (l ∷ ls) ≡ false)
+      → (slips_in n (l ∷ ls) ≡ record { head = cond (top_in (suc n) ls) None (heading_of l.bytes); kc = kc_in (suc n) ls } ∷ slips_in (suc n) ls) × (kc_in n (l ∷ ls) ≡ Missing) × (top_in n (l ∷ ls) ≡ false)
   unfolding head_of first_said continued
   in_heading e =
       let c = cut_at Heading e in
@@ -131,7 +132,7 @@ alike (l ∷ ls) n m = go (kind_of l.bytes) refl (alike ls (suc n) (suc m))
     go Heading e w =
         let a = in_heading l ls n e in
         let b = in_heading l ls m e in
-        (a.0 ∙ (λ i. record { head = cond (w.2 i) Unreadable (heading_of l.bytes); kc = w.1 i } ∷ w.0 i) ∙ sym b.0, a.1 ∙ sym b.1, a.2 ∙ sym b.2)
+        (a.0 ∙ (λ i. record { head = cond (w.2 i) None (heading_of l.bytes); kc = w.1 i } ∷ w.0 i) ∙ sym b.0, a.1 ∙ sym b.1, a.2 ∙ sym b.2)
     go Continuation e w =
         let a = in_continuation l ls n e in
         let b = in_continuation l ls m e in
@@ -159,11 +160,11 @@ top_alike ls n m = (alike ls n m).2
 
 -- the first KC of any lines is small
 pub kc_small : (ls : List Line) (n : ℕ) → amount_of (kc_in n ls) < 1000000000000000
-kc_small [] n = subst (λ (k : FirstKc). amount_of k < 1000000000000000) (sym (none_in n).1) (omega arith)
+kc_small [] n = subst (λ (k : First Payment). amount_of k < 1000000000000000) (sym (none_in n).1) (omega arith)
 kc_small (l ∷ ls) n = go (kind_of l.bytes) refl (kc_small ls (suc n))
   where
-    by : {k : FirstKc} → kc_in n (l ∷ ls) ≡ k → amount_of k < 1000000000000000 → amount_of (kc_in n (l ∷ ls)) < 1000000000000000
-    by e h = subst (λ (k : FirstKc). amount_of k < 1000000000000000) (sym e) h
+    by : {k : First Payment} → kc_in n (l ∷ ls) ≡ k → amount_of k < 1000000000000000 → amount_of (kc_in n (l ∷ ls)) < 1000000000000000
+    by e h = subst (λ (k : First Payment). amount_of k < 1000000000000000) (sym e) h
 
     go : (k : Kind) → kind_of l.bytes ≡ k → amount_of (kc_in (suc n) ls) < 1000000000000000 → amount_of (kc_in n (l ∷ ls)) < 1000000000000000
     go Heading e w = by (in_heading l ls n e).1 (omega arith)
@@ -177,13 +178,13 @@ kc_small (l ∷ ls) n = go (kind_of l.bytes) refl (kc_small ls (suc n))
 
 -- ---- past one line
 module _ (l : Line) (ls : List Line) (n : ℕ) where
-  pub item_here : kind_of l.bytes ≡ Heading → slips_in n (l ∷ ls) ≡ record { head = cond (top_in n ls) Unreadable (heading_of l.bytes); kc = kc_in n ls } ∷ slips_in n ls
+  pub item_here : kind_of l.bytes ≡ Heading → slips_in n (l ∷ ls) ≡ record { head = cond (top_in n ls) None (heading_of l.bytes); kc = kc_in n ls } ∷ slips_in n ls
   unfolding Alike
   item_here e =
       let w = alike ls (suc n) n in
-      (in_heading l ls n e).0 ∙ (λ i. record { head = cond (w.2 i) Unreadable (heading_of l.bytes); kc = w.1 i } ∷ w.0 i)
+      (in_heading l ls n e).0 ∙ (λ i. record { head = cond (w.2 i) None (heading_of l.bytes); kc = w.1 i } ∷ w.0 i)
 
-  pub kc_none : kind_of l.bytes ≡ Heading → kc_in n (l ∷ ls) ≡ NoKc
+  pub kc_none : kind_of l.bytes ≡ Heading → kc_in n (l ∷ ls) ≡ Missing
   kc_none e = (in_heading l ls n e).1
 
   pub kc_here : kind_of l.bytes ≡ Field (named "KC") → kc_in n (l ∷ ls) ≡ kc_by (reading_of Money (text_of l.bytes))

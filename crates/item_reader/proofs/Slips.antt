@@ -6,7 +6,7 @@ use native.Mathlib.Omega.{arith}
 use mathlib.Core.Path.{◌≡◌, refl, sym, ap, subst, ◌∙◌}
 use mathlib.Core.Bool.{Bool, true, false, cond, ◌&&◌, ◌||◌, true≢false, false≢true}
 use mathlib.Core.List.{List, [], ◌∷◌}
-use mathlib.Core.Logic.{◌⊎◌, ⊎_elim}
+use mathlib.Core.Logic.{⊎_elim}
 use lib.Dec.{eqb, ltb}
 use lib.ListN.{length, take, drop, get_or, length-take, length-drop}
 use lib.Seq.{drop-cons, drop-drop}
@@ -20,19 +20,18 @@ use Rattle.text.specs.Strings.{begins}
 use Rattle.text.specs.Characters.{is_odd}
 use Rattle.text.specs.Forms.{template, fits_byte, has_form}
 use Rattle.lines.specs.Lines.{Line, crlf, lines}
-use Rattle.lines.specs.Reading.{line_at, span, after, IsNext}
+use Rattle.lines.specs.Reading.{line_at, span, IsNext}
 use Rattle.lines.specs.declared.Found.{Found}
 use Rattle.lines.proofs.Lines.{lines_past, lines_cut}
 use Rattle.lines.proofs.Reading.{is_next, line_block, line_cut}
-use Rattle.headings.specs.declared.Read.{Read}
-use Rattle.headings.specs.declared.Read.TheVariants.{Reads, Unreadable}
 use Rattle.headings.specs.declared.Heading.{Heading}
 use Rattle.headings.specs.Reading.{layout, is_heading, heading_of}
 use Rattle.headings.proofs.Places.{read_size}
 use Rattle.fields.specs.declared.kinds.Kind.TheVariants.{Continuation, Field, Other, Heading as HeadingKind}
 use Rattle.fields.specs.Kinds.{kind_of}
-use Rattle.rules.specs.declared.FirstKc.{FirstKc}
-use Rattle.rules.specs.declared.FirstKc.TheVariants.{NoKc}
+use Rattle.rules.specs.declared.First.{First}
+use Rattle.rules.specs.declared.First.TheVariants.{Missing}
+use Rattle.rules.specs.declared.Payment.{Payment}
 use Rattle.item_reader.specs.declared.Gap.{Gap}
 use Rattle.item_reader.specs.declared.Title.{Title}
 use Rattle.item_reader.specs.Slips.{amount_of, Headed, IsFirst, IsSlip}
@@ -42,6 +41,8 @@ use Rattle.item_reader.proofs.Starts.{kind_told, heading_told, kc_told}
 use Rattle.item_reader.proofs.Passing.{slips_in, kc_in, top_in, none_in, others, kc_small, item_here, kc_none, kc_here, top_heading, top_continuation, top_field, top_other, line_slips, line_kc, byte_slips, byte_kc}
 use Rattle.text.proofs.Comparing.{begins_length}
 use Rattle.sign_finder.proofs.Signs.{sign_size}
+use Rattle.std.specs.Prelude.{None, Option, Some}
+use Rattle.std.proofs.lemmas.List.{take_rest}
 
 -- ---- from a place to another, with no sign between
 module _ (s : List ℕ) (n : ℕ) where
@@ -94,6 +95,10 @@ module _ (s : List ℕ) where
       let d = drop-drop 2 k s in
       (ap others (lines_cut (drop k s) p.0) ∙ ap lines d, ap (λ (x : List ℕ). begins x (a ∷ b ∷ 0x3a ∷ [])) (sym d) ∙ p.1)
 
+  -- what was asked of `&s[at..]`
+  pub asked : {A : Type 0} (at : ℕ) (f : List ℕ → A) {r : A} → r ≡ f (take (length s - at) (drop at s)) → f (drop at s) ≡ r
+  asked at f e = ap f (sym (take_rest s at)) ∙ sym e
+
   none_after : (k : ℕ) → length s ≤ k → others (lines (drop k s)) ≡ []
   none_after k h = ap others (lines_past s k h)
 
@@ -114,7 +119,7 @@ module _ (s : List ℕ) where
     pub kc_line_lem : begins (drop p s) (ascii "KC:") ≡ true → (n : ℕ) → kc_in n (lines (drop p s)) ≡ kc_line s p
     kc_line_lem e n = ap (kc_in n) here.cut ∙ kc_here line below n (kind_here ∙ kc_told (drop p s) e)
 
-    no_line : begins (drop p s) (ascii "HD:") ≡ true → (n : ℕ) → kc_in n (lines (drop p s)) ≡ NoKc
+    no_line : begins (drop p s) (ascii "HD:") ≡ true → (n : ℕ) → kc_in n (lines (drop p s)) ≡ Missing
     no_line e n = ap (kc_in n) here.cut ∙ kc_none line below n (kind_here ∙ heading_told (drop p s) e)
 
     headed_at : begins (drop p s) (ascii "HD:") ≡ true → Headed s p
@@ -198,20 +203,20 @@ module _ (s : List ℕ) where
           to_sign w.0 w.1 n ∙ ap (kc_in n) st.0 ∙ kc_line_lem (k + 2) (full (k + 2) (ascii "KC:") (omega arith) st.1) st.1 n)
           G
 
-      none_found : g.end ≤ k → begins (drop at s) (ascii "HD:") ≡ false → IsSign s 0x48 0x44 at (length s) g.end → (n : ℕ) → kc_in n (lines (drop at s)) ≡ NoKc
+      none_found : g.end ≤ k → begins (drop at s) (ascii "HD:") ≡ false → IsSign s 0x48 0x44 at (length s) g.end → (n : ℕ) → kc_in n (lines (drop at s)) ≡ Missing
       none_found l q S n = to_sign q S n ∙ go (ltb k (length s)) refl
         where
           same : k ≡ g.end
           same = omega (arith, K.to)
 
-          go : (t : Bool) → ltb k (length s) ≡ t → kc_in n (others (lines (drop k s))) ≡ NoKc
+          go : (t : Bool) → ltb k (length s) ≡ t → kc_in n (others (lines (drop k s))) ≡ Missing
           go true t =
               let u : g.end < length s = omega (arith, same, ltb-true k (length s) t) in
               let st = starts_at 0x48 0x44 k (ap (stands_at s 0x48 0x44) same ∙ S.there u) in
               ap (kc_in n) st.0 ∙ no_line (k + 2) (full (k + 2) (ascii "HD:") (omega arith) st.1) st.1 n
           go false t = ap (kc_in n) (none_after k (ltb-false k (length s) t)) ∙ (none_in n).1
 
-      pub kc_nowhere : g.end ≤ k → (n : ℕ) → kc_in n (lines (drop at s)) ≡ NoKc
+      pub kc_nowhere : g.end ≤ k → (n : ℕ) → kc_in n (lines (drop at s)) ≡ Missing
       kc_nowhere l n =
           ⊎_elim
           (λ w. no_line at (full at (ascii "HD:") (omega arith) w.0) w.0 n)
@@ -244,7 +249,7 @@ read_plain x e = by_test (is_heading x)
     (form_plain (template layout) x refl)
     (λ q. absurd (false≢true (rw q at e)))
 
-pub title_short : (s : List ℕ) (at : ℕ) → at + 56 ≤ length s → {r : Read} → r ≡ heading_of (take (at + 54 - at) (drop at s)) → reads_to r ≡ true → begins (drop (at + 54) s) (0x0d ∷ 0x0a ∷ []) ≡ true
+pub title_short : (s : List ℕ) (at : ℕ) → at + 56 ≤ length s → {r : Option Heading} → r ≡ heading_of (take (at + 54 - at) (drop at s)) → reads_to r ≡ true → begins (drop (at + 54) s) (0x0d ∷ 0x0a ∷ []) ≡ true
     → IsTitle s at (record { head = r; next = at + 56 })
 title_short s at h {r} q e c =
     let m : at + 54 - at ≡ 54 = omega arith in
@@ -260,7 +265,7 @@ title_short s at h {r} q e c =
     }
 
 -- ---- the item at a heading
-reads_when : (t : Bool) (r : Read) (h : Heading) → cond t Unreadable r ≡ Reads h → r ≡ Reads h
+reads_when : (t : Bool) (r : Option Heading) (h : Heading) → cond t None r ≡ Some h → r ≡ Some h
 reads_when true r h e = let z : ◌≡◌ {A = ℕ} 0 1 = cc in absurd (omega arith)
 reads_when false r h e = e
 
@@ -272,15 +277,15 @@ module _ {s : List ℕ} {at : ℕ} (l : at < length s) (H : Headed s at) {t : Ti
   title_within = subst (λ (p : ℕ). p ≤ length s) (sym T.next) N.within
 
   module _ {c : Bool} (C : (n : ℕ) → top_in n (lines (drop t.next s)) ≡ c) {next : ℕ} (F : IsFirst s t.next next) where
-    pub slip_is : {kc : FirstKc} → ((n : ℕ) → kc_in n (lines (drop t.next s)) ≡ kc)
-        → IsSlip s at (record { slip = record { head = cond c Unreadable t.head; kc = kc }; next = next })
+    pub slip_is : {kc : First Payment} → ((n : ℕ) → kc_in n (lines (drop t.next s)) ≡ kc)
+        → IsSlip s at (record { slip = record { head = cond c None t.head; kc = kc }; next = next })
     slip_is {kc} K = record {
-      small = subst (λ (k : FirstKc). amount_of k < 1000000000000000) (K 0) (kc_small (lines (drop t.next s)) 0);
+      small = subst (λ (k : First Payment). amount_of k < 1000000000000000) (K 0) (kc_small (lines (drop t.next s)) 0);
       cut = λ n.
           ap (slips_in n) N.cut
           ∙ item_here (line s at l) (below s at l) n H
-          ∙ ap (λ (p : ℕ). record { head = cond (top_in n (lines (drop p s))) Unreadable (heading_of (span at (line_at s at).end s)); kc = kc_in n (lines (drop p s)) } ∷ slips_in n (lines (drop p s))) (sym T.next)
-          ∙ (let q = sym T.head in λ i. record { head = cond (C n i) Unreadable (q i); kc = K n i } ∷ F.after n i);
+          ∙ ap (λ (p : ℕ). record { head = cond (top_in n (lines (drop p s))) None (heading_of (span at (line_at s at).end s)); kc = kc_in n (lines (drop p s)) } ∷ slips_in n (lines (drop p s))) (sym T.next)
+          ∙ (let q = sym T.head in λ i. record { head = cond (C n i) None (q i); kc = K n i } ∷ F.after n i);
       long = λ h w.
           let size : length (span at (line_at s at).end s) ≡ 54 = read_size (span at (line_at s at).end s) h (sym T.head ∙ reads_when c t.head h w) in
           omega (arith, size, length-take ((line_at s at).end - at) (drop at s), N.closes, N.starts, T.next, F.from);

@@ -11,28 +11,25 @@ use Rattle.fields.specs.declared.readings.Reading.{Reading}
 use Rattle.fields.specs.declared.readings.Reading.TheVariants.{Broken, Plain, Paid, Span, Stated, Party}
 use Rattle.fields.specs.Kinds.{named}
 use Rattle.fields.specs.Classes.{sum_group}
-use Rattle.rules.specs.declared.FirstKc.{FirstKc}
-use Rattle.rules.specs.declared.FirstIn.{FirstIn}
-use Rattle.rules.specs.declared.FirstSum.{FirstSum}
+use Rattle.rules.specs.declared.First.{First}
+use Rattle.rules.specs.declared.Payment.{Payment}
+use Rattle.rules.specs.declared.Range.{Range}
+use Rattle.rules.specs.declared.Statement.{Statement}
 use Rattle.rules.specs.declared.Sum.{Sum}
 use Rattle.rules.specs.declared.Sums.{Sums}
 use Rattle.rules.specs.HeadingRules.{no_kc}
 use Rattle.rules.specs.Rows.{FieldRow}
 use Rattle.rules.specs.Tree.{Owned}
 use Rattle.rules.specs.Said.{says, stands, or_else, if_there, is, is_group, kc_by, kc_of, span_by, span_of, stated_by, stated_of, ten_sums}
-use Rattle.items.specs.Claims.{Claims, claims_as, no_claims, kc_kept, kc_own, span_kept, stated_kept, group_claims}
+use Rattle.items.specs.Claims.{Claims, claims_as, no_claims, first_of, kc_own, group_claims}
 use Rattle.items.proofs.Turned.{first_up}
 
 -- ---- the first KC
-pub kc_first : (r : Reading) (k : FirstKc) → kc_kept (kc_by r) k ≡ kc_by r
-kc_first Broken k = refl
-kc_first Plain k = refl
+pub kc_first : (r : Reading) (k : First Payment) → first_of (kc_by r) k ≡ kc_by r
 kc_first (Paid a d) k = refl
-kc_first (Span a b) k = refl
-kc_first (Stated n a) k = refl
-kc_first (Party b) k = refl
+kc_first r k = refl
 
-kc_more : (o : Option Reading) (t : Bool) (r : Reading) → cond t (kc_kept (kc_of o) (kc_by r)) (kc_of o) ≡ kc_of (or_else o (if_there t r))
+kc_more : (o : Option Reading) (t : Bool) (r : Reading) → cond t (first_of (kc_of o) (kc_by r)) (kc_of o) ≡ kc_of (or_else o (if_there t r))
 kc_more none true r = refl
 kc_more none false r = refl
 kc_more (some q) true r = kc_first q (kc_by r)
@@ -83,7 +80,7 @@ pub no_claims_is : no_claims ≡ claims_of []
 unfolding first_up stands
 no_claims_is = refl
 
-span_first : (r : Reading) (k : FirstIn) → span_kept (span_by r) k ≡ span_by r
+span_first : (r : Reading) (k : First Range) → first_of (span_by r) k ≡ span_by r
 span_first Broken k = refl
 span_first Plain k = refl
 span_first (Paid a d) k = refl
@@ -91,13 +88,13 @@ span_first (Span a b) k = refl
 span_first (Stated n a) k = refl
 span_first (Party b) k = refl
 
-span_more : (o : Option Reading) (t : Bool) (r : Reading) → cond t (span_kept (span_of o) (span_by r)) (span_of o) ≡ span_of (or_else o (if_there t r))
+span_more : (o : Option Reading) (t : Bool) (r : Reading) → cond t (first_of (span_of o) (span_by r)) (span_of o) ≡ span_of (or_else o (if_there t r))
 span_more none true r = refl
 span_more none false r = refl
 span_more (some q) true r = span_first q (span_by r)
 span_more (some q) false r = refl
 
-stated_first : (r : Reading) (k : FirstSum) → stated_kept (stated_by r) k ≡ stated_by r
+stated_first : (r : Reading) (k : First Statement) → first_of (stated_by r) k ≡ stated_by r
 stated_first Broken k = refl
 stated_first Plain k = refl
 stated_first (Paid a d) k = refl
@@ -105,7 +102,7 @@ stated_first (Span a b) k = refl
 stated_first (Stated n a) k = refl
 stated_first (Party b) k = refl
 
-stated_more : (o : Option Reading) (t : Bool) (r : Reading) → stated_of (or_else o (if_there t r)) ≡ cond t (stated_kept (stated_of o) (stated_by r)) (stated_of o)
+stated_more : (o : Option Reading) (t : Bool) (r : Reading) → stated_of (or_else o (if_there t r)) ≡ cond t (first_of (stated_of o) (stated_by r)) (stated_of o)
 stated_more none true r = refl
 stated_more none false r = refl
 stated_more (some q) true r = sym (stated_first q (stated_by r))
@@ -113,7 +110,7 @@ stated_more (some q) false r = refl
 
 -- the groups with one more field, of group d
 abbrev grown : (ℕ → Option Reading) → ℕ → Reading → ℕ → Sum
-grown f d r k = record { stated = cond (eqb d k) (stated_kept (stated_of (f k)) (stated_by r)) (stated_of (f k)) }
+grown f d r k = record { stated = cond (eqb d k) (first_of (stated_of (f k)) (stated_by r)) (stated_of (f k)) }
 
 abbrev summed : (ℕ → Option Reading) → ℕ → Sum
 summed f k = record { stated = stated_of (f k) }
@@ -161,11 +158,11 @@ grown_claims ups i r =
 
 groups_are : (ups : List (Owned FieldRow)) (d : ℕ) (r : Reading)
     → sums_as (grown (in_groups ups) d r) ≡ sums_as (λ k. record { stated = stated_of (or_else (in_groups ups k) (if_there (eqb d k) r)) })
-groups_are ups d r = same_ten _ _ (λ k h. ap (λ (t : FirstSum). record { stated = t }) (sym (stated_more (in_groups ups k) (eqb d k) r)))
+groups_are ups d r = same_ten _ _ (λ k h. ap (λ (t : First Statement). record { stated = t }) (sym (stated_more (in_groups ups k) (eqb d k) r)))
 
 -- each part grows by itself
 pub claim_at : (ups : List (Owned FieldRow)) (i : ℕ) (r : Reading) → let c = claims_of ups in
-    claims_as (kc_own c.kc i r) (cond (eqb i (named "IN")) (span_kept c.span (span_by r)) c.span) (group_claims c.sums (sum_group i) r) ≡ grown_claims ups i r
+    claims_as (kc_own c.kc i r) (cond (eqb i (named "IN")) (first_of c.span (span_by r)) c.span) (group_claims c.sums (sum_group i) r) ≡ grown_claims ups i r
 claim_at ups i r =
     λ j. claims_as (kc_more (first_up (is (named "KC")) ups) (eqb i (named "KC")) r j) (span_more (first_up (is (named "IN")) ups) (eqb i (named "IN")) r j)
     ((groups_more (in_groups ups) (sum_group i) r ∙ groups_are ups (sum_group i) r) j)

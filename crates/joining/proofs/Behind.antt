@@ -96,11 +96,11 @@ clear_cons : (b : ℕ) (l : List ℕ) → crlf (b ∷ l) ≡ false → Clear l [
 clear_cons b l e q = (rw append-nil e, q)
 
 -- the two bytes before `end` are not CR LF
-pub seek_more : (s : List ℕ) (end : ℕ) → Sought s end → 1 < end → (is_byte 0x0d (get_or s (end - 2) 0) && is_byte 0x0a (get_or s (end - 1) 0)) ≡ false → Sought s (end - 1)
+pub seek_more : (s : List ℕ) (end : ℕ) → Sought s end → 1 < end → (is_byte 0x0d (get_or s (end - 1 - 1) 0) && is_byte 0x0a (get_or s (end - 1) 0)) ≡ false → Sought s (end - 1)
 seek_more s end S h e =
     let j : ℕ = end - 1 - 1 in
     let next : suc j ≡ end - 1 = omega arith in
-    let two : end - 2 ≡ j = omega arith in
+    let two : end - 1 - 1 ≡ j = omega arith in
     let cons : drop j s ≡ get_or s j 0 ∷ drop (end - 1) s = drop-cons s j 0 (omega (arith, S.fits)) ∙ ap (λ (k : ℕ). get_or s j 0 ∷ drop k s) next in
     let one : j + 1 ≡ end - 1 = omega arith in
     let e' : crlf (drop j s) ≡ false =
@@ -125,9 +125,9 @@ hit s j h e f q =
       behind = (subst (λ (l : List ℕ). Clear l []) (drop-cons s (suc j) 0 h) q).1;
     }
 
-hit_at : (s : List ℕ) (end : ℕ) → Sought s end → 1 < end → (is_byte 0x0d (get_or s (end - 2) 0) && is_byte 0x0a (get_or s (end - 1) 0)) ≡ true → Ends s end
+hit_at : (s : List ℕ) (end : ℕ) → Sought s end → 1 < end → (is_byte 0x0d (get_or s (end - 1 - 1) 0) && is_byte 0x0a (get_or s (end - 1) 0)) ≡ true → Ends s end
 hit_at s end S h e =
-    let j : ℕ = end - 2 in
+    let j : ℕ = end - 1 - 1 in
     let next : end - 1 ≡ suc j = omega arith in
     let both : suc (suc j) ≡ end = omega arith in
     let p = and_parts (is_byte 0x0d (get_or s j 0)) (is_byte 0x0a (get_or s (end - 1) 0)) e in
@@ -135,7 +135,7 @@ hit_at s end S h e =
     (hit s j (omega (arith, S.fits)) (eqb-true (get_or s j 0) 0x0d p.0) (ap (λ (k : ℕ). get_or s k 0) (sym next) ∙ eqb-true (get_or s (end - 1) 0) 0x0a p.1)
     (subst (λ (k : ℕ). Clear (drop k s) []) next S.clear))
 
-pub seek_hit : (s : List ℕ) (end : ℕ) → Sought s end → 1 < end → (is_byte 0x0d (get_or s (end - 2) 0) && is_byte 0x0a (get_or s (end - 1) 0)) ≡ true → end ≡ taken_by (whole s)
+pub seek_hit : (s : List ℕ) (end : ℕ) → Sought s end → 1 < end → (is_byte 0x0d (get_or s (end - 1 - 1) 0) && is_byte 0x0a (get_or s (end - 1) 0)) ≡ true → end ≡ taken_by (whole s)
 seek_hit s end S h e = ends_size s end (hit_at s end S h e)
 
 -- nothing is left to look at
@@ -151,9 +151,9 @@ seek_end s end S h = ends_size s 0 (none_at s end S h)
 find : (s : List ℕ) (n end : ℕ) → end ≡ n → Sought s end → Ends s (taken_by (whole s))
 find s zero end e S = subst (Ends s) (seek_end s end S (omega arith)) (none_at s end S (omega arith))
 find s (suc zero) end e S = subst (Ends s) (seek_end s end S (omega arith)) (none_at s end S (omega arith))
-find s (suc (suc n)) end e S = go (is_byte 0x0d (get_or s (end - 2) 0) && is_byte 0x0a (get_or s (end - 1) 0)) refl (λ k f. find s (suc n) k f)
+find s (suc (suc n)) end e S = go (is_byte 0x0d (get_or s (end - 1 - 1) 0) && is_byte 0x0a (get_or s (end - 1) 0)) refl (λ k f. find s (suc n) k f)
   where
-    go : (t : Bool) → (is_byte 0x0d (get_or s (end - 2) 0) && is_byte 0x0a (get_or s (end - 1) 0)) ≡ t → ((k : ℕ) → k ≡ suc n → Sought s k → Ends s (taken_by (whole s))) → Ends s (taken_by (whole s))
+    go : (t : Bool) → (is_byte 0x0d (get_or s (end - 1 - 1) 0) && is_byte 0x0a (get_or s (end - 1) 0)) ≡ t → ((k : ℕ) → k ≡ suc n → Sought s k → Ends s (taken_by (whole s))) → Ends s (taken_by (whole s))
     go true f rec = subst (Ends s) (seek_hit s end S (omega arith) f) (hit_at s end S (omega arith) f)
     go false f rec = rec (end - 1) (omega arith) (seek_more s end S (omega arith) f)
 

@@ -6,9 +6,12 @@ use Prim.Native.Nat.{ℕ, suc, ◌+◌, ◌-◌, ◌<◌, ◌≤◌, min}
 use native.Mathlib.Nat.{zero-add, min_comm}
 use native.Mathlib.Omega.{arith}
 use lib.Dec.{eqb, ltb, leb, eqb-suc-zero}
-use lib.ListN.{length, take, drop, set, get_or, replicate, length-append, length-take, length-drop, length-replicate}
-use lib.Seq.{take_all, set_split}
-use borrow.Author.Tests.{leb-true, leb-false, eqb-true, eq-eqb, ne_eqb, lt-ltb, le-ltb}
+use lib.ListN.{length, take, drop, set, get_or, replicate, length-append, length-take, length-drop, length-replicate, drop_of_length-le}
+use lib.Seq.{drop-cons, take_all, set_split}
+use borrow.Author.Tests.{leb-true, leb-false, eqb-true, eq-eqb, lt-ltb, le-ltb}
+use Rattle.std.specs.List.{list_any, ends_with}
+use Rattle.std.proofs.lemmas.Bool.Decides.{nat_tests}
+use lib.Pointwise.{pointwise}
 use Rattle.laws.specs.Lists.{put, any_of}
 use Rattle.laws.specs.Tests.{is_byte}
 use Rattle.laws.proofs.Any.{any_append}
@@ -75,6 +78,12 @@ module _ (w : ℕ) (a b : List ℕ) (n m : ℕ) (is-n : n ≡ min w (length a)) 
   back = drop_both w a b ∙ sym (rw (is-n, of_b, min_comm w (length a), min_comm (w - length a) (length b), drop_min w a, drop_min (w - length a) b))
 
 -- ---- the short form of two texts
+
+-- std's word
+pub any_is : (f : ℕ → Bool) (s : List ℕ) → list_any f s ≡ any_of f s
+unfolding any_of
+any_is f [] = refl
+any_is f (x ∷ s) = ap (λ (t : Bool). f x || t) (any_is f s)
 
 put_one : (xs : List ℕ) (at x : ℕ) → at < length xs → put xs at (x ∷ []) ≡ set xs at x
 put_one xs at x h = let e : at + 1 ≡ suc at = omega arith in put_is xs at (x ∷ []) ∙ ap (λ (k : ℕ). take at xs ++ (x ∷ drop k xs)) e ∙ sym (set_split xs at x h)
@@ -153,14 +162,20 @@ ends_last (b ∷ c ∷ s) h =
 length_bare : (s : List ℕ) (t : Bool) → ends_cr s ≡ t → length (without_cr s) ≡ length s - cond t 1 0
 length_bare s t e = length-take (length s - cond (ends_cr s) 1 0) s ∙ rw e (omega arith)
 
-pub bare_none : (s : List ℕ) → length s ≡ 0 → 0 ≡ length (without_cr s)
-bare_none s h = omega (arith, length-take (length s - cond (ends_cr s) 1 0) s)
+ends_is : (s : List ℕ) → ends_with eqb s (0x0d ∷ []) ≡ ends_cr s
+unfolding ends_cr
+ends_is [] = refl
+ends_is (b ∷ t) =
+    let s : List ℕ = b ∷ t in
+    let k : ℕ = length s - 1 in
+    let inside : k < length s = omega arith in
+    let past : length s ≤ suc k = omega arith in
+    let last : drop k s ≡ get_or s k 0 ∷ [] = drop-cons s k 0 inside ∙ ap (λ (l : List ℕ). get_or s k 0 ∷ l) (drop_of_length-le s past) in
+    let test : (eqb 0x0d (get_or s k 0) && true) ≡ is_byte 0x0d (get_or s k 0) = grind (arith, nat_tests, and-true) in
+    ap (pointwise eqb (0x0d ∷ [])) last ∙ test ∙ sym (ends_last s (omega arith))
 
-pub bare_cr : (s : List ℕ) → 0 < length s → get_or s (length s - 1) 0 ≡ 0x0d → length s - 1 ≡ length (without_cr s)
-bare_cr s h e = sym (length_bare s true (ends_last s h ∙ eq-eqb (get_or s (length s - 1) 0) 0x0d e))
-
-pub bare_other : (s : List ℕ) → 0 < length s → (get_or s (length s - 1) 0 ≡ 0x0d → ⊥) → length s ≡ length (without_cr s)
-bare_other s h e = let l : length (without_cr s) ≡ length s - 0 = length_bare s false (ends_last s h ∙ ne_eqb (get_or s (length s - 1) 0) 0x0d e) in omega arith
+pub bare_ended : (s : List ℕ) (t : Bool) → t ≡ ends_with eqb s (0x0d ∷ []) → length s - cond t 1 0 ≡ length (without_cr s)
+bare_ended s t e = sym (length_bare s t (sym (ends_is s) ∙ sym e))
 
 -- ---- a piece more
 
@@ -227,7 +242,7 @@ bare_fits s k e = e ∙ sym (ap (λ (n : ℕ). length (take n s)) e ∙ ap lengt
 
 -- a piece more, as the code has it: t is what is kept, with its CR where bytes come behind it; u the short form of that and the piece
 module _ (h : Held) (s : List ℕ) (k : ℕ) (t u : Text) (is-k : k ≡ length (without_cr s)) (is-t : t ≡ as_text ((kept_in h).text ++ cr_if (h.cr && not (eqb (length s) 0)))) where
-  pub add_fits : (t.len ≤ length t.text) × (t.len ≡ length (take t.len t.text))
+  pub add_fits : (t.len ≤ 68) × (t.len ≡ length (take t.len t.text))
   add_fits =
       let few : length ((kept_in h).text ++ cr_if (h.cr && not (eqb (length s) 0))) ≤ 66 = few_with h (h.cr && not (eqb (length s) 0)) in
       let p = text_is t ((kept_in h).text ++ cr_if (h.cr && not (eqb (length s) 0))) is-t (omega arith) in

@@ -14,15 +14,15 @@
 // `headings` and `fields` for that last law alone.
 #![tactic(auto)]
 
-ghost use Rattle.std.specs.Prelude.{◌≡◌, false, cond, [], ◌++◌, ◌+◌, ◌<◌, ◌≤◌, min, length, take};
-ghost use Rattle.laws.specs.Lists.{any_of};
+ghost use Rattle.std.specs.Prelude.{◌≡◌, false, cond, [], ◌++◌, ◌+◌, ◌≤◌, min, length, take};
+ghost use Rattle.std.specs.List.{list_any};
 ghost use Rattle.text.specs.Characters.{is_inadmissible};
 ghost use Rattle.joining.specs.Whole.{whole};
 ghost use Rattle.lines.specs.Lines.{taken_by};
 ghost use Rattle.joining.specs.Short.{short, cr_if, without_cr, kept_text, added};
 ghost use Rattle.joining.specs.Held.{as_text, as_held, as_joined, kept_in, ended_text, join_of};
 
-// A text of at most 68 bytes: the first `len`, zeros behind them.
+// A text of at most 68 bytes: the first `len`, zeros behind them. No ArrayVec: what is kept is lent to C as it stands (`stored`).
 #[derive(Clone, Copy)]
 pub struct Text {
     pub text: [u8; 68],
@@ -49,37 +49,19 @@ pub struct Joined {
 pub fn whole_len(s: &[u8]) -> usize
     ensures { result ≡ taken_by (whole s.now) }
 {
-    let mut end = s.len();
-    while 1 < end {
-        if (s[end - 2] == 0x0d) & (s[end - 1] == 0x0a) {
-            return end;
+    for end in (1..s.len()).rev() {
+        if (s[end - 1] == b'\r') & (s[end] == b'\n') {
+            return end + 1;
         }
-        end -= 1;
     }
     0
 }
 
-fn least(a: usize, b: usize) -> usize
-    ensures { result ≡ min a b }
-{
-    if a < b {
-        return a;
-    }
-    b
-}
-
-// Whether a text holds an inadmissible byte.
+// Whether a text holds an inadmissible byte, each asked: no table of `text` is lent here.
 fn holds_bad(s: &[u8]) -> bool
-    ensures { result ≡ any_of is_inadmissible s.now }
+    ensures { result ≡ list_any is_inadmissible s.now }
 {
-    let mut i = 0;
-    while i < s.len() {
-        if !text::characters::is_admissible(s[i]) {
-            return true;
-        }
-        i += 1;
-    }
-    false
+    s.iter().any(|b| !text::characters::is_admissible(*b))
 }
 
 // The byte that stands for all behind the 64th.
@@ -107,8 +89,8 @@ fn both(a: &[u8], b: &[u8]) -> Text
 fn shortened(a: &[u8], b: &[u8]) -> Text
     ensures { result ≡ as_text (short (a.now ++ b.now)) }
 {
-    let n = least(64, a.len());
-    let m = least(64 - n, b.len());
+    let n = usize::min(64, a.len());
+    let m = usize::min(64 - n, b.len());
     let t = both(&a[..n], &b[..m]);
     if (n == a.len()) & (m == b.len()) {
         return t;
@@ -122,7 +104,7 @@ fn shortened(a: &[u8], b: &[u8]) -> Text
 fn start_of(s: &[u8], len: usize) -> Text
     ensures { result ≡ as_text (take (min 65 len) s.now) }
 {
-    let n = least(least(65, len), s.len());
+    let n = usize::min(65, len).min(s.len());
     let mut text = [0u8; 68];
     let end = text::strings::put(&mut text, 0, &s[..n]);
     Text { text, len: end }
@@ -132,8 +114,7 @@ fn start_of(s: &[u8], len: usize) -> Text
 fn with_cr(h: Held, cr: bool) -> Text
     ensures { result ≡ as_text ((kept_in h).text ++ cr_if cr) }
 {
-    let from = h.text;
-    let t = start_of(&from[..], h.len);
+    let t = start_of(&h.text, h.len);
     if cr {
         let mut text = t.text;
         let end = text::strings::put(&mut text, t.len, b"\r");
@@ -163,14 +144,10 @@ pub fn ended(h: Held) -> Text
 fn bare_len(s: &[u8]) -> usize
     ensures { result ≡ length (without_cr s.now) }
 {
-    let n = s.len();
-    if n == 0 {
-        return 0;
+    if s.ends_with(b"\r") {
+        return s.len() - 1;
     }
-    if s[n - 1] == 0x0d {
-        return n - 1;
-    }
-    n
+    s.len()
 }
 
 // Nothing is kept.
@@ -191,9 +168,7 @@ pub fn add(h: Held, s: &[u8]) -> Held
     let n = s.len();
     let k = bare_len(s);
     let t = with_cr(h, h.cr & !(n == 0));
-    let from = t.text;
-    let len = t.len;
-    let u = shortened(&from[..len], &s[..k]);
+    let u = shortened(&t.text[..t.len], &s[..k]);
     let text = u.text;
     Held {
         text,
@@ -221,8 +196,7 @@ pub fn join(h: Held, s: &[u8]) -> Joined
         };
     }
     let f = lines::line_near(s, 0);
-    let end = f.end;
-    let held = add(h, &s[..end]);
+    let held = add(h, &s[..f.end]);
     Joined {
         held,
         next: f.next,

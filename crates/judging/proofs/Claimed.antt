@@ -21,7 +21,7 @@ use Rattle.rules.specs.Terms.{Terms}
 use Rattle.rules.specs.Rows.{Row, FieldRow, LowRow, low, field}
 use Rattle.rules.specs.Tree.{Item, Owned}
 use Rattle.rules.specs.Said.{continuations, says, stands, head_of, kc_by, span_by}
-use Rattle.items.specs.Claims.{Claims, claims_as, kc_kept, span_kept, group_claims}
+use Rattle.items.specs.Claims.{Claims, claims_as, first_of, group_claims}
 use Rattle.items.proofs.Ideal.{start, early, at_head, at_field, closed, push, Pieces}
 use Rattle.items.proofs.Turned.{first_up, says_closed}
 use Rattle.items.proofs.Firsts.{claims_of, grown_claims, groups_same, claim_at}
@@ -157,11 +157,11 @@ claims_close terms (at_field b h hl ups x ls) p P = go (eqb x.ident (named "KC")
         let q : p ≡ record { ident = i; said = reading_of (class_of i) (text_of x.row.bytes) } = P (ap (leb 5) (eqb-true (code_of i) k e) ∙ m) in
         (ap (λ (a : Pend). a.ident) q, ap (λ (a : Pend). if_fits (fits_by o.marks) a.said) q ∙ said_by terms b h hl ups x ls)
 
-    span_is : span_closed c.span o p ≡ cond (eqb i (named "IN")) (span_kept c.span (span_by said)) c.span
-    span_is = by (eqb (code_of i) 5) refl ∙ ap (λ (t : Bool). cond t (span_kept c.span (span_by said)) c.span) (tells i).0
+    span_is : span_closed c.span o p ≡ cond (eqb i (named "IN")) (first_of c.span (span_by said)) c.span
+    span_is = by (eqb (code_of i) 5) refl ∙ ap (λ (t : Bool). cond t (first_of c.span (span_by said)) c.span) (tells i).0
       where
-        by : (t : Bool) → eqb (code_of i) 5 ≡ t → cond t (span_kept c.span (span_by (said_closed o p))) c.span ≡ cond t (span_kept c.span (span_by said)) c.span
-        by true e = ap (λ (r : Reading). span_kept c.span (span_by r)) (waited 5 refl e).1
+        by : (t : Bool) → eqb (code_of i) 5 ≡ t → cond t (first_of c.span (span_by (said_closed o p))) c.span ≡ cond t (first_of c.span (span_by said)) c.span
+        by true e = ap (λ (r : Reading). first_of c.span (span_by r)) (waited 5 refl e).1
         by false e = refl
 
     groups_are : stated_closed c.sums o p ≡ group_claims c.sums (sum_group i) said
@@ -174,7 +174,7 @@ claims_close terms (at_field b h hl ups x ls) p P = go (eqb x.ident (named "KC")
     go : (t : Bool) → eqb i (named "KC") ≡ t → close_claims (cond t (claims_of (closed x ls ∷ ups)) c) o p ≡ claims_of (closed x ls ∷ ups)
     go true e = rw (eqb-true i (named "KC") e) (unfold code_of class_of place in refl)
     go false e =
-        (λ j. claims_as (cond (sym e j) (kc_kept c.kc (kc_by said)) c.kc) (span_is j) (groups_are j)) ∙ claim_at ups i said ∙ grown_is ups x ls
+        (λ j. claims_as (cond (sym e j) (first_of c.kc (kc_by said)) c.kc) (span_is j) (groups_are j)) ∙ claim_at ups i said ∙ grown_is ups x ls
 
 -- a field opens in an item
 own_claims_lem : (ups : List (Owned FieldRow)) (y : FieldRow)
@@ -186,14 +186,14 @@ own_claims_lem ups y = go (eqb y.ident (named "KC")) refl
 
     go : (t : Bool) → eqb y.ident (named "KC") ≡ t
         → cond t (claims_of (closed y [] ∷ ups)) (claims_of ups)
-        ≡ claims_as (cond t (kc_kept (claims_of ups).kc (kc_by (reading_of (class_of y.ident) (text_of y.row.bytes)))) (claims_of ups).kc) (claims_of ups).span (claims_of ups).sums
+        ≡ claims_as (cond t (first_of (claims_of ups).kc (kc_by (reading_of (class_of y.ident) (text_of y.row.bytes)))) (claims_of ups).kc) (claims_of ups).span (claims_of ups).sums
     go true e =
         let c = claims_of ups in
         let said = says (closed y []) in
         let other = kc_other e in
         sym (grown_is ups y []) ∙ sym (claim_at ups y.ident said)
-        ∙ (λ j. claims_as (cond (e j) (kc_kept c.kc (kc_by said)) c.kc) (cond (other.0 j) (span_kept c.span (span_by said)) c.span) (groups_same c.sums (sum_group y.ident) said other.1 j))
-        ∙ ap (λ (r : Reading). claims_as (kc_kept c.kc (kc_by r)) c.span c.sums) (says_own y)
+        ∙ (λ j. claims_as (cond (e j) (first_of c.kc (kc_by said)) c.kc) (cond (other.0 j) (first_of c.span (span_by said)) c.span) (groups_same c.sums (sum_group y.ident) said other.1 j))
+        ∙ ap (λ (r : Reading). claims_as (first_of c.kc (kc_by r)) c.span c.sums) (says_own y)
     go false e = refl
 
 abbrev pub headed : Pieces → Bool

@@ -10,8 +10,6 @@ use lib.ListN.{length, get_or, set, length-set}
 use lib.Seq.{get_or-set_same, get_or-set_other}
 use borrow.Author.Tests.{le-ltb, lt-ltb, eqb-true, eqb-false}
 use Rattle.laws.specs.Tests.{mark}
-use Rattle.headings.specs.declared.Read.{Read}
-use Rattle.headings.specs.declared.Read.TheVariants.{Unreadable}
 use Rattle.headings.specs.Reading.{heading_of}
 use Rattle.fields.specs.declared.readings.Reading.{Reading}
 use Rattle.fields.specs.Kinds.{named}
@@ -47,6 +45,8 @@ use Rattle.judging.proofs.Sets.{low_marks, low_set}
 use Rattle.closing.proofs.Shutting.{account_of, wait, last_out, item_says, Positive, claims_later, own_of, shut_of, read_now, no_zero, since_of}
 use Rattle.judging.proofs.OpenField.{open_at, open_of, low_open_lem, early_open, field_open, close_open}
 use Rattle.judging.proofs.Claimed.{claims_now, Pending, claims_low, claims_close, claims_own, pending_own, pending_low, headed}
+use Rattle.headings.specs.declared.Heading.{Heading}
+use Rattle.std.specs.Prelude.{None, Option}
 
 -- ---- the lines at which identifiers last stood
 -- the numbers of what is open, after n lines
@@ -87,11 +87,11 @@ headed_is (at_head b h ls) P = no_zero h.no P
 headed_is (at_field b h hl ups x ls) P = no_zero h.no P.0
 
 -- a heading with one line more below it
-read_more : (h : Row) (l : LowRow) (ls : List LowRow) → head_of (closed h (l ∷ ls)) ≡ cond l.continues Unreadable (head_of (closed h ls))
+read_more : (h : Row) (l : LowRow) (ls : List LowRow) → head_of (closed h (l ∷ ls)) ≡ cond l.continues None (head_of (closed h ls))
 unfolding head_of continued
 read_more h l ls = rw (continued_closed (l ∷ ls), continued_closed ls) (go l.continues (continued ls))
   where
-    go : (a b : Bool) → cond (a || b) Unreadable (heading_of h.bytes) ≡ cond a Unreadable (cond b Unreadable (heading_of h.bytes))
+    go : (a b : Bool) → cond (a || b) None (heading_of h.bytes) ≡ cond a None (cond b None (heading_of h.bytes))
     go true b = refl
     go false b = refl
 
@@ -118,7 +118,7 @@ module _ (terms : Terms) where
       ∙ sym (field_open terms b h hl ups y)
 
   -- ---- all that the pass holds
-  pub record Means (c : Pieces) (n : ℕ) (o : Open) (since own : ℕ) (r : Read) (cl : Claims) (p : Pend) (b : Block) (w : Wait) (stood : List ℕ) : Type 0 where
+  pub record Means (c : Pieces) (n : ℕ) (o : Open) (since own : ℕ) (r : Option Heading) (cl : Claims) (p : Pend) (b : Block) (w : Wait) (stood : List ℕ) : Type 0 where
     pub open_is : o ≡ open_of terms c
     pub since_is : since ≡ since_of c
     pub own_is : own ≡ own_of c
@@ -133,7 +133,7 @@ module _ (terms : Terms) where
     pub past : (k : ℕ) → get_or stood k 0 ≤ n
     pub inside : Stood c stood
 
-  module _ (c : Pieces) (n : ℕ) (o : Open) (since own : ℕ) (r : Read) (cl : Claims) (p : Pend) (b : Block) (w : Wait) (stood : List ℕ) (M : Means c n o since own r cl p b w stood) where
+  module _ (c : Pieces) (n : ℕ) (o : Open) (since own : ℕ) (r : Option Heading) (cl : Claims) (p : Pend) (b : Block) (w : Wait) (stood : List ℕ) (M : Means c n o since own r cl p b w stood) where
     abbrev pub claimed : Claims
     claimed = close_claims cl o p
 
@@ -173,23 +173,23 @@ module _ (terms : Terms) where
 
     pub final_out : (all : List Fault)
         → put_all put (final terms c) all
-        ≡ insert_all (marked closing.wait.line (last_marks closing.block.any closing.wait)) (insert_all (marked o.no o.marks ++ close_faults (basis_of terms) b w since own r claimed) all)
+        ≡ insert_all (marked closing.wait.line (last_marks closing.block.course.any closing.wait)) (insert_all (marked o.no o.marks ++ close_faults (basis_of terms) b w since own r claimed) all)
     final_out all =
         let eb : closing.block ≡ account_of (above_then c) = ap (λ (x : Ended). x.block) closing_is ∙ (item_says terms c M.positive all).1 in
         let ew : closing.wait ≡ wait terms (above_then c) = ap (λ (x : Ended). x.wait) closing_is ∙ (item_says terms c M.positive all).2 in
         let now : List Fault = insert_all (marked o.no o.marks ++ close_faults (basis_of terms) b w since own r claimed) all in
         ap (λ (es : List Spot). put_all put es all) (final_puts terms c) ∙ put_all_append put (fields_out terms c ++ items_out terms c) (waits terms (above_then c) true) all
         ∙ ap (put_all put (waits terms (above_then c) true)) (all_enter all) ∙ last_out terms (above_then c) now
-        ∙ sym (λ j. insert_all (marked (ew j).line (last_marks (eb j).any (ew j))) now)
+        ∙ sym (λ j. insert_all (marked (ew j).line (last_marks (eb j).course.any (ew j))) now)
 
     -- ---- and what it holds then
     pub means_low : (l : LowRow)
-        → Means (push c (low l)) (suc n) (low_open l.continues o (length l.row.bytes)) since own (cond (l.continues && eqb o.no 0) Unreadable r) cl p b w stood
+        → Means (push c (low l)) (suc n) (low_open l.continues o (length l.row.bytes)) since own (cond (l.continues && eqb o.no 0) None r) cl p b w stood
     means_low l = record {
       open_is = ap (λ (x : Open). low_open l.continues x (length l.row.bytes)) M.open_is ∙ sym (low_open_lem terms c l M.positive);
       since_is = M.since_is ∙ same_since c;
       own_is = M.own_is ∙ same_own c;
-      reads_as = (λ i. cond (l.continues && eqb (M.open_is i).no 0) Unreadable (M.reads_as i)) ∙ reads c M.positive;
+      reads_as = (λ i. cond (l.continues && eqb (M.open_is i).no 0) None (M.reads_as i)) ∙ reads c M.positive;
       claims_are = M.claims_are ∙ sym (claims_low c l);
       pending = pending_low c l p M.pending;
       account_is = M.account_is ∙ ap account_of (same_above c);
@@ -213,19 +213,19 @@ module _ (terms : Terms) where
         same_own (at_head b h ls) = refl
         same_own (at_field b h hl ups x ls) = refl
 
-        both : (t : Bool) → ◌≡◌ {A = Read} (cond t Unreadable Unreadable) Unreadable
+        both : (t : Bool) → ◌≡◌ {A = Option Heading} (cond t None None) None
         both true = refl
         both false = refl
 
-        off : (t : Bool) (x : Read) → cond (t && false) Unreadable x ≡ x
+        off : (t : Bool) (x : Option Heading) → cond (t && false) None x ≡ x
         off true x = refl
         off false x = refl
 
-        on : (t : Bool) (x : Read) → cond (t && true) Unreadable x ≡ cond t Unreadable x
+        on : (t : Bool) (x : Option Heading) → cond (t && true) None x ≡ cond t None x
         on true x = refl
         on false x = refl
 
-        reads : (c : Pieces) → Positive c → cond (l.continues && eqb (open_of terms c).no 0) Unreadable (read_now c) ≡ read_now (push c (low l))
+        reads : (c : Pieces) → Positive c → cond (l.continues && eqb (open_of terms c).no 0) None (read_now c) ≡ read_now (push c (low l))
         reads start P = both (l.continues && true)
         reads (early ups x ls) P = both (l.continues && eqb x.row.no 0)
         reads (at_head b h ls) P = on l.continues (head_of (closed h ls)) ∙ sym (read_more h l ls)

@@ -9,8 +9,6 @@ use lib.Dec.{eqb, ltb, leb}
 use lib.ListN.{length}
 use borrow.Author.Tests.{le-leb, lt-leb, le-ltb, lt-ltb, ltb-true, ltb-false, ne_eqb}
 use Rattle.laws.specs.Tests.{mark}
-use Rattle.headings.specs.declared.Read.{Read}
-use Rattle.headings.specs.declared.Read.TheVariants.{Reads, Unreadable}
 use Rattle.fields.specs.declared.classes.Class.{Class}
 use Rattle.fields.specs.declared.classes.Class.TheVariants.{Money, Number, Range, Group, Account, Text, Free}
 use Rattle.fields.specs.declared.readings.Reading.{Reading}
@@ -42,6 +40,8 @@ use Rattle.judging.specs.Opening.{kc_marks, breaks_tail, no_open, broken_by, mor
 use Rattle.closing.proofs.Sets.{line_marks}
 use Rattle.judging.proofs.Sets.{field_marks, field_set, loose_marks, loose_set}
 use Rattle.closing.proofs.Shutting.{put_none, Positive}
+use Rattle.headings.specs.declared.Heading.{Heading}
+use Rattle.std.specs.Prelude.{None, Option, Some}
 
 -- ---- a class as a number says whether a tail breaks it
 abbrev breaks_as : Class → ℕ → ℕ → Bool
@@ -197,14 +197,14 @@ six a b c d e f own h =
     go true q = let e : (own + 64 + 128 * q) % 128 ≡ own + 64 = omega arith in rw e (le-ltb (own + 64) 64 (omega arith))
     go false q = let e : (own + 0 + 128 * q) % 128 ≡ own = omega arith in rw e (lt-ltb own 64 h)
 
-late_is : (terms : Terms) (h : Read) (r : Reading) → late_by (basis_of terms) h r ≡ late terms h r
-late_is terms (Reads h) Broken = refl
-late_is terms (Reads h) Plain = refl
-late_is terms (Reads h) (Paid a d) = same_eight terms h.kind d
-late_is terms (Reads h) (Span a b) = refl
-late_is terms (Reads h) (Stated n a) = refl
-late_is terms (Reads h) (Party b) = refl
-late_is terms Unreadable r = refl
+late_is : (terms : Terms) (h : Option Heading) (r : Reading) → late_by (basis_of terms) h r ≡ late terms h r
+late_is terms (Some h) Broken = refl
+late_is terms (Some h) Plain = refl
+late_is terms (Some h) (Paid a d) = same_eight terms h.kind d
+late_is terms (Some h) (Span a b) = refl
+late_is terms (Some h) (Stated n a) = refl
+late_is terms (Some h) (Party b) = refl
+late_is terms None r = refl
 
 broken_is : (x : FieldRow) (ls : List LowRow) → is_broken (says (closed x ls)) ≡ rule6 (closed x ls)
 unfolding says
@@ -212,22 +212,22 @@ broken_is x ls = broken (class_of x.ident) x.row.bytes (continuations (closed x 
 
 module _ (terms : Terms) where
   -- 6 to 9, 23 and 24 by what the field says
-  abbrev high : Bool → Read → Reading → ℕ
+  abbrev high : Bool → Option Heading → Reading → ℕ
   high first r said = mark 6 (is_broken said) + party_marks said + (mark 8 (first && late terms r said) + mark 9 (first && large r said))
 
-  high_broken : (first : Bool) (r : Read) → high first r Broken ≡ 64
-  high_broken true (Reads h) = refl
-  high_broken true Unreadable = refl
-  high_broken false (Reads h) = refl
-  high_broken false Unreadable = refl
+  high_broken : (first : Bool) (r : Option Heading) → high first r Broken ≡ 64
+  high_broken true (Some h) = refl
+  high_broken true None = refl
+  high_broken false (Some h) = refl
+  high_broken false None = refl
 
   -- a mark below 64 and what is broken
-  broken_marks : (own : ℕ) (first : Bool) (r : Read) (said : Reading) → own < 64 → own + high first r Broken ≡ (own + high first r said) % 64 + 64
+  broken_marks : (own : ℕ) (first : Bool) (r : Option Heading) (said : Reading) → own < 64 → own + high first r Broken ≡ (own + high first r said) % 64 + 64
   broken_marks own first r said h =
       let q = by_64 (is_broken said) (of_party prefix_fails said) (first && late terms r said) (first && large r said) (of_party number_fails said) (of_party number_zero said) in
       rw (high_broken first r, q.1, low_part own q.0 h)
 
-  module _ (r : Read) (ups : List (Owned FieldRow)) (x : FieldRow) where
+  module _ (r : Option Heading) (ups : List (Owned FieldRow)) (x : FieldRow) where
     abbrev own : ℕ
     own = line_marks x.row + mark 5 (stands x.ident ups)
 

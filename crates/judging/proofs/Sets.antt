@@ -5,7 +5,6 @@ use mathlib.Core.List.{List}
 use native.Mathlib.Omega.{arith}
 use lib.ListN.{length}
 use Rattle.laws.specs.Tests.{mark}
-use Rattle.headings.specs.declared.Read.{Read}
 use Rattle.lines.specs.Lines.{body, lines}
 use Rattle.rules.specs.Terms.{Terms}
 use Rattle.rules.specs.Rows.{FieldRow, LowRow, rows_from}
@@ -20,6 +19,8 @@ use Rattle.rules.proofs.Demand.{total_of_sizes}
 use Rattle.ledger.specs.Marks.{set_of, set_sizes}
 use Rattle.ledger.proofs.Faults.{sizes_of_sets}
 use Rattle.closing.proofs.Sets.{line_marks}
+use Rattle.headings.specs.declared.Heading.{Heading}
+use Rattle.std.specs.Prelude.{Option}
 
 unfoldable pub low_marks : Place → LowRow → ℕ
 low_marks p l = line_marks l.row + mark 2 (rule2 p l) + mark 3 (rule3 p)
@@ -28,12 +29,12 @@ pub low_set : (p : Place) (l : LowRow) → set_of (low_tests p l) ≡ low_marks 
 unfolding low_tests low_marks line_marks
 low_set p l = omega arith
 
-unfoldable pub field_marks : Terms → Read → List (Owned FieldRow) → Owned FieldRow → ℕ
+unfoldable pub field_marks : Terms → Option Heading → List (Owned FieldRow) → Owned FieldRow → ℕ
 field_marks terms h above g =
     line_marks g.owner.row
     + (mark 5 (rule5 above g) + mark 6 (rule6 g) + mark 7 (rule7 g) + mark 8 (rule8_at terms h above g) + mark 9 (rule9_at h above g) + mark 23 (rule23 g) + mark 24 (rule24 g))
 
-pub field_set : (terms : Terms) (h : Read) (above : List (Owned FieldRow)) (g : Owned FieldRow) → set_of (field_tests terms h above g) ≡ field_marks terms h above g
+pub field_set : (terms : Terms) (h : Option Heading) (above : List (Owned FieldRow)) (g : Owned FieldRow) → set_of (field_tests terms h above g) ≡ field_marks terms h above g
 unfolding field_tests field_marks line_marks
 field_set terms h above g = omega arith
 

@@ -1,10 +1,8 @@
 -- Model of the code, not part of the statement: the open field as four numbers, its line, its marks as they stand, the number of its class
 -- and its continuations so far; and what the item's fields claim as they close.
-use Rattle.std.specs.Prelude.{ℕ, ◌+◌, ◌%◌, ◌^◌, Bool, true, false, cond, not, ◌&&◌, ◌||◌, eqb, ltb, leb}
+use Rattle.std.specs.Prelude.{ℕ, ◌+◌, ◌%◌, ◌^◌, Bool, true, false, cond, not, ◌&&◌, ◌||◌, eqb, ltb, leb, None, Option, Some}
 use Rattle.laws.specs.Tests.{mark}
 use Rattle.headings.specs.declared.Heading.{Heading}
-use Rattle.headings.specs.declared.Read.{Read}
-use Rattle.headings.specs.declared.Read.TheVariants.{Reads, Unreadable}
 use Rattle.figures.specs.declared.parts.Halves.{Halves}
 use Rattle.fields.specs.declared.readings.Reading.{Reading}
 use Rattle.fields.specs.declared.readings.Reading.TheVariants.{Broken, Plain, Paid, Span, Stated, Party}
@@ -13,15 +11,16 @@ use Rattle.fields.specs.Classes.{sum_group}
 use Rattle.fields.specs.Codes.{code_of}
 use Rattle.fields.specs.Readings.{if_fits}
 use Rattle.fields.specs.Tails.{is_broken}
-use Rattle.rules.specs.declared.FirstKc.{FirstKc}
-use Rattle.rules.specs.declared.FirstIn.{FirstIn}
+use Rattle.rules.specs.declared.First.{First}
+use Rattle.rules.specs.declared.Payment.{Payment}
+use Rattle.rules.specs.declared.Range.{Range}
 use Rattle.rules.specs.declared.Sums.{Sums}
 use Rattle.rules.specs.Said.{span_by}
 use Rattle.rules.specs.HeadingRules.{no_kc}
 use Rattle.rules.specs.FieldRules.{of_party, prefix_fails, number_fails, number_zero, large}
 use Rattle.own_rules.specs.declared.Basis.{Basis}
 use Rattle.own_rules.specs.Model.{breaks8}
-use Rattle.items.specs.Claims.{Claims, claims_as, kc_own, span_kept, group_claims}
+use Rattle.items.specs.Claims.{Claims, claims_as, kc_own, first_of, group_claims}
 use Rattle.judging.specs.declared.opening.Pend.{Pend}
 use Rattle.judging.specs.declared.opening.Open.{Open}
 
@@ -51,16 +50,16 @@ abbrev pub low_open : Bool → Open → ℕ → Open
 low_open continues o n = cond (continues && not (eqb o.no 0)) (more_open o n) o
 
 -- 8 and 9, by what the field's own line says, where it is the first KC
-abbrev pub late_by : Basis → Read → Reading → Bool
-late_by j (Reads h) (Paid a d) = breaks8 j h.kind d
-late_by j (Reads h) Broken = false
-late_by j (Reads h) Plain = false
-late_by j (Reads h) (Span a b) = false
-late_by j (Reads h) (Stated n a) = false
-late_by j (Reads h) (Party b) = false
-late_by j Unreadable r = false
+abbrev pub late_by : Basis → Option Heading → Reading → Bool
+late_by j (Some h) (Paid a d) = breaks8 j h.kind d
+late_by j (Some h) Broken = false
+late_by j (Some h) Plain = false
+late_by j (Some h) (Span a b) = false
+late_by j (Some h) (Stated n a) = false
+late_by j (Some h) (Party b) = false
+late_by j None r = false
 
-unfoldable pub kc_marks : Basis → Bool → Read → Reading → ℕ
+unfoldable pub kc_marks : Basis → Bool → Option Heading → Reading → ℕ
 kc_marks j first h said = mark 8 (first && late_by j h said) + mark 9 (first && large h said)
 
 -- 7, 23 and 24, by the halves of an account, and by what the field's own line says
@@ -75,7 +74,7 @@ abbrev pub plain_marks : Reading → ℕ
 plain_marks said = mark 6 (is_broken said) + party_marks said
 
 -- 6 to 9, 23 and 24
-unfoldable pub said_marks : Basis → Bool → Read → Reading → ℕ
+unfoldable pub said_marks : Basis → Bool → Option Heading → Reading → ℕ
 said_marks j first h said = plain_marks said + kc_marks j first h said
 
 -- it reads: by bit 6 of its marks
@@ -84,13 +83,13 @@ fits_by m = ltb (m % 2 ^ 7) (2 ^ 6)
 
 -- ---- what is claimed
 -- the heading of the open item
-abbrev pub read_as : Bool → Heading → Read
-read_as reads h = cond reads (Reads h) Unreadable
+abbrev pub read_as : Bool → Heading → Option Heading
+read_as reads h = cond reads (Some h) None
 
 -- what is kept of a heading that reads
-abbrev pub heading_in : Read → Heading → Heading
-heading_in (Reads h) old = h
-heading_in Unreadable old = old
+abbrev pub heading_in : Option Heading → Heading → Heading
+heading_in (Some h) old = h
+heading_in None old = old
 
 -- the claims with a field at its own line
 abbrev pub own_claims : Claims → ℕ → Reading → Claims
@@ -100,8 +99,8 @@ own_claims c ident said = claims_as (kc_own c.kc ident said) c.span c.sums
 abbrev pub said_closed : Open → Pend → Reading
 said_closed o p = if_fits (fits_by o.marks) p.said
 
-abbrev pub span_closed : FirstIn → Open → Pend → FirstIn
-span_closed span o p = cond (eqb o.class 5) (span_kept span (span_by (said_closed o p))) span
+abbrev pub span_closed : First Range → Open → Pend → First Range
+span_closed span o p = cond (eqb o.class 5) (first_of span (span_by (said_closed o p))) span
 
 abbrev pub stated_closed : Sums → Open → Pend → Sums
 stated_closed stated o p = cond (eqb o.class 6) (group_claims stated (sum_group p.ident) (said_closed o p)) stated
@@ -117,7 +116,7 @@ abbrev pub pend_of : Pend → ℕ → Reading → Pend
 pend_of p ident said = cond (leb 5 (code_of ident)) (record { ident = ident; said = said }) p
 
 -- a field of an item whose heading reads as r, by its own line: its marks 1 and 4, whether its identifier stood already, the first KC
-abbrev pub open_own : Basis → FirstKc → Read → ℕ → ℕ → Bool → ℕ → Reading → Open
+abbrev pub open_own : Basis → First Payment → Option Heading → ℕ → ℕ → Bool → ℕ → Reading → Open
 open_own j kc r n own again ident said =
     record {
       no = n;

@@ -1,10 +1,12 @@
 // The open field: it is judged at its own line, and only its marks are kept. A continuation can only break it.
-ghost use Rattle.std.specs.Prelude.{◌≡◌, false, cond, not, ℕ, ◌+◌, ◌≤◌, ◌<◌, ◌^◌, eqb};
+ghost use Rattle.std.specs.Prelude.{◌≡◌, Option, false, cond, not, ℕ, ◌+◌, ◌≤◌, ◌<◌, ◌^◌, eqb};
 ghost use Rattle.laws.specs.Tests.{mark};
 ghost use Rattle.fields.specs.declared.classes.Class.{Class};
 ghost use Rattle.fields.specs.Classes.{class_of};
 ghost use Rattle.fields.specs.Codes.{code_by, code_of, claims};
 ghost use Rattle.fields.specs.Readings.{text_of, reading_of};
+ghost use Rattle.rules.specs.declared.First.{First};
+ghost use Rattle.rules.specs.declared.Payment.{Payment};
 ghost use Rattle.rules.specs.Said.{is_unreadable};
 ghost use Rattle.rules.specs.FieldRules.{is_failing, is_zero};
 ghost use Rattle.judging.specs.Opening.{breaks_tail, broken_by, no_open, more_open, low_open, read_as, halves_marks, plain_marks, said_marks, said_closed, span_closed, stated_closed, heading_in, no_pend, pend_of, open_own, open_loose, low_marks_at};
@@ -15,10 +17,10 @@ use blocks::marks::{
 use fields::readings::Reading;
 use fields::{classes, readings};
 use figures::parts::{Halves, Number};
-use headings::{Heading, Read};
+use headings::Heading;
 use items::claiming;
 use own_rules::Basis;
-use rules::{FirstIn, FirstKc, Sums};
+use rules::{First, Payment, Range, Sums};
 
 // Its line (0: none), its marks as they stand, the number of its class, its continuations.
 #[derive(Clone, Copy)]
@@ -81,12 +83,7 @@ fn with_more(o: Open, length: usize) -> Open
 {
     let tail = o.tail + 1;
     let marks = broken_by(breaks_tail(o.class, tail, length), o.marks);
-    Open {
-        no: o.no,
-        marks,
-        class: o.class,
-        tail,
-    }
+    Open { marks, tail, ..o }
 }
 
 // A continuation, or a line of no kind.
@@ -123,8 +120,7 @@ fn number_marks(n: Number) -> u64
 fn halves_marks(h: Halves) -> u64
     ensures { (result ≡ halves_marks h) × (result ≤ 2 ^ 25) }
 {
-    let n = h.number;
-    flag(!h.prefix, MARK_7) + number_marks(n)
+    flag(!h.prefix, MARK_7) + number_marks(h.number)
 }
 
 // 6 to 9, 23 and 24; 8 and 9 only where it is the item's first KC, and the heading reads.
@@ -133,7 +129,6 @@ pub fn said_marks(basis: Basis, first: bool, reads: bool, h: Heading, said: Read
 {
     match said {
         Reading::Broken => MARK_6,
-        Reading::Plain => 0,
         Reading::Paid(amount, day) => {
             flag(
                 (first & reads) & own_rules::breaks_eight(basis, h.kind, day),
@@ -143,9 +138,8 @@ pub fn said_marks(basis: Basis, first: bool, reads: bool, h: Heading, said: Read
                 MARK_9,
             )
         }
-        Reading::Span(_, _) => 0,
-        Reading::Stated(_, _) => 0,
         Reading::Party(halves) => halves_marks(halves),
+        _ => 0,
     }
 }
 
@@ -153,16 +147,15 @@ pub fn said_marks(basis: Basis, first: bool, reads: bool, h: Heading, said: Read
 fn said_closed(o: Open, p: Pend) -> Reading
     ensures { result ≡ said_closed o p }
 {
-    let said = p.said;
-    readings::if_fits(o.marks % MARK_7 < MARK_6, said)
+    readings::if_fits(o.marks % MARK_7 < MARK_6, p.said)
 }
 
 // The first IN, with the open field, which closes.
-pub fn span_closed(span: FirstIn, o: Open, p: Pend) -> FirstIn
+pub fn span_closed(span: First<Range>, o: Open, p: Pend) -> First<Range>
     ensures { result ≡ span_closed span o p }
 {
     if o.class == 5 {
-        return claiming::span_kept(span, claiming::span_by(said_closed(o, p)));
+        return claiming::first_of(span, claiming::span_by(said_closed(o, p)));
     }
     span
 }
@@ -191,7 +184,7 @@ pub fn keep_own(pend: Pend, class: u8, ident: usize, said: Reading) -> Pend
 // A field opens; `kc` is the item's first KC above it, `again` says whether its identifier stood already in the item.
 pub fn field_open(
     basis: Basis,
-    kc: FirstKc,
+    kc: First<Payment>,
     since: u32,
     reads: bool,
     h: Heading,
@@ -228,11 +221,8 @@ fn plain_marks(class: u8, line: &[u8]) -> u64
 {
     match readings::read_plain(class, line) {
         Reading::Broken => MARK_6,
-        Reading::Plain => 0,
-        Reading::Paid(_, _) => 0,
-        Reading::Span(_, _) => 0,
-        Reading::Stated(_, _) => 0,
         Reading::Party(halves) => halves_marks(halves),
+        _ => 0,
     }
 }
 
@@ -240,7 +230,7 @@ fn plain_marks(class: u8, line: &[u8]) -> u64
 // it: they are inlined, and no `Reading` is made.
 pub fn plain_open(since: u32, no: u32, own: u64, again: bool, class: u8, line: &[u8]) -> Open
     requires { own ≤ 18 }
-    ensures { (j : Basis) (kc : FirstKc) (h : Read) (ident : ℕ) → class ≡ code_of ident → claims class ≡ false → result ≡ cond (eqb since 0) (open_loose no own) (open_own j kc h no own again ident (reading_of (class_of ident) (text_of line.now))) }
+    ensures { (j : Basis) (kc : First Payment) (h : Option Heading) (ident : ℕ) → class ≡ code_of ident → claims class ≡ false → result ≡ cond (eqb since 0) (open_loose no own) (open_own j kc h no own again ident (reading_of (class_of ident) (text_of line.now))) }
 {
     if since == 0 {
         return Open {
@@ -259,29 +249,20 @@ pub fn plain_open(since: u32, no: u32, own: u64, again: bool, class: u8, line: &
 }
 
 // The heading of the open item.
-pub fn read_as(reads: bool, h: Heading) -> Read
+pub fn read_as(reads: bool, h: Heading) -> Option<Heading>
     ensures { result ≡ read_as reads h }
 {
-    if reads {
-        return Read::Reads(h);
-    }
-    Read::Unreadable
+    if reads { Some(h) } else { None }
 }
 
-pub fn heading_in(read: Read, old: Heading) -> Heading
+pub fn heading_in(read: Option<Heading>, old: Heading) -> Heading
     ensures { result ≡ heading_in read old }
 {
-    match read {
-        Read::Reads(h) => h,
-        Read::Unreadable => old,
-    }
+    read.unwrap_or(old)
 }
 
-pub fn does_read(read: Read) -> bool
+pub fn does_read(read: Option<Heading>) -> bool
     ensures { result ≡ not (is_unreadable read) }
 {
-    match read {
-        Read::Reads(_) => true,
-        Read::Unreadable => false,
-    }
+    read.is_some()
 }

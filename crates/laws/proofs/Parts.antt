@@ -2,21 +2,17 @@
 use mathlib.Core.Path.{◌≡◌, ap}
 use mathlib.Core.List.{List, [], ◌∷◌, ◌++◌}
 use Prim.Native.Nat.{ℕ, zero, suc, ◌-◌, min}
-use native.Mathlib.Nat.{min-zero, zero-min, suc-min-suc, sub-zero, zero-sub, suc-sub-suc}
+use native.Mathlib.Nat.{min-zero, suc-min-suc, sub-zero, zero-sub, suc-sub-suc}
 use lib.ListN.{length, take, drop, length-drop}
 use lib.Seq.{take-length, drop-nil, take-nil}
+-- to take more than all is to take all
+pub use Rattle.std.proofs.lemmas.List.{take_min}
 
 -- to drop more than all is to drop all
 pub drop_min : (n : ℕ) (s : List ℕ) → drop (min (length s) n) s ≡ drop n s
 drop_min zero s = rw (min-zero (length s))
 drop_min (suc n) [] = drop-nil (min 0 (suc n))
 drop_min (suc n) (x ∷ s) = rw (suc-min-suc (length s) n) (drop_min n s)
-
--- and to take more than all is to take all
-pub take_min : (n : ℕ) (s : List ℕ) → take (min n (length s)) s ≡ take n s
-take_min zero s = rw (zero-min (length s))
-take_min (suc n) [] = take-nil (min (suc n) 0)
-take_min (suc n) (x ∷ s) = rw (suc-min-suc n (length s)) (ap (λ (t : List ℕ). x ∷ t) (take_min n s))
 
 -- what is left is the rest
 pub take_rest : (n : ℕ) (s : List ℕ) → take (length s - n) (drop n s) ≡ drop n s

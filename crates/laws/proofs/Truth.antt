@@ -7,6 +7,8 @@ use Prim.Native.Nat.{ℕ, ◌≤◌, ◌<◌}
 use lib.Dec.{eqb, ltb}
 use borrow.Author.Tests.{eqb-true, ltb-true, ltb-false, not-true}
 use Rattle.laws.specs.Tests.{every, among}
+-- both tests of a row, and one of them
+pub use Rattle.std.proofs.lemmas.Bool.{and_parts, and_from as both_hold, or_cases as one_holds}
 
 -- a case on a test, with what it says
 pub by_test : {A : Type 0} (b : Bool) → (b ≡ true → A) → (b ≡ false → A) → A
@@ -28,17 +30,6 @@ both_left false b e = e
 pub both_right : (a b : Bool) → (a && b) ≡ true → b ≡ true
 both_right true b e = e
 both_right false b e = absurd (false≢true e)
-
-pub and_parts : (a b : Bool) → (a && b) ≡ true → (a ≡ true) × (b ≡ true)
-and_parts a b e = (both_left a b e, both_right a b e)
-
-pub both_hold : (a b : Bool) → a ≡ true → b ≡ true → (a && b) ≡ true
-both_hold true b p q = q
-both_hold false b p q = p
-
-pub one_holds : (a b : Bool) → (a || b) ≡ true → (a ≡ true) ⊎ (b ≡ true)
-one_holds true b e = inl refl
-one_holds false b e = inr e
 
 pub first_holds : (a b : Bool) → a ≡ true → (a || b) ≡ true
 first_holds true b e = refl

@@ -166,15 +166,11 @@ fn show_all(rt: &impl Print, s: &[u8]) -> io::Result<()> {
         said: Reading::Plain,
         open,
     };
-    let mut at = 0;
-    let mut n: u64 = 0;
-    while at < s.len() {
-        let end = data_file::find(s, at, 10);
-        n += 1;
-        rt.print(n)?;
-        owner = show_line(rt, owner, &s[at..end])?;
+    for (above, line) in s.split_inclusive(|&b| b == b'\n').enumerate() {
+        rt.print(above as u64 + 1)?;
+        let text = line.strip_suffix(b"\n").unwrap_or(line);
+        owner = show_line(rt, owner, text)?;
         rt.println("")?;
-        at = end + 1;
     }
     Ok(())
 }

@@ -1,10 +1,10 @@
--- A place opened in a slice: the loop of `open_at`, and what stands there then.
-use mathlib.Core.Path.{◌≡◌, refl, sym, ap, ◌∙◌}
+-- A place opened in a slice, as `open_at` does it, and what stands there then.
+use mathlib.Core.Path.{◌≡◌, sym, ap, ◌∙◌}
 use mathlib.Core.List.{List, ◌∷◌, ◌++◌, append_assoc}
-use Prim.Native.Nat.{ℕ, suc, ◌-◌, ◌≤◌, ◌<◌}
+use Prim.Native.Nat.{ℕ, suc, ◌+◌, ◌-◌, ◌≤◌, ◌<◌}
 use native.Mathlib.Omega.{arith}
-use lib.ListN.{length, take, drop, get_or, set, length-take, length-drop, length-append, length-set, take-append-drop, get_or-append}
-use lib.Seq.{set_split, take-append-le, take-take, take_at, drop_at, drop-cons, get_or-take, length-take-le}
+use lib.ListN.{length, take, drop, set, length-take, length-drop, length-append}
+use lib.Seq.{paste, set_split, take-append-le, take-take, take_at, drop_at, length-take-le}
 use Rattle.ledger.specs.Slices.{opened}
 
 module _ {ℓ} {A : Type ℓ} where
@@ -20,54 +20,12 @@ module _ {ℓ} {A : Type ℓ} where
       ∙ ap (λ (t : List A). t ++ (v ∷ drop (suc j) (shifted j n s))) (take-append-le j (take (suc j) s) R (omega (arith, l)) ∙ take-take j (suc j) s (omega arith))
       ∙ ap (λ (t : List A). take j s ++ (v ∷ t)) (drop_at (take (suc j) s) R (suc j) l)
 
-  opened_shifted : (s : List A) (j n : ℕ) (d : A) → j < n → n < length s → opened (suc j) n (get_or s j d) s ≡ shifted j n s
-  opened_shifted s j n d h k =
-      let e : n - j ≡ suc (n - suc j) = omega arith in
-      ap (λ (t : List A). take (suc j) s ++ (t ++ drop (suc n) s))
-      (sym (ap (λ (m : ℕ). take m (drop j s)) e ∙ ap (take (suc (n - suc j))) (drop-cons s j d (omega arith))))
-
-  get_d_shifted : (s : List A) (i j n : ℕ) (d : A) → i ≤ j → j < length s → get_or (shifted j n s) i d ≡ get_or s i d
-  get_d_shifted s i j n d h k =
-      get_or-append (take (suc j) s) (take (n - j) (drop j s) ++ drop (suc n) s) d i (omega (arith, length-take-le (suc j) s k))
-      ∙ get_or-take (suc j) s i d (omega arith)
-
-  shifted_none : (s : List A) (n : ℕ) → shifted n n s ≡ s
-  shifted_none s n = let e : n - n ≡ 0 = omega arith in rw e (take-append-drop (suc n) s)
-
--- ---- the loop
-
--- what stood from j on has moved
-pub record Shifting (s₀ : List ℕ) (p n : ℕ) (s : List ℕ) (j : ℕ) : Type 0 where
-  pub from : p ≤ j
-  pub to : j ≤ n
-  pub fits : n < length s₀
-  pub len : length s ≡ length s₀
-  pub is : s ≡ shifted j n s₀
-
--- nothing has moved
-pub shift_start : {s : List ℕ} {p n : ℕ} → p ≤ n → n < length s → Shifting s p n s n
-shift_start {s} {p} {n} h k = record { from = h; to = omega arith; fits = k; len = refl; is = sym (shifted_none s n) }
-
--- one place more
-pub shift_more : {s₀ : List ℕ} {p n : ℕ} {s : List ℕ} {j : ℕ} → Shifting s₀ p n s j → p < j → Shifting s₀ p n (set s j (get_or s (j - 1) 0)) (j - 1)
-shift_more {s₀} {p} {n} {s} {j} S h =
-    let q : ℕ = j - 1 in
-    let e : j ≡ suc q = omega arith in
-    let v : get_or s q 0 ≡ get_or s₀ q 0 = ap (λ (t : List ℕ). get_or t q 0) S.is ∙ get_d_shifted s₀ q j n 0 (omega arith) (omega (arith, S.to, S.fits)) in
-    record {
-      from = omega arith;
-      to = omega (arith, S.to);
-      fits = S.fits;
-      len = length-set s j (get_or s q 0) ∙ S.len;
-      is = ap (λ (t : List ℕ). set t j (get_or s q 0)) S.is ∙ set_shifted s₀ j n (get_or s q 0) S.to S.fits
-          ∙ ap (λ (x : ℕ). opened j n x s₀) v ∙ ap (λ (i : ℕ). opened i n (get_or s₀ q 0) s₀) e ∙ opened_shifted s₀ q n 0 (omega (arith, S.to)) S.fits;
-    }
-
--- and v at p
-pub shift_end : {s₀ : List ℕ} {p n : ℕ} {s : List ℕ} {j : ℕ} (v : ℕ) → Shifting s₀ p n s j → j ≤ p → set s j v ≡ opened p n v s₀
-shift_end {s₀} {p} {n} {s} {j} v S h =
-    let e : j ≡ p = omega (arith, S.from) in
-    ap (λ (t : List ℕ). set t j v) S.is ∙ set_shifted s₀ j n v S.to S.fits ∙ ap (λ (i : ℕ). opened i n v s₀) e
+  -- what `open_at` does
+  pub copied : (s : List A) (p n : ℕ) (v : A) → p ≤ n → n < length s → set (paste s (p + 1) (drop p s) (n - p)) p v ≡ opened p n v s
+  copied s p n v h k =
+      let front : p + 1 ≡ suc p = omega arith in
+      let back : p + 1 + (n - p) ≡ suc n = omega arith in
+      ap (λ (t : List A). set t p v) (append_assoc (take (p + 1) s) (take (n - p) (drop p s)) (drop (p + 1 + (n - p)) s) ∙ λ i. take (front i) s ++ (take (n - p) (drop p s) ++ drop (back i) s)) ∙ set_shifted s p n v h k
 
 -- ---- what stands there then
 

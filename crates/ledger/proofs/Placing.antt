@@ -1,5 +1,5 @@
 -- The place of a fault among those held, looked for from the back: the loop of `place`.
-use mathlib.Core.Path.{◌≡◌, refl, sym, ap, ◌∙◌}
+use mathlib.Core.Path.{◌≡◌, refl, sym, ap, subst, ◌∙◌}
 use mathlib.Core.Bool.{Bool, true, false, cond}
 use mathlib.Core.List.{List, [], ◌∷◌, ◌++◌, append_assoc, append-nil}
 use Prim.Native.Nat.{ℕ, zero, suc, ◌+◌, ◌-◌, ◌*◌, ◌≤◌, ◌<◌}
@@ -88,15 +88,16 @@ module _ {n : ℕ} {ls rs : List ℕ} {x : Fault} {p k kq : ℕ} (R : Ready n ls
   }
 
   -- x comes after it
-  pub place_hit : kq < k → Placed n ls rs x p
+  pub place_hit : kq < k → Placed n ls rs x (p - 1 + 1)
   unfolding H
-  place_hit g =
-      P.same
+  place_hit g = let back : p ≡ p - 1 + 1 = omega arith in
+      subst (Placed n ls rs x) back
+      (P.same
       ∙ ap (λ (z : List Fault). z ++ drop p H)
       (ap (λ (m : ℕ). insert x (take m H)) e ∙ insert_after 0 x H (p - 1) none R.order inside (omega (arith, at_key)) ∙ ap (λ (m : ℕ). take m H ++ (x ∷ [])) (sym e))
-      ∙ append_assoc (take p H) (x ∷ []) (drop p H)
+      ∙ append_assoc (take p H) (x ∷ []) (drop p H))
 
 -- x comes before all
-pub place_end : {n : ℕ} {ls rs : List ℕ} {x : Fault} {p : ℕ} → Placing n ls rs x p → p ≤ 0 → Placed n ls rs x p
+pub place_end : {n : ℕ} {ls rs : List ℕ} {x : Fault} {p : ℕ} → Placing n ls rs x p → p ≤ 0 → Placed n ls rs x 0
 unfolding insert
 place_end {n} {ls} {rs} {x} {p} P h = let z : p ≡ 0 = omega arith in P.same ∙ rw z

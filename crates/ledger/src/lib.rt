@@ -1,10 +1,10 @@
 // The list of faults, in three lent slices of equal length: line numbers, rule numbers and the offsets of the lines, in the order of
 // lines and, at one line, of rules. It promises that the slices hold the first pairs that fit, wherever they come from, beside each its
 // line's offset, that places after the last pair keep what they held, and that the total counts every pair. It names no rule: what a
-// fault is stands in `rules`, and its laws on `laws`.
+// fault is stands in `rules`, and its laws on `laws`. Three slices and no slice of records: `certis_check` of `host_c` is lent them so.
 #![tactic(auto)]
 
-ghost use Rattle.std.specs.Prelude.{◌≡◌, [], ◌∷◌, ◌++◌, ◌+◌, ◌-◌, ◌*◌, ◌^◌, ◌<◌, ◌≤◌, min, length, take, drop};
+ghost use Rattle.std.specs.Prelude.{◌≡◌, [], ◌∷◌, ◌++◌, ◌+◌, ◌-◌, ◌*◌, ◌^◌, ◌<◌, ◌≤◌, length, take, drop};
 ghost use Rattle.rules.specs.Faults.{fault};
 ghost use Rattle.ledger.specs.Marks.{key, insert, marked};
 ghost use Rattle.ledger.specs.Slices.{opened, held, Ready, Put, Entered, Kept};
@@ -38,37 +38,22 @@ fn place(lines: &[u32], rules: &[u32], n: usize, line: u32, rule: u32) -> usize
         ≡ take result (held n lines.now rules.now) ++ (fault line rule ∷ drop result (held n lines.now rules.now)) }
 {
     let k = key_of(line, rule);
-    let mut p = n;
-    while 0 < p {
-        let q = p - 1;
-        if key_of(lines[q], rules[q]) < k {
-            return p;
+    for p in (0..n).rev() {
+        if key_of(lines[p], rules[p]) < k {
+            return p + 1;
         }
-        p = q;
     }
-    p
+    0
 }
 
 // Puts `v` in at `p`: what stands from there up to `n` moves one place on, over what stands at `n`.
+#[tactic(auto, using(crate::proofs::Opening::copied))]
 fn open_at(s: &mut [u32], p: usize, n: usize, v: u32)
     requires { (p ≤ n) × (n < length s.old) }
     ensures { s.new ≡ opened p n v s.old }
 {
-    let mut j = n;
-    while p < j {
-        let q = j - 1;
-        s[j] = s[q];
-        j = q;
-    }
-    s[j] = v;
-}
-
-// The last place that holds a pair when one more is kept: where the room is full, the last pair gives way.
-fn last_of(n: usize, room: usize) -> usize
-    requires { (n ≤ room) × (0 < room) }
-    ensures { result ≡ min n (room - 1) }
-{
-    if n == room { n - 1 } else { n }
+    s.copy_within(p..n, p + 1);
+    s[p] = v;
 }
 
 // Keeps one fault more, if it is among the first that fit; its line's offset is `at`.
@@ -91,7 +76,8 @@ fn keep(
     if p == room {
         return n;
     }
-    let last = last_of(n, room);
+    // Where the room is full, the last pair gives way.
+    let last = usize::min(n, room - 1);
     open_at(lines, p, last, line);
     open_at(rules, p, last, rule);
     open_at(offsets, p, last, at);
@@ -120,12 +106,13 @@ pub fn enter(
     if m == 0 {
         return g;
     }
+    // The lowest mark is taken off each time: no range runs over the marks that are set.
     while m != 0 {
-        let rule = u64::trailing_zeros(m);
+        let rule = m.trailing_zeros();
         kept = keep(lines, rules, offsets, kept, line, rule, at);
-        m = m & (m - 1);
+        m &= m - 1;
     }
-    let size = u64::count_ones(marks) as u64;
+    let size = marks.count_ones() as u64;
     let total = g.total + size;
     Ledger { kept, total }
 }

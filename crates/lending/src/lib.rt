@@ -26,8 +26,5 @@ pub fn advance(c: Course, it: Outline, basis: Basis) -> Accounted
 {
     let mut own = c;
     let marks = step(&mut own, it, basis);
-    Accounted {
-        course: own,
-        marks: marks,
-    }
+    Accounted { course: own, marks }
 }

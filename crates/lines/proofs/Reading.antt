@@ -1,7 +1,7 @@
 -- Laws of `line_at`: one for each way that the search for a line's end goes on or stops, and what a caller's loop knows of the
 -- line that was found.
 use mathlib.Core.Path.{◌≡◌, refl, sym, ap, subst, ◌∙◌}
-use mathlib.Core.Bool.{Bool, true, false, cond, not, ◌&&◌, ◌||◌}
+use mathlib.Core.Bool.{Bool, true, false, cond, not, and-true, and-false, ◌&&◌, ◌||◌}
 use mathlib.Core.List.{List, [], ◌∷◌}
 use Prim.Native.Nat.{ℕ, zero, suc, ◌+◌, ◌-◌, ◌<◌, ◌≤◌}
 use native.Mathlib.Numerals.{add-one}
@@ -9,19 +9,20 @@ use native.Mathlib.Nat.{add-zero}
 use native.Mathlib.Omega.{arith}
 use lib.ListN.{length, take, drop, get_or, length-drop}
 use lib.Seq.{length-take-le, drop-cons, drop-drop}
+use Rattle.std.specs.List.{starts_with}
+use lib.Dec.{eqb}
+use Rattle.std.proofs.lemmas.Bool.Decides.{nat_tests}
 use Rattle.laws.specs.Lists.{any_of}
 use Rattle.laws.specs.Tests.{is_byte}
 use Rattle.laws.proofs.Any.{or_left, or_right}
+use Rattle.laws.proofs.Parts.{take_rest}
 use Rattle.text.specs.Characters.{is_plain, is_odd}
 use Rattle.lines.specs.declared.Found.{Found}
 use Rattle.lines.specs.Lines.{Line, crlf, onto, lines, taken}
 use Rattle.lines.specs.Reading.{rest_to, first_at, after, line_at, span, IsNext}
-use Rattle.lines.proofs.Lines.{lines_past, lines_cut, lines_on, crlf_short, crlf_not, Cut, cut}
+use Rattle.lines.proofs.Lines.{lines_past, lines_cut, lines_on, crlf_not, Cut, cut}
 
 -- ---- CR LF at a place
-
-pub crlf_last : (s : List ℕ) (i : ℕ) → length s ≤ i + 1 → crlf (drop i s) ≡ false
-crlf_last s i h = crlf_short (drop i s) (omega (arith, length-drop i s))
 
 pub crlf_in : (s : List ℕ) (i : ℕ) → i + 1 < length s → crlf (drop i s) ≡ (is_byte 0x0d (get_or s i 0) && is_byte 0x0a (get_or s (i + 1) 0))
 unfolding crlf
@@ -29,6 +30,15 @@ crlf_in s i h =
     let h₀ : i < length s = omega arith in
     let h₁ : suc i < length s = omega arith in
     rw (drop-cons s i 0, drop-cons s (suc i) 0, add-one)
+
+crlf_begins : (b : ℕ) (s : List ℕ) → (eqb b 0x0d && starts_with eqb s (0x0a ∷ [])) ≡ crlf (b ∷ s)
+unfolding crlf
+crlf_begins b [] = and-false (eqb b 0x0d)
+crlf_begins b (c ∷ s) = grind (arith, nat_tests, and-true)
+
+-- as a test of a byte and of the rest
+pub crlf_here : (s : List ℕ) (i : ℕ) → i < length s → crlf (drop i s) ≡ (eqb (get_or s i 0) 0x0d && starts_with eqb (take (length s - (i + 1)) (drop (i + 1) s)) (0x0a ∷ []))
+crlf_here s i h = rw (take_rest, drop-cons s i 0, add-one i) (sym (crlf_begins (get_or s i 0) (drop (suc i) s)))
 
 -- ---- the search
 
@@ -97,12 +107,6 @@ rest_after false end = refl
 
 pub line_end : (s : List ℕ) (i : ℕ) (odd : Bool) → length s ≤ i → after odd (line_at s i) ≡ rest_to i odd
 line_end s i odd h = ap (λ (ls : List Line). after odd (first_at i ls)) (lines_past s i h) ∙ rest_after odd i
-
--- the last byte has none after it
-pub line_last : (s : List ℕ) (i : ℕ) (odd t : Bool) → i < length s → length s ≤ i + 1 → t ≡ is_plain (get_or s i 0) → after odd (line_at s i) ≡ rest_to (length s) (odd || not t)
-line_last s i odd t h k a =
-    let m : i + 1 ≡ length s = omega arith in
-    line_more s i odd t h (crlf_last s i k) a ∙ ap (λ (j : ℕ). after (odd || not t) (line_at s j)) m ∙ line_end s (length s) (odd || not t) (omega arith)
 
 -- ---- the caller's loop
 

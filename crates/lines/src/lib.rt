@@ -3,7 +3,7 @@
 // file and place: they give what `lines` of specs/Lines.antt says. It stands on crates `laws`, `text` and `words`.
 #![tactic(auto)]
 
-ghost use Rattle.std.specs.Prelude.{◌≡◌, ◌+◌, ◌-◌, ◌<◌, length, drop};
+ghost use Rattle.std.specs.Prelude.{◌≡◌, ◌+◌, ◌<◌, length, drop};
 ghost use Rattle.lines.specs.Lines.{crlf};
 ghost use Rattle.lines.specs.Reading.{rest_to, after, line_at};
 
@@ -32,28 +32,21 @@ fn rest_to(end: usize, odd: bool) -> Found
 }
 
 // Whether CR LF stands at i.
+#[tactic(auto, using(crate::proofs::Reading::crlf_here))]
 fn crlf_at(s: &[u8], i: usize) -> bool
-    requires { i + 1 < length s.now }
+    requires { i < length s.now }
     ensures { result ≡ crlf (drop i s.now) }
 {
-    if s[i] == 0x0d {
-        return s[i + 1] == 0x0a;
-    }
-    false
+    s[i] == b'\r' && s[i + 1..].starts_with(b"\n")
 }
 
 // The line at a place, byte by byte; `before` says whether an odd byte stood on it already.
+#[tactic(auto, using(crate::proofs::Reading::line_more, crate::proofs::Reading::line_cut, crate::proofs::Reading::line_end))]
 fn line_by_bytes(s: &[u8], at: usize, before: bool) -> Found
     ensures { result ≡ after before (line_at s.now at) }
 {
-    let n = s.len();
-    if n <= at {
-        return rest_to(at, before);
-    }
-    let last = n - 1;
     let mut odd = before;
-    let mut i = at;
-    while i < last {
+    for i in at..s.len() {
         if crlf_at(s, i) {
             return Found {
                 end: i,
@@ -62,31 +55,9 @@ fn line_by_bytes(s: &[u8], at: usize, before: bool) -> Found
                 odd,
             };
         }
-        odd = odd | !text::characters::is_plain(s[i]);
-        i += 1;
+        odd |= !text::characters::is_plain(s[i]);
     }
-    rest_to(n, odd | !text::characters::is_plain(s[i]))
-}
-
-// The first place at which no eight bytes stand.
-fn stop_of(n: usize) -> usize
-    ensures { result ≡ n - 7 }
-{
-    if n < 7 {
-        return 0;
-    }
-    n - 7
-}
-
-// Whether CR LF stands at a place of the text.
-fn ends_at(s: &[u8], i: usize) -> bool
-    requires { i < length s.now }
-    ensures { result ≡ crlf (drop i s.now) }
-{
-    if i + 1 < s.len() {
-        return crlf_at(s, i);
-    }
-    false
+    rest_to(at.max(s.len()), odd)
 }
 
 // The line at a place; at or past the end it is an empty rest at that place. Eight bytes are looked at as one word: the first bit of `z`
@@ -95,20 +66,21 @@ fn ends_at(s: &[u8], i: usize) -> bool
 pub fn line_at(s: &[u8], at: usize) -> Found
     ensures { result ≡ line_at s.now at }
 {
-    let stop = stop_of(s.len());
+    let stop = s.len().saturating_sub(7);
     let mut odd: u64 = 0;
     let mut i = at;
+    // A step is eight bytes or ends behind a control byte, and no range gives such steps.
     while i < stop {
         let w = word(s, i);
         let z = controls(w);
         let o = odds(w);
         if z == 0 {
-            odd = odd | o;
+            odd |= o;
             i += 8;
         } else {
-            let k = i + (u64::trailing_zeros(z) / 8) as usize;
-            odd = odd | (o & ((z ^ (z - 1)) >> 1));
-            if ends_at(s, k) {
+            let k = i + (z.trailing_zeros() / 8) as usize;
+            odd |= o & ((z ^ (z - 1)) >> 1);
+            if crlf_at(s, k) {
                 return Found {
                     end: k,
                     next: k + 2,
@@ -116,7 +88,7 @@ pub fn line_at(s: &[u8], at: usize) -> Found
                     odd: has_high(odd),
                 };
             }
-            odd = odd | 0x80;
+            odd |= 0x80;
             i = k + 1;
         }
     }
@@ -130,17 +102,19 @@ pub struct Reader<'a> {
     pub at: usize,
 }
 
-pub fn start<'a>(file: &'a [u8], at: usize) -> Reader<'a>
-    ensures { (result.file ≡ file.entry) × (result.at ≡ at) }
-{
-    Reader { file, at }
-}
+impl<'a> Reader<'a> {
+    pub fn start(file: &'a [u8], at: usize) -> Reader<'a>
+        ensures { (result.file ≡ file.entry) × (result.at ≡ at) }
+    {
+        Reader { file, at }
+    }
 
-// The line at the reader's place.
-pub fn next<'a>(r: Reader<'a>) -> Found
-    ensures { result ≡ line_at r.entry.file.now r.entry.at }
-{
-    line_at(r.file, r.at)
+    // The line at the reader's place.
+    pub fn next(self) -> Found
+        ensures { result ≡ line_at self.entry.file.now self.entry.at }
+    {
+        line_at(self.file, self.at)
+    }
 }
 
 // The line at a place, byte by byte: for callers whose lines are short or few.
@@ -154,5 +128,5 @@ pub fn line_near(file: &[u8], at: usize) -> Found
 pub fn line_from(file: &[u8], at: usize) -> Found
     ensures { result ≡ line_at file.now at }
 {
-    next(start(file, at))
+    Reader::start(file, at).next()
 }

@@ -15,7 +15,7 @@ use Rattle.rules.specs.Terms.{is_code, is_accounting_day, Terms}
 use Rattle.rules.specs.Faults.{faults, faults_in}
 use Rattle.ledger.specs.declared.Ledger.{Ledger}
 use Rattle.ledger.specs.Slices.{Listed}
-use Rattle.listing.specs.declared.checking.Checked.TheVariants.{Total, Refused}
+use Rattle.std.specs.Prelude.{Ok, Err}
 use Rattle.listing.specs.declared.checking.Unchecked.{Unchecked}
 use Rattle.listing.specs.declared.checking.Unchecked.TheVariants.{BadCode, BadDay, TooLong, UnequalRooms, NoMark, Leftovers, StartsWithMark}
 use Rattle.listing.specs.Checking.{are_level, check_refusals, unchecked_number, Checks}
@@ -46,29 +46,29 @@ module _ (file : List ℕ) (terms : Terms) (ls rs ps : List ℕ) where
   refusal = first (check_refusals file terms (length ls) (length rs) (length ps))
 
   -- a refusal leaves all as it was
-  refused : (u : Unchecked) → unchecked_number u ≡ refusal → eqb refusal 0 ≡ false → Checks file terms ls rs ps (Refused u) ls rs ps
+  refused : (u : Unchecked) → unchecked_number u ≡ refusal → eqb refusal 0 ≡ false → Checks file terms ls rs ps (Err u) ls rs ps
   refused u e z = record { number = e; total = λ old. rw z; lines = rw z; rules = rw z; offsets = rw z }
 
-  pub bad_code : not (is_code terms.code.0) ≡ true → Checks file terms ls rs ps (Refused BadCode) ls rs ps
+  pub bad_code : not (is_code terms.code.0) ≡ true → Checks file terms ls rs ps (Err BadCode) ls rs ps
   bad_code a = refused BadCode (rw a) (rw a)
 
   module _ (a : not (is_code terms.code.0) ≡ false) where
-    pub bad_day : not (is_accounting_day terms.today) ≡ true → Checks file terms ls rs ps (Refused BadDay) ls rs ps
+    pub bad_day : not (is_accounting_day terms.today) ≡ true → Checks file terms ls rs ps (Err BadDay) ls rs ps
     bad_day b = refused BadDay (rw (a, b)) (rw (a, b))
 
     module _ (b : not (is_accounting_day terms.today) ≡ false) where
-      pub too_long : 10000000 < length file → Checks file terms ls rs ps (Refused TooLong) ls rs ps
+      pub too_long : 10000000 < length file → Checks file terms ls rs ps (Err TooLong) ls rs ps
       too_long h = let c = lt-ltb 10000000 (length file) h in refused TooLong (rw (a, b, c)) (rw (a, b, c))
 
       module _ (h : length file ≤ 10000000) where
         c : ltb 10000000 (length file) ≡ false
         c = le-ltb 10000000 (length file) h
 
-        pub unequal_rooms : not (are_level (length ls) (length rs) (length ps)) ≡ true → Checks file terms ls rs ps (Refused UnequalRooms) ls rs ps
+        pub unequal_rooms : not (are_level (length ls) (length rs) (length ps)) ≡ true → Checks file terms ls rs ps (Err UnequalRooms) ls rs ps
         unequal_rooms d = refused UnequalRooms (rw (a, b, c, d)) (rw (a, b, c, d))
 
         module _ (d : not (are_level (length ls) (length rs) (length ps)) ≡ false) where
-          pub no_mark : (n : ℕ) → n ≡ length (body file) → length file ≤ n → Checks file terms ls rs ps (Refused NoMark) ls rs ps
+          pub no_mark : (n : ℕ) → n ≡ length (body file) → length file ≤ n → Checks file terms ls rs ps (Err NoMark) ls rs ps
           no_mark n q k =
               let m : has_mark file ≡ false = sym (body_shorter file) ∙ le-ltb (length (body file)) (length file) (omega arith) in
               refused NoMark (rw (a, b, c, d, m)) (rw (a, b, c, d, m))
@@ -77,7 +77,7 @@ module _ (file : List ℕ) (terms : Terms) (ls rs ps : List ℕ) where
             m : has_mark file ≡ true
             m = sym (body_shorter file) ∙ lt-ltb (length (body file)) (length file) (omega arith)
 
-            pub leftovers : n + 1 < length file → Checks file terms ls rs ps (Refused Leftovers) ls rs ps
+            pub leftovers : n + 1 < length file → Checks file terms ls rs ps (Err Leftovers) ls rs ps
             leftovers h =
                 let t : has_leftovers file ≡ true = sym (leftovers_long file) ∙ lt-ltb (suc (length (body file))) (length file) (omega arith) in
                 refused Leftovers (rw (a, b, c, d, m, t)) (rw (a, b, c, d, m, t))
@@ -86,7 +86,7 @@ module _ (file : List ℕ) (terms : Terms) (ls rs ps : List ℕ) where
               t : has_leftovers file ≡ false
               t = sym (leftovers_long file) ∙ le-ltb (suc (length (body file))) (length file) (omega arith)
 
-              pub starts_with_mark_lem : n ≡ 0 → Checks file terms ls rs ps (Refused StartsWithMark) ls rs ps
+              pub starts_with_mark_lem : n ≡ 0 → Checks file terms ls rs ps (Err StartsWithMark) ls rs ps
               starts_with_mark_lem z =
                   let s : starts_with_mark file ≡ true = body_empty file ∙ rw (eq-eqb (length (body file)) 0 (omega arith), m) in
                   refused StartsWithMark (rw (a, b, c, d, m, t, s)) (rw (a, b, c, d, m, t, s))
@@ -94,7 +94,7 @@ module _ (file : List ℕ) (terms : Terms) (ls rs ps : List ℕ) where
               pub body_is : take n file ≡ body file
               body_is = rw q (body_take file)
 
-              pub checked : (n ≡ 0 → ⊥) → {g : Ledger} {ls' rs' ps' : List ℕ} → Listed (offset_of (take n file)) (faults_in terms (take n file)) ls rs ps g ls' rs' ps' → Checks file terms ls rs ps (Total g.total) ls' rs' ps'
+              pub checked : (n ≡ 0 → ⊥) → {g : Ledger} {ls' rs' ps' : List ℕ} → Listed (offset_of (take n file)) (faults_in terms (take n file)) ls rs ps g ls' rs' ps' → Checks file terms ls rs ps (Ok g.total) ls' rs' ps'
               unfolding faults
               checked z {g} {ls'} {rs'} {ps'} L =
                   let s : starts_with_mark file ≡ false = body_empty file ∙ rw (ne_eqb (length (body file)) 0 (λ e. z (omega arith))) in

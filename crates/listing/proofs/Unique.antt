@@ -7,8 +7,7 @@ use mathlib.Core.List.{List}
 use lib.Dec.{eqb}
 use borrow.Author.Tests.{ne_eqb}
 use Rattle.rules.specs.Terms.{Terms}
-use Rattle.listing.specs.declared.checking.Checked.{Checked}
-use Rattle.listing.specs.declared.checking.Checked.TheVariants.{Total, Refused}
+use Rattle.std.specs.Prelude.{Result, Ok, Err}
 use Rattle.listing.specs.declared.checking.Unchecked.{Unchecked}
 use Rattle.listing.specs.declared.checking.Unchecked.TheVariants.{BadCode, BadDay, TooLong, UnequalRooms, NoMark, Leftovers, StartsWithMark}
 use Rattle.listing.specs.Checking.{unchecked_number, checked_number, checked_or, Checks, Totals}
@@ -37,16 +36,16 @@ some_number Leftovers = omega arith
 some_number StartsWithMark = omega arith
 
 -- an answer by its number and its total
-abbrev answer_of : ℕ → ℕ → Checked
-answer_of k t = cond (eqb k 0) (Total t) (Refused (refusal_of k))
+abbrev answer_of : ℕ → ℕ → Result ℕ Unchecked
+answer_of k t = cond (eqb k 0) (Ok t) (Err (refusal_of k))
 
-told : (r : Checked) → answer_of (checked_number r) (checked_or r 0) ≡ r
-told (Total t) = refl
-told (Refused u) =
-    ap (λ (b : Bool). cond b (Total 0) (Refused (refusal_of (unchecked_number u)))) (ne_eqb (unchecked_number u) 0 (λ e. omega (arith, e, some_number u)))
-    ∙ ap Refused (refusal_told u)
+told : (r : Result ℕ Unchecked) → answer_of (checked_number r) (checked_or r 0) ≡ r
+told (Ok t) = refl
+told (Err u) =
+    ap (λ (b : Bool). cond b (Ok 0) (Err (refusal_of (unchecked_number u)))) (ne_eqb (unchecked_number u) 0 (λ e. omega (arith, e, some_number u)))
+    ∙ ap Err (refusal_told u)
 
-pub check_unique : {file : List ℕ} {terms : Terms} {ls₀ rs₀ ps₀ : List ℕ} {r r' : Checked} {ls ls' rs rs' ps ps' : List ℕ} → Checks file terms ls₀ rs₀ ps₀ r ls rs ps
+pub check_unique : {file : List ℕ} {terms : Terms} {ls₀ rs₀ ps₀ : List ℕ} {r r' : Result ℕ Unchecked} {ls ls' rs rs' ps ps' : List ℕ} → Checks file terms ls₀ rs₀ ps₀ r ls rs ps
     → Checks file terms ls₀ rs₀ ps₀ r' ls' rs' ps' → (r ≡ r') × (ls ≡ ls') × (rs ≡ rs') × (ps ≡ ps')
 check_unique {r} {r'} C D = (
   sym (told r) ∙ (λ i. answer_of ((C.number ∙ sym D.number) i) ((C.total 0 ∙ sym (D.total 0)) i)) ∙ told r',
@@ -56,5 +55,5 @@ check_unique {r} {r'} C D = (
 )
 
 -- .. with no slices lent
-pub totals_unique : {file : List ℕ} {terms : Terms} {r r' : Checked} → Totals file terms r → Totals file terms r' → r ≡ r'
+pub totals_unique : {file : List ℕ} {terms : Terms} {r r' : Result ℕ Unchecked} → Totals file terms r → Totals file terms r' → r ≡ r'
 totals_unique {r} {r'} C D = sym (told r) ∙ (λ i. answer_of ((C.number ∙ sym D.number) i) ((C.total 0 ∙ sym (D.total 0)) i)) ∙ told r'

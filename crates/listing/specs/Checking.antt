@@ -1,13 +1,12 @@
 -- Checking (document 01, 'The jobs at the counter'): its refusals in their order, and what it answers and leaves in the lent slices.
-use Rattle.std.specs.Prelude.{ℕ, ◌≡◌, Bool, cond, not, ◌&&◌, List, [], ◌∷◌, ltb, eqb, length}
+use Rattle.std.specs.Prelude.{ℕ, ◌≡◌, Bool, cond, not, ◌&&◌, List, [], ◌∷◌, ltb, eqb, length, Result, Ok, Err}
+use Rattle.std.specs.Result.{result_unwrap_or}
 use Rattle.laws.specs.Refusals.{Refusal, ◌if◌, first}
 use Rattle.lines.specs.Lines.{has_mark, has_leftovers, starts_with_mark, body, offset_of}
 use Rattle.rules.specs.Terms.{is_code, is_accounting_day, Terms}
 use Rattle.rules.specs.Faults.{Fault, written, faults}
 use Rattle.listing.specs.declared.checking.Unchecked.{Unchecked}
 use Rattle.listing.specs.declared.checking.Unchecked.TheVariants.{BadCode, BadDay, TooLong, UnequalRooms, NoMark, Leftovers, StartsWithMark}
-use Rattle.listing.specs.declared.checking.Checked.{Checked}
-use Rattle.listing.specs.declared.checking.Checked.TheVariants.{Total, Refused}
 
 -- the three slices have one length (if not: refusal 4)
 abbrev pub are_level : ℕ → ℕ → ℕ → Bool
@@ -34,14 +33,13 @@ unchecked_number NoMark = 5
 unchecked_number Leftovers = 9
 unchecked_number StartsWithMark = 6
 
-abbrev pub checked_number : Checked → ℕ
-checked_number (Total t) = 0
-checked_number (Refused u) = unchecked_number u
+abbrev pub checked_number : Result ℕ Unchecked → ℕ
+checked_number (Ok t) = 0
+checked_number (Err u) = unchecked_number u
 
 -- its total, or another number where it is a refusal: 'a refusal returns its number, no total'
-abbrev pub checked_or : Checked → ℕ → ℕ
-checked_or (Total t) old = t
-checked_or (Refused u) old = old
+abbrev pub checked_or : Result ℕ Unchecked → ℕ → ℕ
+checked_or r old = result_unwrap_or r old
 
 -- what a lent slice holds after: the first numbers that fit, then what it held; on a refusal what it held
 abbrev pub slices_after : ℕ → (Fault → ℕ) → List Fault → List ℕ → List ℕ
@@ -52,7 +50,7 @@ abbrev pub offset_at : List ℕ → Fault → ℕ
 offset_at file f = offset_of (body file) f.line
 
 -- what checking answers, and the three slices after
-pub record Checks (file : List ℕ) (terms : Terms) (ls₀ rs₀ ps₀ : List ℕ) (r : Checked) (ls rs ps : List ℕ) : Type 0 where
+pub record Checks (file : List ℕ) (terms : Terms) (ls₀ rs₀ ps₀ : List ℕ) (r : Result ℕ Unchecked) (ls rs ps : List ℕ) : Type 0 where
   pub number : checked_number r ≡ first (check_refusals file terms (length ls₀) (length rs₀) (length ps₀))
   pub total : (old : ℕ) → checked_or r old ≡ cond (eqb (first (check_refusals file terms (length ls₀) (length rs₀) (length ps₀))) 0) (length (faults terms file)) old
   pub lines : ls ≡ slices_after (first (check_refusals file terms (length ls₀) (length rs₀) (length ps₀))) (λ (f : Fault). f.line) (faults terms file) ls₀
@@ -60,6 +58,6 @@ pub record Checks (file : List ℕ) (terms : Terms) (ls₀ rs₀ ps₀ : List �
   pub offsets : ps ≡ slices_after (first (check_refusals file terms (length ls₀) (length rs₀) (length ps₀))) (offset_at file) (faults terms file) ps₀
 
 -- .. with no slices lent
-pub record Totals (file : List ℕ) (terms : Terms) (r : Checked) : Type 0 where
+pub record Totals (file : List ℕ) (terms : Terms) (r : Result ℕ Unchecked) : Type 0 where
   pub number : checked_number r ≡ first (check_refusals file terms 0 0 0)
   pub total : (old : ℕ) → checked_or r old ≡ cond (eqb (first (check_refusals file terms 0 0 0)) 0) (length (faults terms file)) old

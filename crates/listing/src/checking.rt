@@ -2,10 +2,10 @@
 // broken there are written into two lent slices, and the offset of the line into a third.
 ghost use Rattle.std.specs.Prelude.{◌≡◌};
 ghost use Rattle.rules.specs.Terms.{is_code, is_accounting_day, input};
-ghost use Rattle.listing.specs.Checking.{are_level, Checks, Totals, unchecked_number, checked_number, checked_or};
+ghost use Rattle.listing.specs.Checking.{are_level, Checks, Totals, unchecked_number, checked_number};
 
 // Checking's own refusals, which other jobs answer too.
-#[derive(Clone, Copy)]
+#[derive(Clone, Copy, Debug, PartialEq, Eq)]
 pub enum Unchecked {
     BadCode,
     BadDay,
@@ -16,11 +16,21 @@ pub enum Unchecked {
     StartsWithMark,
 }
 
-// The total, or a refusal.
-#[derive(Clone, Copy)]
-pub enum Checked {
-    Total(u64),
-    Refused(Unchecked),
+// Document 01's number of a refusal.
+impl From<Unchecked> for u32 {
+    ghost from_gives = { λ refusal number. number ≡ unchecked_number refusal };
+
+    fn from(refusal: Unchecked) -> u32 {
+        match refusal {
+            Unchecked::BadCode => 1,
+            Unchecked::BadDay => 2,
+            Unchecked::TooLong => 3,
+            Unchecked::UnequalRooms => 4,
+            Unchecked::NoMark => 5,
+            Unchecked::Leftovers => 9,
+            Unchecked::StartsWithMark => 6,
+        }
+    }
 }
 
 pub fn is_code(code: u32) -> bool
@@ -49,37 +59,37 @@ pub fn check(
     lines: &mut [u32],
     rules: &mut [u32],
     offsets: &mut [u32],
-) -> Checked
+) -> Result<u64, Unchecked>
     ensures { Checks file.now (input code day) lines.old rules.old offsets.old result lines.new rules.new offsets.new }
 {
     if !is_code(code) {
-        return Checked::Refused(Unchecked::BadCode);
+        return Err(Unchecked::BadCode);
     }
     if !is_accounting_day(day) {
-        return Checked::Refused(Unchecked::BadDay);
+        return Err(Unchecked::BadDay);
     }
     if 10000000 < file.len() {
-        return Checked::Refused(Unchecked::TooLong);
+        return Err(Unchecked::TooLong);
     }
     if !are_level(lines.len(), rules.len(), offsets.len()) {
-        return Checked::Refused(Unchecked::UnequalRooms);
+        return Err(Unchecked::UnequalRooms);
     }
     let n = file_body::body_len(file);
     if file.len() <= n {
-        return Checked::Refused(Unchecked::NoMark);
+        return Err(Unchecked::NoMark);
     }
     if n + 1 < file.len() {
-        return Checked::Refused(Unchecked::Leftovers);
+        return Err(Unchecked::Leftovers);
     }
     if n == 0 {
-        return Checked::Refused(Unchecked::StartsWithMark);
+        return Err(Unchecked::StartsWithMark);
     }
     let g = pass::enter_faults(&file[..n], code, day, lines, rules, offsets);
-    Checked::Total(g.total)
+    Ok(g.total)
 }
 
 // The total alone: no fault is written down.
-pub fn total(file: &[u8], code: u32, day: u32) -> Checked
+pub fn total(file: &[u8], code: u32, day: u32) -> Result<u64, Unchecked>
     ensures { Totals file.now (input code day) result }
 {
     let mut lines = [0u32; 0];
@@ -88,37 +98,12 @@ pub fn total(file: &[u8], code: u32, day: u32) -> Checked
     check(file, code, day, &mut lines, &mut rules, &mut offsets)
 }
 
-// Document 01's number of a refusal.
-pub fn refusal_number(u: Unchecked) -> u32
-    ensures { result ≡ unchecked_number u }
-{
-    match u {
-        Unchecked::BadCode => 1,
-        Unchecked::BadDay => 2,
-        Unchecked::TooLong => 3,
-        Unchecked::UnequalRooms => 4,
-        Unchecked::NoMark => 5,
-        Unchecked::Leftovers => 9,
-        Unchecked::StartsWithMark => 6,
-    }
-}
-
 // Document 01's number of an answer, 0 for a total.
-pub fn number_of(c: Checked) -> u32
-    ensures { result ≡ checked_number c }
+pub fn number_of(answer: Result<u64, Unchecked>) -> u32
+    ensures { result ≡ checked_number answer }
 {
-    match c {
-        Checked::Total(_) => 0,
-        Checked::Refused(u) => refusal_number(u),
-    }
-}
-
-// The total of an answer, and what stood there where it is a refusal.
-pub fn total_or(c: Checked, old: u64) -> u64
-    ensures { result ≡ checked_or c old }
-{
-    match c {
-        Checked::Total(n) => n,
-        Checked::Refused(_) => old,
+    match answer {
+        Ok(_) => 0,
+        Err(refusal) => u32::from(refusal),
     }
 }

@@ -5,28 +5,30 @@ ghost use Rattle.listing_texts.specs.Job.{job_line_of, job_of};
 use text::forms::{has_form, part};
 
 // The code and the day that it gives.
-#[derive(Clone, Copy)]
-pub enum Job {
-    Of(u32, u32),
-    NoJob,
+#[derive(Clone, Copy, Debug, PartialEq, Eq)]
+pub struct Job {
+    pub code: u32,
+    pub day: u32,
 }
 
-fn read_line(line: &[u8]) -> Job
+fn read_line(line: &[u8]) -> Option<Job>
     ensures { result ≡ job_line_of line.now }
 {
-    if has_form(b"0000 00000000\n", line) {
-        Job::Of(part(line, 0, 4), part(line, 5, 8))
-    } else {
-        Job::NoJob
+    if !has_form(b"0000 00000000\n", line) {
+        return None;
     }
+    Some(Job {
+        code: part(line, 0, 4),
+        day: part(line, 5, 8),
+    })
 }
 
-// Reads the 14 bytes of the job line; what follows them is the file.
-pub fn read_job(input: &[u8]) -> Job
+// Reads the 14 bytes of the job line, if they are one; what follows them is the file.
+pub fn read_job(input: &[u8]) -> Option<Job>
     ensures { result ≡ job_of input.now }
 {
     if input.len() < 14 {
-        return Job::NoJob;
+        return None;
     }
     read_line(&input[..14])
 }

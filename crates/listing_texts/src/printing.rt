@@ -57,10 +57,8 @@ pub fn put_listing(
     ensures { Begins out.old (listing_text code day (held n lines.now rules.now) total) out.new result }
 {
     let mut at = put_header(out, 0, code, day);
-    let mut i = 0;
-    while i < n {
+    for i in 0..n {
         at = put_row(out, at, lines[i], rules[i]);
-        i += 1;
     }
     put_total(out, at, total)
 }

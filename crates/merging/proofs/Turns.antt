@@ -8,6 +8,7 @@ use mathlib.Core.List.{List, [], ◌∷◌, ◌++◌, append_assoc, append-nil}
 use lib.ListN.{length, take, drop, get_or, set, length-set}
 use lib.Seq.{drop-cons, take-suc-set}
 use borrow.Author.Tests.{lt-ltb, le-ltb, le-leb, lt-leb, eq-eqb, ne_eqb}
+use Rattle.std.specs.Prelude.{Some}
 use Rattle.register.specs.Spans.{Span, froms, tos}
 use Rattle.merging.specs.declared.Turn.{Turn}
 use Rattle.merging.specs.Merging.{one, paired, after, weave, hits, closed, Takes, row_of, Merges}
@@ -170,18 +171,12 @@ module _ {keys starts ends : List ℕ} where
     going_gap z h p q = record { so = rw (p, q) (so_gap at h); keys_in = T.keys_in; spans_in = T.spans_in; rest = omega (arith, T.on, G.rest); few = omega (arith, T.on, G.few) }
 
   pub going_end : {from to count i j left : ℕ} {xs ys : List ℕ} → Going keys starts ends from to count i j left xs ys → left ≤ 0 → {xs' ys' : List ℕ} → xs' ≡ set xs count from → ys' ≡ set ys count to
-      → Merges keys starts ends (record { clash = false; count = count + 1 }) xs' ys'
+      → Merges keys starts ends (Some (count + 1)) xs' ys'
   unfolding weave
   going_end {from} {to} {count} {i} {j} {left} {xs} {ys} G z p q =
       let W : So (row_of keys starts ends) [] from to count xs ys =
       subst (λ (l : List Span). So (row_of keys starts ends) l from to count xs ys) over G.so in
-      rw (p, q) (record { clash = sym (end_hit W); count = λ e. end_many W; firsts = λ e h. end_firsts W h; lasts = λ e h. end_lasts W h })
+      rw (p, q) (end_hit W, record { count = end_many W; firsts = end_firsts W; lasts = end_lasts W })
     where
       over : weave (paired (drop j starts) (drop j ends)) (drop i keys) ≡ []
       over = rw (drop_past starts j (omega (arith, z, G.rest, G.keys_in)), drop_past keys i (omega (arith, z, G.rest, G.spans_in)))
-
-pub hit_merges : {keys starts ends xs ys : List ℕ} → hits 0 (row_of keys starts ends) ≡ true → Merges keys starts ends (record { clash = true; count = 0 }) xs ys
-hit_merges e = record { clash = sym e; count = λ q. impossible q; firsts = λ q h. impossible q; lasts = λ q h. impossible q }
-  where
-    impossible : {A : Type 0} → true ≡ false → A
-    impossible q = let z : ◌≡◌ {A = ℕ} 0 1 = cc in absurd (omega arith)

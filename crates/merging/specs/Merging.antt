@@ -1,9 +1,8 @@
 -- Model of the code, not part of the statement: keys and spans in one row by where they begin, and the row closed up: what touches is one
 -- span.
-use Rattle.std.specs.Prelude.{ℕ, ◌+◌, ◌≤◌, ◌≡◌, Bool, false, cond, ◌||◌, List, [], ◌∷◌, eqb, leb, ltb, length, take, drop}
+use Rattle.std.specs.Prelude.{ℕ, ◌+◌, ◌≤◌, ◌≡◌, Bool, true, false, cond, ◌||◌, List, [], ◌∷◌, eqb, leb, ltb, length, take, drop, Option, None, Some}
 use Rattle.register.specs.Spans.{Span, froms, tos}
 use Rattle.merging.specs.declared.Turn.{Turn}
-use Rattle.merging.specs.declared.Merged.{Merged}
 
 abbrev pub one : ℕ → Span
 one k = record { from = k; to = k }
@@ -49,9 +48,13 @@ pub record Takes (keys starts ends : List ℕ) (i j : ℕ) (t : Turn) : Type 0 w
 abbrev pub row_of : List ℕ → List ℕ → List ℕ → List Span
 row_of keys starts ends = weave (paired starts ends) keys
 
--- whether some hit each other; if none does, how many spans the row closes up to, and these, as far as they have room
-pub record Merges (keys starts ends : List ℕ) (r : Merged) (xs ys : List ℕ) : Type 0 where
-  pub clash : r.clash ≡ hits 0 (row_of keys starts ends)
-  pub count : r.clash ≡ false → r.count ≡ length (closed 0 0 (row_of keys starts ends))
-  pub firsts : r.clash ≡ false → r.count ≤ length xs → take r.count xs ≡ froms (closed 0 0 (row_of keys starts ends))
-  pub lasts : r.clash ≡ false → r.count ≤ length ys → take r.count ys ≡ tos (closed 0 0 (row_of keys starts ends))
+-- how many spans the row closes up to, and these, as far as they have room
+pub record Closes (row : List Span) (n : ℕ) (xs ys : List ℕ) : Type 0 where
+  pub count : n ≡ length (closed 0 0 row)
+  pub firsts : n ≤ length xs → take n xs ≡ froms (closed 0 0 row)
+  pub lasts : n ≤ length ys → take n ys ≡ tos (closed 0 0 row)
+
+-- no number just where some hit each other; if none does, the row is closed up
+abbrev pub Merges : List ℕ → List ℕ → List ℕ → Option ℕ → List ℕ → List ℕ → Type 0
+Merges keys starts ends None xs ys = hits 0 (row_of keys starts ends) ≡ true
+Merges keys starts ends (Some n) xs ys = (hits 0 (row_of keys starts ends) ≡ false) × Closes (row_of keys starts ends) n xs ys

@@ -16,12 +16,6 @@ pub struct Turn {
     pub spans: usize,
 }
 
-#[derive(Clone, Copy)]
-pub struct Merged {
-    pub clash: bool,
-    pub count: usize,
-}
-
 // The span that begins first; of a key and a span that begin together the span.
 fn next(keys: &[u64], starts: &[u64], ends: &[u64], i: usize, j: usize) -> Turn
     requires { (i + j < length keys.now + length starts.now) × (i ≤ length keys.now) × (j ≤ length starts.now) × (length starts.now ≡ length ends.now) }
@@ -61,7 +55,7 @@ fn next(keys: &[u64], starts: &[u64], ends: &[u64], i: usize, j: usize) -> Turn
     }
 }
 
-// Stores a number where there is room.
+// Stores a number where there is room. With `row.get_mut(at)` it was tried, and what the row is afterwards did not prove.
 fn store(row: &mut [u64], at: usize, v: u64)
     ensures { row.new ≡ set row.old at v }
 {
@@ -70,14 +64,15 @@ fn store(row: &mut [u64], at: usize, v: u64)
     }
 }
 
-// Spans that touch become one. The first span is that of 0, a key that nobody has, so that one is always open.
+// How many spans it is, or none where one begins at or before the end of the one before it. Spans that touch become one. The first span is
+// that of 0, a key that nobody has, so that one is always open.
 pub fn merge(
     keys: &[u64],
     starts: &[u64],
     ends: &[u64],
     froms: &mut [u64],
     tos: &mut [u64],
-) -> Merged
+) -> Option<usize>
     requires { (length keys.now + length starts.now ≤ 1000000) × (length starts.now ≡ length ends.now) }
     ensures { Merges keys.now starts.now ends.now result froms.new tos.new }
 {
@@ -86,17 +81,13 @@ pub fn merge(
     let mut count = 0;
     let mut i = 0;
     let mut j = 0;
-    let mut left = keys.len() + starts.len();
-    while 0 < left {
+    // No iterator: how far both places move is what `next` says, and an iterator of turns would be an impl of its own about the same two.
+    while i + j < keys.len() + starts.len() {
         let t = next(keys, starts, ends, i, j);
         i = t.keys;
         j = t.spans;
-        left -= 1;
         if t.from <= to {
-            return Merged {
-                clash: true,
-                count: 0,
-            };
+            return None;
         }
         if to < t.from - 1 {
             store(froms, count, from);
@@ -108,8 +99,5 @@ pub fn merge(
     }
     store(froms, count, from);
     store(tos, count, to);
-    Merged {
-        clash: false,
-        count: count + 1,
-    }
+    Some(count + 1)
 }

@@ -7,7 +7,7 @@ use lib.ListN.{length, take, drop, get_or}
 use lib.Dec.{eqb}
 use Rattle.text.specs.Digits.{is_digit, value}
 use Rattle.number_reader.specs.declared.Run.{Run}
-use Rattle.number_reader.specs.declared.Two.TheVariants.{Found, NotTwo}
+use Rattle.std.specs.Prelude.{Some, None}
 use Rattle.figures.specs.declared.parts.Weighed.{Weighed}
 use Rattle.figures.specs.declared.parts.Halves.{Halves}
 use Rattle.figures.specs.Layouts.{run}
@@ -29,19 +29,19 @@ run_is : (k : ℕ) (t : List ℕ) (at : ℕ) {w : Weighed} → w ≡ weighed_at 
 run_is k t at e = same_run refl (end_is k t at e)
 
 module _ (h₁ h₂ : ℕ) (t : List ℕ) {a : Weighed} (ea : a ≡ weighed_at h₁ t 0) where
-  pub none_after : length t ≤ a.end → two_of 0 h₁ 1 h₂ t ≡ NotTwo
+  pub none_after : length t ≤ a.end → two_of 0 h₁ 1 h₂ t ≡ None
   none_after h = sym (ended t 0 h₁ 1 h₂ (run_of h₁ t 0 a) (run_is h₁ t 0 ea) h)
 
   module _ (h : a.end < length t) where
-    pub no_space : (get_or t a.end 0 ≡ 32 → ⊥) → two_of 0 h₁ 1 h₂ t ≡ NotTwo
+    pub no_space : (get_or t a.end 0 ≡ 32 → ⊥) → two_of 0 h₁ 1 h₂ t ≡ None
     no_space n = sym (other t 0 h₁ 1 h₂ (run_of h₁ t 0 a) (run_is h₁ t 0 ea) h n)
 
     module _ {b : Weighed} (eb : b ≡ weighed_at h₂ t (a.end + 1)) where
-      pub no_digit : b.end < a.end + 2 → two_of 0 h₁ 1 h₂ t ≡ NotTwo
+      pub no_digit : b.end < a.end + 2 → two_of 0 h₁ 1 h₂ t ≡ None
       no_digit g = sym (few t 0 h₁ 1 h₂ (run_of h₁ t 0 a) (run_is h₁ t 0 ea) h (run_of h₂ t (a.end + 1) b) (run_is h₂ t (a.end + 1) eb) (omega arith))
 
       module _ (g : a.end + 2 ≤ b.end) where
-        pub both : get_or t a.end 0 ≡ 32 → two_of 0 h₁ 1 h₂ t ≡ Found (number h₁ t 0) a.end (number h₂ t (a.end + 1)) b.end
+        pub both : get_or t a.end 0 ≡ 32 → two_of 0 h₁ 1 h₂ t ≡ Some (record { first = number h₁ t 0; mid = a.end; second = number h₂ t (a.end + 1); end = b.end })
         both e =
             sym (found t 0 h₁ 1 h₂ (run_of h₁ t 0 a) (run_is h₁ t 0 ea) h (run_of h₂ t (a.end + 1) b) (run_is h₂ t (a.end + 1) eb) zero-le e (omega arith) (omega arith))
 

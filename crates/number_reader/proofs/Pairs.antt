@@ -9,7 +9,7 @@ use lib.ListN.{length, take, drop, get_or, drop_of_length-le}
 use borrow.Author.Tests.{le-leb, lt-leb, eq-eqb, ne_eqb}
 use Rattle.text.specs.Digits.{is_digit, value}
 use Rattle.number_reader.specs.declared.Run.{Run}
-use Rattle.number_reader.specs.declared.Two.TheVariants.{Found, NotTwo}
+use Rattle.std.specs.Prelude.{Some, None}
 use Rattle.figures.specs.Layouts.{run, head_is}
 use Rattle.figures.proofs.Endings.{head_at}
 use Rattle.number_reader.specs.Numbers.{number_at, two_of}
@@ -25,16 +25,16 @@ module _ (t : List ℕ) (l₁ h₁ l₂ h₂ : ℕ) (a : Run) (ea : a ≡ number
   fst : value (take a.end t) ≡ a.value
   fst = ap (λ (n : ℕ). value (take n t)) (sym mid) ∙ sym (ap (λ (r : Run). r.value) ea)
 
-  pub short : a.end < l₁ → NotTwo ≡ two_of l₁ h₁ l₂ h₂ t
+  pub short : a.end < l₁ → None ≡ two_of l₁ h₁ l₂ h₂ t
   unfolding two_of
   short h = rw (mid, lt-leb l₁ a.end h)
 
-  pub ended : length t ≤ a.end → NotTwo ≡ two_of l₁ h₁ l₂ h₂ t
+  pub ended : length t ≤ a.end → None ≡ two_of l₁ h₁ l₂ h₂ t
   unfolding two_of
   ended h = rw (mid, head_past 32 t a.end h, and-false)
 
   module _ (h : a.end < length t) where
-    pub other : (get_or t a.end 0 ≡ 32 → ⊥) → NotTwo ≡ two_of l₁ h₁ l₂ h₂ t
+    pub other : (get_or t a.end 0 ≡ 32 → ⊥) → None ≡ two_of l₁ h₁ l₂ h₂ t
     unfolding two_of
     other n = rw (mid, head_at 32 t a.end h, ne_eqb _ _ n, and-false)
 
@@ -45,12 +45,12 @@ module _ (t : List ℕ) (l₁ h₁ l₂ h₂ : ℕ) (a : Run) (ea : a ≡ number
       snd : value (take (b.end - (a.end + 1)) (drop (a.end + 1) t)) ≡ b.value
       snd = ap (λ (n : ℕ). value (take n (drop (a.end + 1) t))) (sym size) ∙ sym (ap (λ (r : Run). r.value) eb)
 
-      pub few : b.end - (a.end + 1) < l₂ → NotTwo ≡ two_of l₁ h₁ l₂ h₂ t
+      pub few : b.end - (a.end + 1) < l₂ → None ≡ two_of l₁ h₁ l₂ h₂ t
       unfolding two_of
       few g = rw (mid, size, lt-leb l₂ (b.end - (a.end + 1)) g, and-false, and-false)
 
       pub found : l₁ ≤ a.end → get_or t a.end 0 ≡ 32 → l₂ ≤ b.end - (a.end + 1) → a.end + 1 ≤ b.end
-          → Found a.value a.end b.value b.end ≡ two_of l₁ h₁ l₂ h₂ t
+          → Some (record { first = a.value; mid = a.end; second = b.value; end = b.end }) ≡ two_of l₁ h₁ l₂ h₂ t
       unfolding two_of
       found f e g k =
           let z : a.end + 1 + (b.end - (a.end + 1)) ≡ b.end = omega arith in

@@ -1,84 +1,71 @@
 -- A loop that reads digits: at place i, the digits that are left, after the number read so far, give what all of them give.
-use mathlib.Core.Path.{◌≡◌, refl, ◌∙◌, sym}
-use mathlib.Core.Bool.{true}
-use mathlib.Core.List.{List, ◌∷◌}
-use Prim.Native.Nat.{ℕ, zero, suc, ◌+◌, ◌-◌, ◌*◌, ◌^◌, ◌≤◌, ◌<◌}
+use Rattle.std.proofs.Common.{◌≡◌, ℕ, suc, ◌+◌, ◌-◌, ◌*◌, ◌%◌, ◌^◌, ◌<◌, ◌≤◌, min, true, List, ◌∷◌, length, get_or, drop, sym, refl, ◌∙◌, add-one, arith, drop-cons}
 use native.Mathlib.Nat.{one-le-pow}
-use native.Mathlib.Numerals.{add-one}
-use native.Mathlib.Omega.{arith}
-use lib.ListN.{length, drop, get_or}
-use lib.Seq.{drop-cons}
-use borrow.Author.Tests.{le-leb, lt-leb}
 use Rattle.text.specs.Digits.{is_digit, value_after}
 use Rattle.text.proofs.Reading.{grows, small}
 use Rattle.number_reader.specs.declared.Run.{Run}
 use Rattle.figures.specs.Layouts.{run}
 use Rattle.number_reader.specs.Numbers.{digits_from, number_at}
-use Rattle.figures.proofs.Runs.{run_past, run_other}
+use Rattle.figures.proofs.Runs.{run_ended, run_other, digit_by, other_by}
 
 pub same_run : {a b c d : ℕ} → a ≡ b → c ≡ d → ◌≡◌ {A = Run} (record { value = a; end = c }) (record { value = b; end = d })
 same_run p q = rw (p, q)
 
 -- digits that are at their end
-pub stopped : (v i : ℕ) (s : List ℕ) (k : ℕ) → run is_digit k s ≡ 0 → digits_from k v i s ≡ record { value = v; end = i }
+stopped : (v i : ℕ) (s : List ℕ) (k : ℕ) → run is_digit k s ≡ 0 → digits_from k v i s ≡ record { value = v; end = i }
 unfolding value_after
 stopped v i s k e = rw e (same_run refl (omega arith))
-
-module _ (t : List ℕ) (r : Run) (v i k : ℕ) (known : r ≡ digits_from k v i (drop i t)) where
-  pub at_end : length t ≤ i → record { value = v; end = i } ≡ r
-  at_end h = sym (known ∙ stopped v i (drop i t) k (run_past is_digit k t i h))
-
-  pub at_most : k ≡ 0 → record { value = v; end = i } ≡ r
-  unfolding run
-  at_most e = sym (known ∙ stopped v i (drop i t) k (rw e))
-
-  module _ (h : i < length t) where
-    pub low : get_or t i 0 < 48 → record { value = v; end = i } ≡ r
-    low a = sym (known ∙ stopped v i (drop i t) k (run_other is_digit k t i h (simp (lt-leb 48 (get_or t i 0) a))))
-
-    pub high : 57 < get_or t i 0 → record { value = v; end = i } ≡ r
-    high a = sym (known ∙ stopped v i (drop i t) k (run_other is_digit k t i h (simp (le-leb 48 (get_or t i 0) (omega arith), lt-leb (get_or t i 0) 57 a))))
 
 digit_first : (b : ℕ) (s : List ℕ) (k v i : ℕ) → is_digit b ≡ true → digits_from (suc k) v i (b ∷ s) ≡ digits_from k (v * 10 + (b - 48)) (i + 1) s
 unfolding run value_after
 digit_first b s k v i e = rw e (same_run refl (omega arith))
 
-pub more : (t : List ℕ) (r : Run) (v i k : ℕ) → r ≡ digits_from k v i (drop i t) → i < length t → (k ≡ 0 → ⊥) → 48 ≤ get_or t i 0 → get_or t i 0 ≤ 57
-    → r ≡ digits_from (k - 1) (v * 10 + (get_or t i 0 - 48)) (i + 1) (drop (i + 1) t)
-more t r v i zero known h n a b = absurd (n refl)
-more t r v i (suc k) known h n a b =
-    let e : suc k - 1 ≡ k = omega arith in
-    known ∙ rw (add-one i, drop-cons t i 0, e) (rw (← add-one i) (digit_first (get_or t i 0) (drop (i + 1) t) k v i (simp (le-leb 48 (get_or t i 0) a, le-leb (get_or t i 0) 57 b))))
-
 -- what holds at the loop's head
-pub record Going (t : List ℕ) (at most v i left : ℕ) : Type 0 where
-  pub same : number_at most t at ≡ digits_from left v i (drop i t)
+pub record Going (t : List ℕ) (at most stop v i : ℕ) : Type 0 where
+  pub few : most ≤ 19
+  pub until : stop ≡ min (length t) (at + most)
+  pub same : number_at most t at ≡ digits_from (at + most - i) v i (drop i t)
   pub past : at ≤ i
-  pub inside : i ≤ length t
-  pub fewer : left ≤ most
-  pub below : v < 10 ^ (most - left)
+  pub inside : i ≤ stop
+  pub below : v < 10 ^ (i - at)
 
 -- what is answered
 abbrev pub Answer : List ℕ → ℕ → ℕ → ℕ → ℕ → Type 0
 Answer t at most v i = (record { value = v; end = i } ≡ number_at most t at) × (at ≤ i) × (i ≤ length t) × (v < 10 ^ most)
 
-pub first : (t : List ℕ) (at most : ℕ) → at ≤ length t → Going t at most 0 at most
-first t at most h = record { same = refl; past = omega arith; inside = h; fewer = omega arith; below = one-le-pow (most - most) 10 (omega arith) }
+pub first : (t : List ℕ) (at most stop : ℕ) → (at ≤ length t) × (most ≤ 19) → stop ≡ min (length t) (at + most) → Going t at most stop 0 at
+first t at most stop h e =
+    let m : at + most - at ≡ most = omega arith in
+    record { few = h.1; until = e; same = rw m refl; past = omega arith; inside = omega (arith, h.0); below = one-le-pow (at - at) 10 (omega arith) }
 
-module _ (t : List ℕ) (at most v i left : ℕ) (g : Going t at most v i left) where
-  pub answered : record { value = v; end = i } ≡ number_at most t at → Answer t at most v i
-  answered e = (e, g.past, g.inside, small most v (most - left) g.below (omega arith))
+module _ (t : List ℕ) (at most stop v i : ℕ) (g : Going t at most stop v i) where
+  answered : run is_digit (at + most - i) (drop i t) ≡ 0 → Answer t at most v i
+  answered e =
+      (sym (g.same ∙ stopped v i (drop i t) (at + most - i) e), g.past, omega (arith, g.until, g.inside), small most v (i - at) g.below (omega (arith, g.until, g.inside)))
 
-  pub next : i < length t → (left ≡ 0 → ⊥) → 48 ≤ get_or t i 0 → get_or t i 0 ≤ 57 → Going t at most (v * 10 + (get_or t i 0 - 48)) (i + 1) (left - 1)
-  next h n a b =
-      let e : most - (left - 1) ≡ most - left + 1 = omega (arith, g.fewer) in
-      record {
-        same = more t (number_at most t at) v i left g.same h n a b;
-        past = omega (arith, g.past);
-        inside = omega arith;
-        fewer = omega (arith, g.fewer);
-        below = rw e (grows v (most - left) (get_or t i 0 - 48) g.below (omega arith));
-      }
+  -- so many digits, or the text's end
+  pub ended : stop ≤ i → Answer t at most v i
+  ended h = answered (run_ended is_digit t at most stop i g.until h)
 
-  pub room : most ≤ 19 → (left ≡ 0 → ⊥) → v < 10 ^ 18
-  room m n = small 18 v (most - left) g.below (omega arith)
+  -- the number so far, while there is room
+  pub room : i < stop → v < 10 ^ 18
+  room h = small 18 v (i - at) g.below (omega (arith, g.few, g.until))
+
+  -- a byte, less 48 by remainder of 256
+  module _ (d : ℕ) (h : i < stop) (byte : get_or t i 0 < 2 ^ 8) (wraps : d ≡ (get_or t i 0 + 208) % 256) where
+    pub next : d ≤ 9 → Going t at most stop (v * 10 + d) (i + 1)
+    next l =
+        let b = digit_by (get_or t i 0) d byte wraps l in
+        let m : at + most - i ≡ suc (at + most - (i + 1)) = omega (arith, g.until) in
+        let j : i + 1 - at ≡ i - at + 1 = omega (arith, g.past) in
+        record {
+          few = g.few;
+          until = g.until;
+          same = g.same ∙ rw (m, drop-cons t i 0 (omega (arith, g.until))) (rw (← add-one i) (rw (← b.1) (digit_first (get_or t i 0) (drop (i + 1) t) (at + most - (i + 1)) v i b.0)));
+          past = omega (arith, g.past);
+          inside = omega arith;
+          below = rw j (grows v (i - at) d g.below (omega arith));
+        }
+
+    pub other : 9 < d → Answer t at most v i
+    other k = answered (run_other is_digit (at + most - i) t i (omega (arith, g.until)) (other_by (get_or t i 0) d byte wraps k))

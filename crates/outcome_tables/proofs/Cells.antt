@@ -1,14 +1,14 @@
--- The table's cells: a test that is computed at every row and every outcome holds at each. By it a cell of a packed row is the
--- row's entry, and an outgoing type has two digits.
+-- The table's cells: a test that is computed at every row and every outcome holds at each. By it an
+-- outgoing type has two digits.
 use mathlib.Core.Path.{◌≡◌, refl}
 use mathlib.Core.Bool.{Bool, true, false, cond, ◌&&◌}
 use mathlib.Core.List.{List, [], ◌∷◌}
-use Prim.Native.Nat.{ℕ, ◌+◌, ◌-◌, ◌*◌, ◌/◌, ◌%◌, ◌^◌, ◌≤◌, ◌<◌}
+use Prim.Native.Nat.{ℕ, ◌-◌, ◌≤◌, ◌<◌}
 use lib.ListN.{get_or}
 use lib.Dec.{T, eqb, ltb}
-use borrow.Author.Tests.{eqb-true, ltb-true}
+use borrow.Author.Tests.{ltb-true}
 use Rattle.laws.proofs.Entries.{and_left, and_right}
-use Rattle.outcome_tables.specs.Outcomes.{TypeRow, row, table, entries, packed, outgoing}
+use Rattle.outcome_tables.specs.Outcomes.{TypeRow, row, table, entries, outgoing}
 use Rattle.outcome_tables.proofs.Seven.{seven}
 
 -- what every row and the empty one have, the row of a type has
@@ -28,24 +28,10 @@ true_of : (b : Bool) → T b → b ≡ true
 true_of true t = refl
 true_of false t = absurd t
 
--- the outgoing type in a packed row, as the code reads it
-abbrev cell : ℕ → ℕ → ℕ
-cell v o = v / 2 ^ (8 * (7 - o)) % 256
-
-abbrev unpacked : ℕ → ℕ
-unpacked c = c / 16 * 10 + c % 16
-
-abbrev right : ℕ → List ℕ → Bool
-right o es = eqb (unpacked (cell (packed 0 es) o)) (get_or es (o - 1) 0)
-
 abbrev short : ℕ → List ℕ → Bool
 short o es = ltb (get_or es (o - 1) 0) 100
 
 module _ (kind o : ℕ) (l : 1 ≤ o) (h : o ≤ 7) where
-  pub cells : unpacked (cell (packed 0 (entries table kind)) o) ≡ outgoing kind o
-  unfolding outgoing
-  cells = eqb-true _ _ (true_of _ (at (right o) table (seven (λ o. T (each (right o) table)) tt tt tt tt tt tt tt o l h) kind))
-
   pub two_digits : outgoing kind o < 100
   unfolding outgoing
   two_digits = ltb-true _ _ (true_of _ (at (short o) table (seven (λ o. T (each (short o) table)) tt tt tt tt tt tt tt o l h) kind))

@@ -1,6 +1,6 @@
 -- Outcomes and outgoing headings (document 01; 000, 4 and 5): the table of types, the codes, the classes of output numbers.
 -- Outcomes: 1 beneficiary made, 2 beneficiary no funds, 3 payer made, 4 payer no funds, 5 sender made, 6 sender no funds, 7 formal error.
-use Rattle.std.specs.Prelude.{ℕ, ◌+◌, ◌-◌, ◌*◌, ◌/◌, ◌%◌, Bool, cond, ◌&&◌, List, [], ◌∷◌, get_or, leb, eqb}
+use Rattle.std.specs.Prelude.{ℕ, ◌-◌, Bool, cond, ◌&&◌, List, [], ◌∷◌, get_or, leb, eqb}
 use Rattle.laws.specs.Tests.{among}
 use Rattle.headings.specs.declared.Code.{Code}
 use Rattle.headings.specs.ItemTypes.{is_priority}
@@ -35,11 +35,6 @@ entries (row k es ∷ rs) kind = cond (eqb kind k) es (entries rs kind)
 -- the outgoing type of an input type and an outcome from 1 to 7; 0 where the table has no entry
 unfoldable pub outgoing : ℕ → ℕ → ℕ
 outgoing kind outcome = get_or (entries table kind) (outcome - 1) 0
-
--- a row as the code holds it: one number, two digits in each byte
-abbrev pub packed : ℕ → List ℕ → ℕ
-packed v [] = v
-packed v (e ∷ es) = packed (v * 256 + (e / 10 * 16 + e % 10)) es
 
 abbrev pub three : Code → Code → Code → Codes
 three first second third = record { first = first; second = second; third = third }

@@ -3,8 +3,8 @@
 // an 01 and a 21 returned (proofs/Origins.antt). Stands on the types of `headings`, and on `laws`.
 #![tactic(auto)]
 
-ghost use Rattle.std.specs.Prelude.{◌≡◌, ◌≤◌};
-ghost use Rattle.outcome_tables.specs.Outcomes.{table, entries, packed, outgoing, three, codes, in_class};
+ghost use Rattle.std.specs.Prelude.{◌≡◌, ◌≤◌, [], unwrap_or};
+ghost use Rattle.outcome_tables.specs.Outcomes.{table, entries, outgoing, three, codes, in_class};
 
 use headings::item_types::is_priority;
 use headings::{Code, ItemNo};
@@ -17,77 +17,77 @@ pub struct Codes {
     pub third: Code,
 }
 
-// The outgoing types of an input type for outcomes 1 to 7, two digits each.
-fn row(kind: u32) -> u64
-    ensures { result ≡ packed 0 (entries table kind) }
+// The outgoing types of an input type for outcomes 1 to 7, 0 for none.
+fn row(kind: u32) -> Option<[u8; 7]>
+    ensures { unwrap_or result [] ≡ entries table kind }
 {
-    match kind {
-        1 => 0x01_00_00_00_00_61_71,
-        11 => 0x11_00_00_00_00_61_71,
-        21 => 0x21_00_00_00_00_61_71,
-        12 => 0x12_00_00_00_00_62_72,
-        13 => 0x13_00_00_00_00_63_73,
-        14 => 0x14_00_00_00_00_64_74,
-        32 => 0x32_00_00_00_00_00_82,
-        33 => 0x33_00_00_00_00_00_83,
-        55 => 0x55_00_00_00_00_00_85,
-        44 => 0x44_00_00_00_00_00_84,
-        35 => 0x16_66_15_65_00_00_75,
-        37 => 0x18_68_17_67_00_00_77,
-        45 => 0x26_66_25_65_05_69_75,
-        _ => 0,
-    }
+    let types = match kind {
+        1 => [1, 0, 0, 0, 0, 61, 71],
+        11 => [11, 0, 0, 0, 0, 61, 71],
+        21 => [21, 0, 0, 0, 0, 61, 71],
+        12 => [12, 0, 0, 0, 0, 62, 72],
+        13 => [13, 0, 0, 0, 0, 63, 73],
+        14 => [14, 0, 0, 0, 0, 64, 74],
+        32 => [32, 0, 0, 0, 0, 0, 82],
+        33 => [33, 0, 0, 0, 0, 0, 83],
+        55 => [55, 0, 0, 0, 0, 0, 85],
+        44 => [44, 0, 0, 0, 0, 0, 84],
+        35 => [16, 66, 15, 65, 0, 0, 75],
+        37 => [18, 68, 17, 67, 0, 0, 77],
+        45 => [26, 66, 25, 65, 5, 69, 75],
+        _ => return None,
+    };
+    Some(types)
 }
 
 // The outgoing type, 0 for none.
+#[tactic(auto, unfolding(crate::specs::Outcomes::outgoing))]
 pub fn outgoing(kind: u32, outcome: u32) -> u32
     requires { (1 ≤ outcome) × (outcome ≤ 7) }
     ensures { result ≡ outgoing kind outcome }
 {
-    let cell = ((row(kind) >> ((8 * (7 - outcome)) as u64)) % 256) as u32;
-    cell / 16 * 10 + cell % 16
+    match row(kind) {
+        Some(types) => types[(outcome - 1) as usize] as u32,
+        None => 0,
+    }
 }
 
 fn three(first: Code, second: Code, third: Code) -> Codes
     ensures { result ≡ three first second third }
 {
     Codes {
-        first: first,
-        second: second,
-        third: third,
+        first,
+        second,
+        third,
     }
 }
 
 // Which codes stand first, second and third, from those of a trilateral or a bilateral heading.
+#[tactic(auto, unfolding(crate::specs::Outcomes::codes))]
 pub fn arranged(trilateral: bool, outcome: u32, x: Code, y: Code, z: Code) -> Codes
     requires { (1 ≤ outcome) × (outcome ≤ 7) }
     ensures { result ≡ codes trilateral outcome x y z }
 {
-    if trilateral {
-        if outcome < 3 {
-            return three(x, z, y);
-        }
-        if outcome < 5 {
-            return three(x, y, z);
-        }
-        return three(y, x, z);
+    match (trilateral, outcome) {
+        (true, 1 | 2) => three(x, z, y),
+        (true, 3 | 4) => three(x, y, z),
+        (true, _) => three(y, x, z),
+        (false, 6 | 7) => three(x, x, y),
+        (false, _) => three(x, y, Code(0)),
     }
-    if outcome < 6 {
-        return three(x, y, Code(0));
-    }
-    three(x, x, y)
 }
 
 // Whether an output number is in the class of an input type.
+#[tactic(auto, unfolding(crate::specs::Outcomes::in_class))]
 pub fn in_class(kind: u32, number: ItemNo) -> bool
     ensures { result ≡ in_class kind number.0 }
 {
     let n = number.0;
     if kind == 44 {
-        return (9000001 <= n) & (n <= 9999999);
+        (9000001..=9999999).contains(&n)
+    } else if is_priority(kind) {
+        (5000001..=9000000).contains(&n)
+    } else {
+        (1..=5000000).contains(&n)
     }
-    if is_priority(kind) {
-        return (5000001 <= n) & (n <= 9000000);
-    }
-    (1 <= n) & (n <= 5000000)
 }

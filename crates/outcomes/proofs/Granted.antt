@@ -10,11 +10,11 @@ use Rattle.laws.specs.Refusals.{◌if◌, first}
 use Rattle.laws.proofs.Truth.{and_parts}
 use Rattle.headings.specs.declared.ItemNo.{ItemNo}
 use Rattle.headings.specs.declared.Heading.{Heading}
-use Rattle.headings.specs.declared.Read.TheVariants.{Reads}
 use Rattle.headings.specs.Reading.{heading_of}
 use Rattle.outcome_tables.specs.Outcomes.{in_class}
 use Rattle.turning.specs.Turning.{barred_to, is_outcome, is_standing, is_missing}
 use Rattle.outcomes.specs.Deriving.{tell_refusals, number_refusals, derive_refusals}
+use Rattle.std.specs.Prelude.{Some}
 
 pub record Granted (h : Heading) (o p : ℕ) (n : ItemNo) : Type 0 where
   pub open_to : barred_to p h ≡ false
@@ -32,7 +32,7 @@ none_holds false false false true e z = absurd (omega arith)
 none_holds false false false false true z = absurd (omega arith)
 none_holds false false false false false z = (refl, refl, refl, refl)
 
-pub granted : (s : List ℕ) (o p : ℕ) (n : ItemNo) (room : ℕ) (h : Heading) → heading_of s ≡ Reads h → first (derive_refusals s o p n room) ≡ 0
+pub granted : (s : List ℕ) (o p : ℕ) (n : ItemNo) (room : ℕ) (h : Heading) → heading_of s ≡ Some h → first (derive_refusals s o p n room) ≡ 0
     → Granted h o p n
 unfolding tell_refusals number_refusals derive_refusals
 granted s o p n room h r z =

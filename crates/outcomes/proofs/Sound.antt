@@ -13,7 +13,6 @@ use Rattle.laws.proofs.Truth.{and_parts}
 use Rattle.headings.specs.declared.Code.{Code}
 use Rattle.headings.specs.declared.ItemNo.{ItemNo}
 use Rattle.headings.specs.declared.Heading.{Heading}
-use Rattle.headings.specs.declared.Read.TheVariants.{Reads}
 use Rattle.headings.specs.ItemTypes.{is_trilateral, is_priority}
 use Rattle.headings.specs.Reading.{heading_of}
 use Rattle.heading_writer.specs.Writing.{heading_text}
@@ -27,6 +26,7 @@ use Rattle.turning.proofs.Steps.{one_of_seven}
 use Rattle.outcomes.proofs.Granted.{granted}
 use Rattle.outcome_tables.proofs.Cells.{two_digits}
 use Rattle.outcomes.proofs.Small.{Small, small, fits_small}
+use Rattle.std.specs.Prelude.{Some}
 
 small_codes : (b : Bool) (x y z : Code) → x.0 < 10000000 → y.0 < 10000000 → z.0 < 10000000 → (o : ℕ) → 1 ≤ o → o ≤ 7
     → ((codes b o x y z).first.0 < 10000000) × ((codes b o x y z).second.0 < 10000000) × ((codes b o x y z).third.0 < 10000000)
@@ -67,9 +67,9 @@ small_derived h o n w l g i =
       third = cs.2;
     }
 
-module _ (s : List ℕ) (o p : ℕ) (n : ItemNo) (t : List ℕ) (h : Heading) (r : heading_of s ≡ Reads h) (z : first (derive_refusals s o p n (length t)) ≡ 0) where
+module _ (s : List ℕ) (o p : ℕ) (n : ItemNo) (t : List ℕ) (h : Heading) (r : heading_of s ≡ Some h) (z : first (derive_refusals s o p n (length t)) ≡ 0) where
   -- the first 54 bytes of the target read as the heading that was turned and numbered
-  pub derived_reads : heading_of (take 54 (derived_target s o p n t)) ≡ Reads (numbered (turned h o) n)
+  pub derived_reads : heading_of (take 54 (derived_target s o p n t)) ≡ Some (numbered (turned h o) n)
   unfolding derived_target
   derived_reads =
       let g = granted s o p n (length t) h r z in

@@ -13,15 +13,13 @@ use Rattle.laws.specs.Refusals.{first}
 use Rattle.headings.specs.declared.Code.{Code}
 use Rattle.headings.specs.declared.ItemNo.{ItemNo}
 use Rattle.headings.specs.declared.Heading.{Heading}
-use Rattle.headings.specs.declared.Read.{Read}
-use Rattle.headings.specs.declared.Read.TheVariants.{Reads, Unreadable}
 use Rattle.headings.specs.ItemTypes.{is_closing, is_input, is_trilateral}
 use Rattle.headings.specs.HeadRules.{rule10, rule13, rule14}
 use Rattle.headings.specs.Reading.{heading_of}
 use Rattle.heading_writer.specs.Writing.{heading_text as headingTextOf}
 use Rattle.heading_writer.proofs.RoundTrips.{written_read}
 use Rattle.outcome_tables.specs.declared.Codes.{Codes}
-use Rattle.outcomes.specs.declared.Derived.{Derived}
+use Rattle.outcomes.specs.declared.DeriveError.{DeriveError}
 use Rattle.outcome_tables.specs.Outcomes.{outgoing, codes, in_class, returned}
 use Rattle.outcomes.specs.Whose.{of_type, Twins, OneItem}
 use Rattle.turning.specs.Turning.{barred, barred_to, withheld, turned}
@@ -33,6 +31,7 @@ use Rattle.outcomes.proofs.Granted.{Granted, granted}
 use Rattle.outcomes.proofs.Telling.{kind_is}
 use Rattle.outcomes.proofs.Sound.{derived_reads}
 use Rattle.outcome_tables.proofs.Origins.{one_class, one_origin}
+use Rattle.std.specs.Prelude.{None, Option, Some, Result}
 
 -- ---- the codes back again
 module _ (x y z x' y' z' : Code) where
@@ -162,10 +161,10 @@ module _ (h g : Heading) (o p : ℕ) (n m : ItemNo) (H : Derivable h o n) (G : D
 -- two texts that read, under any outcomes, standings and output numbers, with the same 54 bytes derived
 module _ (s s' : List ℕ) (o o' p p' : ℕ) (n n' : ItemNo) (t t' : List ℕ) (z : first (derive_refusals s o p n (length t)) ≡ 0)
     (z' : first (derive_refusals s' o' p' n' (length t')) ≡ 0) (same : take 54 (derived_target s o p n t) ≡ take 54 (derived_target s' o' p' n' t')) where
-  module _ (h g : Heading) (r : heading_of s ≡ Reads h) (r' : heading_of s' ≡ Reads g) where
+  module _ (h g : Heading) (r : heading_of s ≡ Some h) (r' : heading_of s' ≡ Some g) where
     heading_alike : numbered (turned h o) n ≡ numbered (turned g o') n'
     heading_alike =
-        let e : Reads (numbered (turned h o) n) ≡ Reads (numbered (turned g o') n') =
+        let e : Some (numbered (turned h o) n) ≡ Some (numbered (turned g o') n') =
         sym (derived_reads s o p n t h r z) ∙ ap heading_of same ∙ derived_reads s' o' p' n' t' g r' z' in
         cc
 
@@ -187,13 +186,13 @@ module _ (s s' : List ℕ) (o o' p p' : ℕ) (n n' : ItemNo) (t t' : List ℕ) (
   unfolding derive_refusals tell_refusals
   of_texts = go (heading_of s) (heading_of s') refl refl
     where
-      go : (x y : Read) → heading_of s ≡ x → heading_of s' ≡ y → OneItem s s' (outgoing_kind s o)
-      go Unreadable y e e' = absurd (let f : 11 ≡ 0 = rw e at z in omega (arith, f))
-      go (Reads h) Unreadable e e' = absurd (let f : 11 ≡ 0 = rw e' at z' in omega (arith, f))
-      go (Reads h) (Reads g) e e' = one_item h g e e'
+      go : (x y : Option Heading) → heading_of s ≡ x → heading_of s' ≡ y → OneItem s s' (outgoing_kind s o)
+      go None y e e' = absurd (let f : 11 ≡ 0 = rw e at z in omega (arith, f))
+      go (Some h) None e e' = absurd (let f : 11 ≡ 0 = rw e' at z' in omega (arith, f))
+      go (Some h) (Some g) e e' = one_item h g e e'
 
 -- two answers of deriving that refuse nothing and leave the same 54 bytes
-pub whose : {s s' : List ℕ} {o o' p p' : ℕ} {n n' : ItemNo} {t₀ t₀' t t' : List ℕ} {d d' : Derived} → Derives s o p n t₀ d t → Derives s' o' p' n' t₀' d' t'
+pub whose : {s s' : List ℕ} {o o' p p' : ℕ} {n n' : ItemNo} {t₀ t₀' t t' : List ℕ} {d d' : Result (Unit {0}) DeriveError} → Derives s o p n t₀ d t → Derives s' o' p' n' t₀' d' t'
     → derived_number d ≡ 0 → derived_number d' ≡ 0 → take 54 t ≡ take 54 t' → OneItem s s' (outgoing_kind s o)
 whose {s} {s'} {o} {o'} {p} {p'} {n} {n'} {t₀} {t₀'} D E z z' same =
     of_texts s s' o o' p p' n n' t₀ t₀' (sym D.number ∙ z) (sym E.number ∙ z')

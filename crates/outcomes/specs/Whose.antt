@@ -1,7 +1,6 @@
 -- Whose item it was (A13): what two input headings have in common from which one heading was derived.
-use Rattle.std.specs.Prelude.{◌≡◌, true, List, ◌⊎◌, ℕ}
+use Rattle.std.specs.Prelude.{◌≡◌, true, List, ◌⊎◌, ℕ, Some}
 use Rattle.headings.specs.declared.Heading.{Heading}
-use Rattle.headings.specs.declared.Read.TheVariants.{Reads}
 use Rattle.headings.specs.Reading.{heading_of}
 use Rattle.outcome_tables.specs.Outcomes.{returned}
 
@@ -18,8 +17,8 @@ Twins h g = ((h.kind ≡ 01) × (g ≡ of_type 21 h)) ⊎ ((g.kind ≡ 01) × (h
 pub record Twinned (s s' : List ℕ) (e : ℕ) : Type 0 where
   pub one : Heading
   pub other : Heading
-  pub reads : heading_of s ≡ Reads one
-  pub other_reads : heading_of s' ≡ Reads other
+  pub reads : heading_of s ≡ Some one
+  pub other_reads : heading_of s' ≡ Some other
   pub was_returned : returned e ≡ true
   pub twins : Twins one other
 

@@ -6,88 +6,127 @@
 // and writing of `headings`, on the layouts of `text`, and on `laws`.
 #![tactic(auto)]
 
-ghost use Rattle.std.specs.Prelude.{◌≡◌, length};
+ghost use Rattle.std.specs.Prelude.{◌≡◌, length, Some, IfOk};
 ghost use Rattle.laws.specs.Refusals.{first};
-ghost use Rattle.outcomes.specs.Deriving.{numbered, issue_refusals, issued_target, told_number, told_kind, told_recipient, Tells, derived_number, Derives};
+ghost use Rattle.headings.specs.Reading.{heading_of};
+ghost use Rattle.turning.specs.Turning.{turned};
+ghost use Rattle.outcomes.specs.declared.TellError.TheVariants.{Turn};
+ghost use Rattle.outcomes.specs.declared.DeriveError.TheVariants.{Tell};
+ghost use Rattle.outcomes.specs.Deriving.{numbered, issue_refusals, issued_target, untold_number, told_number, tell_refusals, Tells, underived_number, derived_number, Derives};
 
 use heading_writer::put_heading;
 use headings::reading::read;
-use headings::{Code, Heading, ItemNo, Read};
+use headings::{Code, Heading, ItemNo};
 use outcome_tables::in_class;
-use turning::{Turned, turn};
+use turning::{TurnError, turn};
 
-// The outgoing type and the recipient's code, or why there is none.
+// The outgoing type and the recipient's code.
 #[derive(Clone, Copy)]
-pub enum Told {
-    Goes(u32, Code),
-    NoHeading,
-    NotInput,
-    NoOutcome,
-    NoEntry,
+pub struct Going {
+    pub kind: u32,
+    pub recipient: Code,
 }
 
-#[derive(Clone, Copy)]
-pub enum Derived {
-    Done,
+// Why nothing is told: the text is no heading, or the first step refuses it.
+#[derive(Clone, Copy, Debug, PartialEq, Eq)]
+pub enum TellError {
     NoHeading,
-    NotInput,
-    NoOutcome,
-    NoEntry,
+    Turn(TurnError),
+}
+
+impl From<TurnError> for TellError {
+    ghost from_gives = { λ e t. t ≡ Turn e };
+
+    fn from(error: TurnError) -> TellError {
+        TellError::Turn(error)
+    }
+}
+
+// A refusal's number by document 01.
+impl From<TellError> for u32 {
+    ghost from_gives = { λ e n. n ≡ untold_number e };
+
+    fn from(error: TellError) -> u32 {
+        match error {
+            TellError::NoHeading => 11,
+            TellError::Turn(e) => e.into(),
+        }
+    }
+}
+
+// Why nothing is derived: nothing can be told, or the second step refuses.
+#[derive(Clone, Copy, Debug, PartialEq, Eq)]
+pub enum DeriveError {
+    Tell(TellError),
     NotInClass,
     TooShort,
+}
+
+impl From<TellError> for DeriveError {
+    ghost from_gives = { λ e d. d ≡ Tell e };
+
+    fn from(error: TellError) -> DeriveError {
+        DeriveError::Tell(error)
+    }
+}
+
+// A refusal's number by document 01.
+impl From<DeriveError> for u32 {
+    ghost from_gives = { λ e n. n ≡ underived_number e };
+
+    fn from(error: DeriveError) -> u32 {
+        match error {
+            DeriveError::Tell(e) => e.into(),
+            DeriveError::NotInClass => 15,
+            DeriveError::TooShort => 16,
+        }
+    }
 }
 
 // A heading with another output number.
 fn numbered(h: Heading, n: ItemNo) -> Heading
     ensures { result ≡ numbered h n }
 {
-    let first = h.first;
-    let number = h.number;
-    let second = h.second;
-    let third = h.third;
-    Heading {
-        kind: h.kind,
-        day: h.day,
-        first: first,
-        number: number,
-        second: second,
-        output: n,
-        third: third,
-    }
+    Heading { output: n, ..h }
+}
+
+// The first step, of a text: the heading that it says, and the one that goes out.
+#[tactic(auto, unfolding(crate::specs::Deriving::tell_refusals))]
+fn turn_text(text: &[u8], outcome: u32, standing: u32) -> Result<(Heading, Heading), TellError>
+    ensures number { told_number result ≡ first (tell_refusals text.now outcome standing) }
+    ensures said { IfOk result (λ both. heading_of text.now ≡ Some both.0) }
+    ensures goes { IfOk result (λ both. both.1 ≡ turned both.0 outcome) }
+{
+    let h = read(text).ok_or(TellError::NoHeading)?;
+    let g = turn(h, outcome, standing)?;
+    Ok((h, g))
 }
 
 // The second step: the output number, by the class of the input type, and the 54 bytes.
 #[tactic(auto, unfolding(crate::specs::Deriving::issued_target))]
-pub fn issue(kind: u32, g: Heading, number: ItemNo, target: &mut [u8]) -> Derived
+pub fn issue(kind: u32, g: Heading, number: ItemNo, target: &mut [u8]) -> Result<(), DeriveError>
     ensures answer { derived_number result ≡ first (issue_refusals kind number (length target.old)) }
     ensures after { target.new ≡ issued_target kind g number target.old }
 {
     if !in_class(kind, number) {
-        return Derived::NotInClass;
+        return Err(DeriveError::NotInClass);
     }
     if target.len() < 54 {
-        return Derived::TooShort;
+        return Err(DeriveError::TooShort);
     }
     put_heading(target, 0, numbered(g, number));
-    Derived::Done
+    Ok(())
 }
 
 // Tells the type and the recipient of the heading that would go out for a heading text, an outcome and the sender's standing.
-pub fn tell(text: &[u8], outcome: u32, standing: u32) -> Told
+pub fn tell(text: &[u8], outcome: u32, standing: u32) -> Result<Going, TellError>
     ensures { Tells text.now outcome standing result }
 {
-    match read(text) {
-        Read::Unreadable => Told::NoHeading,
-        Read::Reads(h) => match turn(h, outcome, standing) {
-            Turned::Barred => Told::NotInput,
-            Turned::NotOutcome => Told::NoOutcome,
-            Turned::Nowhere => Told::NoEntry,
-            Turned::To(g) => {
-                let second = g.second;
-                Told::Goes(g.kind, second)
-            },
-        },
-    }
+    let (_, g) = turn_text(text, outcome, standing)?;
+    Ok(Going {
+        kind: g.kind,
+        recipient: g.second,
+    })
 }
 
 // Writes the heading that goes out for a heading text, an outcome, the sender's standing and an output number, or leaves the target
@@ -98,70 +137,9 @@ pub fn derive(
     standing: u32,
     number: ItemNo,
     target: &mut [u8],
-) -> Derived
+) -> Result<(), DeriveError>
     ensures { Derives text.now outcome standing number target.old result target.new }
 {
-    match read(text) {
-        Read::Unreadable => Derived::NoHeading,
-        Read::Reads(h) => match turn(h, outcome, standing) {
-            Turned::Barred => Derived::NotInput,
-            Turned::NotOutcome => Derived::NoOutcome,
-            Turned::Nowhere => Derived::NoEntry,
-            Turned::To(g) => issue(h.kind, g, number, target),
-        },
-    }
-}
-
-// Document 01's number of an answer of telling, 0 where nothing is refused.
-pub fn told_number(t: Told) -> u32
-    ensures { result ≡ told_number t }
-{
-    match t {
-        Told::Goes(_, _) => 0,
-        Told::NoHeading => 11,
-        Told::NotInput => 12,
-        Told::NoOutcome => 13,
-        Told::NoEntry => 14,
-    }
-}
-
-// The outgoing type that was told, and what stood there where it is a refusal.
-pub fn told_kind(t: Told, old: u32) -> u32
-    ensures { result ≡ told_kind t old }
-{
-    match t {
-        Told::Goes(kind, _) => kind,
-        Told::NoHeading => old,
-        Told::NotInput => old,
-        Told::NoOutcome => old,
-        Told::NoEntry => old,
-    }
-}
-
-// The recipient's code that was told, and what stood there where it is a refusal.
-pub fn told_recipient(t: Told, old: u32) -> u32
-    ensures { result ≡ told_recipient t old }
-{
-    match t {
-        Told::Goes(_, code) => code.0,
-        Told::NoHeading => old,
-        Told::NotInput => old,
-        Told::NoOutcome => old,
-        Told::NoEntry => old,
-    }
-}
-
-// Document 01's number of an answer of deriving, 0 where nothing is refused.
-pub fn number_of(d: Derived) -> u32
-    ensures { result ≡ derived_number d }
-{
-    match d {
-        Derived::Done => 0,
-        Derived::NoHeading => 11,
-        Derived::NotInput => 12,
-        Derived::NoOutcome => 13,
-        Derived::NoEntry => 14,
-        Derived::NotInClass => 15,
-        Derived::TooShort => 16,
-    }
+    let (h, g) = turn_text(text, outcome, standing)?;
+    issue(h.kind, g, number, target)
 }

@@ -4,6 +4,7 @@
 #![tactic(auto)]
 
 use headings::{Code, Heading, ItemNo, item_types, reading};
+use results::number_of;
 use std::io;
 
 // The least output number of a type's class.
@@ -29,6 +30,13 @@ fn heading(kind: u32, output: u32, third: u32) -> Heading {
     }
 }
 
+// The 54 bytes of a heading, each part of which fits its digits.
+fn text_of(h: Heading) -> [u8; 54] {
+    let mut text = [0u8; 54];
+    heading_writer::put_heading(&mut text, 0, h);
+    text
+}
+
 fn print_refused(rt: &impl Print, number: u32) -> io::Result<()> {
     println!(rt; "refused {number}")
 }
@@ -41,20 +49,13 @@ fn print_cell(
     standing: u32,
     third: u32,
 ) -> io::Result<()> {
-    let mut text = [0u8; 54];
-    heading_writer::write(heading(kind, 0, third), &mut text);
+    let text = text_of(heading(kind, 0, third));
     let mut out = [0u8; 54];
-    let refusal = outcomes::number_of(outcomes::derive(
-        &text,
-        outcome,
-        standing,
-        ItemNo(least(kind)),
-        &mut out,
-    ));
+    let derived = outcomes::derive(&text, outcome, standing, ItemNo(least(kind)), &mut out);
     rt.write_all(&text[3..5])?;
     print!(rt; " {outcome} -> ")?;
-    if refusal != 0 {
-        return print_refused(rt, refusal);
+    if let Err(error) = derived {
+        return print_refused(rt, error.into());
     }
     rt.write_all(&out[3..5])?;
     rt.write_all(b" ")?;
@@ -67,13 +68,10 @@ fn print_cell(
 }
 
 fn print_row(rt: &impl Print, kind: u32, standing: u32, third: u32) -> io::Result<()> {
-    print_cell(rt, kind, 1, standing, third)?;
-    print_cell(rt, kind, 2, standing, third)?;
-    print_cell(rt, kind, 3, standing, third)?;
-    print_cell(rt, kind, 4, standing, third)?;
-    print_cell(rt, kind, 5, standing, third)?;
-    print_cell(rt, kind, 6, standing, third)?;
-    print_cell(rt, kind, 7, standing, third)
+    for outcome in 1..=7 {
+        print_cell(rt, kind, outcome, standing, third)?;
+    }
+    Ok(())
 }
 
 // What telling answers for one type, outcome and standing.
@@ -84,19 +82,15 @@ fn print_told(
     standing: u32,
     third: u32,
 ) -> io::Result<()> {
-    let mut text = [0u8; 54];
-    heading_writer::write(heading(kind, 0, third), &mut text);
+    let text = text_of(heading(kind, 0, third));
     let told = outcomes::tell(&text, outcome, standing);
     rt.write_all(b"telling ")?;
     rt.write_all(&text[3..5])?;
     print!(rt; " {outcome} by {standing}: ")?;
-    let refusal = outcomes::told_number(told);
-    if refusal != 0 {
-        return print_refused(rt, refusal);
+    match told {
+        Ok(going) => println!(rt; "{} to {}", going.kind, going.recipient.0),
+        Err(error) => print_refused(rt, error.into()),
     }
-    let out_kind = outcomes::told_kind(told, 0);
-    let recipient = outcomes::told_recipient(told, 0);
-    println!(rt; "{out_kind} to {recipient}")
 }
 
 // What deriving refuses a heading with.
@@ -109,68 +103,56 @@ fn print_derived(
     standing: u32,
     number: u32,
 ) -> io::Result<()> {
-    let mut text = [0u8; 54];
-    heading_writer::write(heading(kind, output, 0), &mut text);
+    let text = text_of(heading(kind, output, 0));
     let mut out = [0u8; 54];
     let derived = outcomes::derive(&text, outcome, standing, ItemNo(number), &mut out);
     rt.print(label)?;
-    print_refused(rt, outcomes::number_of(derived))
+    print_refused(rt, number_of(derived))
 }
 
 fn print_short(rt: &impl Print) -> io::Result<()> {
-    let mut text = [0u8; 54];
-    heading_writer::write(heading(11, 0, 0), &mut text);
+    let text = text_of(heading(11, 0, 0));
     let mut out = [0u8; 53];
     rt.print("deriving into 53 bytes: ")?;
     print_refused(
         rt,
-        outcomes::number_of(outcomes::derive(&text, 1, 1, ItemNo(1), &mut out)),
+        number_of(outcomes::derive(&text, 1, 1, ItemNo(1), &mut out)),
     )?;
     rt.print("writing into 53 bytes: ")?;
     print_refused(
         rt,
-        heading_writer::number_of(heading_writer::write(heading(11, 0, 0), &mut out)),
+        number_of(heading_writer::write(heading(11, 0, 0), &mut out)),
     )?;
     rt.print("writing type 100 into 53 bytes: ")?;
     print_refused(
         rt,
-        heading_writer::number_of(heading_writer::write(heading(100, 0, 0), &mut out)),
+        number_of(heading_writer::write(heading(100, 0, 0), &mut out)),
     )
 }
 
 fn main(rt: HostRuntime) -> io::Result<()> {
     let rt = &rt;
-    print_row(rt, 1, 1, 0)?;
-    print_row(rt, 11, 1, 0)?;
-    print_row(rt, 21, 1, 0)?;
-    print_row(rt, 12, 1, 0)?;
-    print_row(rt, 13, 1, 0)?;
-    print_row(rt, 14, 1, 0)?;
-    print_row(rt, 32, 1, 0)?;
-    print_row(rt, 33, 1, 0)?;
-    print_row(rt, 55, 1, 0)?;
-    print_row(rt, 44, 1, 0)?;
-    print_row(rt, 35, 1, 3)?;
-    print_row(rt, 37, 1, 3)?;
-    print_row(rt, 45, 1, 3)?;
-    print_row(rt, 51, 1, 0)?;
-    print_row(rt, 96, 1, 0)?;
-    print_row(rt, 97, 1, 0)?;
-    print_row(rt, 98, 1, 0)?;
+    for kind in [1, 11, 21, 12, 13, 14, 32, 33, 55, 44] {
+        print_row(rt, kind, 1, 0)?;
+    }
+    for kind in [35, 37, 45] {
+        print_row(rt, kind, 1, 3)?;
+    }
+    for kind in [51, 96, 97, 98] {
+        print_row(rt, kind, 1, 0)?;
+    }
     rt.println("by a third party")?;
-    print_row(rt, 35, 2, 3)?;
-    print_row(rt, 37, 2, 3)?;
-    print_row(rt, 45, 2, 3)?;
-    print_row(rt, 11, 2, 0)?;
-    print_row(rt, 96, 2, 0)?;
-    print_told(rt, 45, 4, 1, 3)?;
-    print_told(rt, 45, 5, 1, 3)?;
-    print_told(rt, 45, 6, 1, 3)?;
-    print_told(rt, 45, 7, 1, 3)?;
-    print_told(rt, 45, 4, 2, 3)?;
-    print_told(rt, 45, 5, 2, 3)?;
-    print_told(rt, 45, 6, 2, 3)?;
-    print_told(rt, 45, 7, 2, 3)?;
+    for kind in [35, 37, 45] {
+        print_row(rt, kind, 2, 3)?;
+    }
+    for kind in [11, 96] {
+        print_row(rt, kind, 2, 0)?;
+    }
+    for standing in [1, 2] {
+        for outcome in 4..=7 {
+            print_told(rt, 45, outcome, standing, 3)?;
+        }
+    }
     print_told(rt, 45, 5, 0, 3)?;
     print_told(rt, 45, 5, 3, 3)?;
     print_told(rt, 45, 8, 2, 3)?;

@@ -1,17 +1,14 @@
--- The EC bytes, in each case of the code; and how long what goes out for a line is.
-use mathlib.Core.Path.{◌≡◌, sym, ap, subst, ◌∙◌}
+-- What goes out for a field, by its identifier; and how long what goes out for a line is.
+use mathlib.Core.Path.{◌≡◌, ap, subst, ◌∙◌}
 use mathlib.Core.List.{List, ◌++◌}
-use Prim.Native.Nat.{ℕ, ◌+◌, ◌-◌, ◌≤◌, ◌<◌, min}
+use Prim.Native.Nat.{ℕ, ◌+◌, ◌≤◌, min}
 use native.Mathlib.Omega.{arith}
-use lib.ListN.{length, take, drop, length-append, drop_of_length-le}
+use lib.ListN.{length, length-append}
 use borrow.Author.Tests.{eq-eqb, ne_eqb}
 use Rattle.laws.specs.Ascii.{ascii}
-use Rattle.laws.proofs.Parts.{take_rest}
 use Rattle.text.specs.Strings.{Wrote}
-use Rattle.text.proofs.Wrote.{then, same_length as as_long}
+use Rattle.text.proofs.Wrote.{then}
 use Rattle.headings.specs.declared.Heading.{Heading}
-use Rattle.headings.specs.declared.Read.{Read}
-use Rattle.headings.specs.declared.Read.TheVariants.{Reads, Unreadable}
 use Rattle.headings.specs.Reading.{heading_of}
 use Rattle.heading_writer.proofs.Answers.{text_size}
 use Rattle.fields.specs.Kinds.{place}
@@ -19,30 +16,7 @@ use Rattle.turning.specs.Turning.{turned}
 use Rattle.outcomes.specs.Deriving.{numbered, outgoing_text}
 use Rattle.outgoing_lines.specs.Outgoing.{Orders, as_derived, ec_bytes, ec_text, nines, field_after, outcome_at, number_at, heading_after}
 use Rattle.outgoing_lines.specs.Going.{ending, field_text}
-
--- ---- the EC bytes
-past : (n m : ℕ) (s : List ℕ) → length s ≤ n → length s ≤ m → drop n s ≡ drop m s
-past n m s h l = drop_of_length-le s h ∙ sym (drop_of_length-le s l)
-
-module _ (own replacement : List ℕ) (o : ℕ) where
-  pub other_bytes : o ≡ 8 → replacement ≡ ec_bytes own replacement o
-  other_bytes e = rw (eq-eqb o 8 e)
-
-  module _ (e : o ≡ 8 → ⊥) where
-    kept : drop 3 own ≡ ec_bytes own replacement o
-    kept = rw (ne_eqb o 8 e)
-
-    pub own_bytes : take (length own - 3) (drop 3 own) ≡ ec_bytes own replacement o
-    own_bytes = take_rest 3 own ∙ kept
-
-    pub own_short : length own < 3 → take (length own - length own) (drop (length own) own) ≡ ec_bytes own replacement o
-    own_short h = take_rest (length own) own ∙ past (length own) 3 own (omega arith) (omega arith) ∙ kept
-
-pub as_six : (o : ℕ) → o ≡ 8 → 6 ≡ as_derived o
-as_six o e = rw (eq-eqb o 8 e)
-
-pub as_is : (o : ℕ) → (o ≡ 8 → ⊥) → o ≡ as_derived o
-as_is o e = rw (ne_eqb o 8 e)
+use Rattle.std.specs.Prelude.{None, Option, Some}
 
 -- ---- a field by its identifier's number
 module _ (o i : ℕ) (line : List ℕ) where
@@ -58,18 +32,15 @@ module _ (o i : ℕ) (line : List ℕ) where
 pub ended_length : (t : List ℕ) → length (t ++ ending) ≡ 2 + length t
 ended_length t = length-append t ending ∙ omega arith
 
-pub ec_length : (own replacement : List ℕ) (o : ℕ) → length (ec_text own replacement o ++ ending) ≡ 5 + length (ec_bytes own replacement o)
-ec_length own replacement o = ended_length (ec_text own replacement o) ∙ omega (arith, length-append (ascii "EC:") (ec_bytes own replacement o))
-
 module _ (q : Orders) (k : ℕ) (line : List ℕ) where
-  pub heading_length : (h : Heading) → heading_of line ≡ Reads h → length (heading_after q k line) ≡ 54
+  pub heading_length : (h : Heading) → heading_of line ≡ Some h → length (heading_after q k line) ≡ 54
   unfolding heading_after
   heading_length h e =
-      ap (λ (r : Read). length (outgoing_text r (as_derived (outcome_at q k)) (number_at q k))) e ∙ text_size (numbered (turned h (as_derived (outcome_at q k))) (number_at q k))
+      ap (λ (r : Option Heading). length (outgoing_text r (as_derived (outcome_at q k)) (number_at q k))) e ∙ text_size (numbered (turned h (as_derived (outcome_at q k))) (number_at q k))
 
-  pub heading_none : heading_of line ≡ Unreadable → length (heading_after q k line) ≡ 0
+  pub heading_none : heading_of line ≡ None → length (heading_after q k line) ≡ 0
   unfolding heading_after
-  heading_none e = ap (λ (r : Read). length (outgoing_text r (as_derived (outcome_at q k)) (number_at q k))) e
+  heading_none e = ap (λ (r : Option Heading). length (outgoing_text r (as_derived (outcome_at q k)) (number_at q k))) e
 
 pub capped : {n m : ℕ} → n ≡ m → m ≤ 4000000001 → min 4000000001 n ≡ m
 capped e h = omega arith
@@ -83,8 +54,5 @@ wrote_as {t} {u} {before} {after} {at} {end} e w = subst (λ (x : List ℕ). Wro
 
 -- ---- the EC line
 module _ (own replacement : List ℕ) (o : ℕ) {r before mid : List ℕ} {at next : ℕ} (e : r ≡ ec_bytes own replacement o) (w : Wrote before at (ascii "EC:") mid next) where
-  pub ec_room : at + length (ec_text own replacement o ++ ending) ≤ length before → next + length (r ++ ending) ≤ length mid
-  ec_room h = omega (arith, ec_length own replacement o, ended_length r, ap length e, w.ends, as_long w)
-
   pub ec_wrote : {after : List ℕ} {end : ℕ} → Wrote mid next (r ++ ending) after end → Wrote before at (ec_text own replacement o ++ ending) after end
   ec_wrote v = then w (wrote_as e v)

@@ -13,17 +13,16 @@ use Rattle.laws.proofs.Put.{put_is}
 use Rattle.text.specs.Strings.{Wrote}
 use Rattle.headings.specs.declared.ItemNo.{ItemNo}
 use Rattle.headings.specs.declared.Heading.{Heading}
-use Rattle.headings.specs.declared.Read.{Read}
-use Rattle.headings.specs.declared.Read.TheVariants.{Reads, Unreadable}
 use Rattle.headings.specs.Reading.{heading_of}
 use Rattle.heading_writer.specs.Writing.{target_after}
-use Rattle.outcomes.specs.declared.Derived.{Derived}
+use Rattle.outcomes.specs.declared.DeriveError.{DeriveError}
 use Rattle.outcomes.specs.Deriving.{turn_refusals_of, issue_refusals_of, tell_refusals, number_refusals, derive_refusals, outgoing_text, derived_target, Derives}
 use Rattle.outcomes.proofs.Granted.{granted}
 use Rattle.outcomes.proofs.Sound.{small_number}
 use Rattle.outgoing_lines.specs.Outgoing.{Orders, as_derived, outcome_at, standing_at, number_at, underived, heading_after}
 use Rattle.outgoing_lines.specs.Going.{ending}
 use Rattle.outgoing_lines.proofs.Chosen.{ended_length, heading_length}
+use Rattle.std.specs.Prelude.{None, Option, Some, Result}
 
 -- a part put back with a text at its start
 mid_put : (out text : List ℕ) (at n : ℕ) → length text ≡ n → take at out ++ ((text ++ drop n (drop at out)) ++ drop (length out - at) (drop at out)) ≡ put out at text
@@ -36,22 +35,22 @@ mid_put out text at n e =
 
 -- ---- nothing is refused
 -- with room for 54 bytes there is room for them in more
-more_room : (r : Read) (n : ItemNo) (room : ℕ) → 54 ≤ room → issue_refusals_of r n 54 ≡ issue_refusals_of r n room
-more_room Unreadable n room h = refl
-more_room (Reads h) n room l = rw (le-ltb room 54 l)
+more_room : (r : Option Heading) (n : ItemNo) (room : ℕ) → 54 ≤ room → issue_refusals_of r n 54 ≡ issue_refusals_of r n room
+more_room None n room h = refl
+more_room (Some h) n room l = rw (le-ltb room 54 l)
 
 -- a heading that nothing is refused for reads
 pub record Readable (s : List ℕ) : Type 0 where
   pub heading : Heading
-  pub reads : heading_of s ≡ Reads heading
+  pub reads : heading_of s ≡ Some heading
 
 readable : (s : List ℕ) (o p : ℕ) (n : ItemNo) (room : ℕ) → first (derive_refusals s o p n room) ≡ 0 → Readable s
 unfolding derive_refusals tell_refusals number_refusals
 readable s o p n room z = go (heading_of s) refl z
   where
-    go : (r : Read) → heading_of s ≡ r → first (turn_refusals_of r o p ++ issue_refusals_of r n room) ≡ 0 → Readable s
-    go Unreadable e z = absurd (omega arith)
-    go (Reads h) e z = record { heading = h; reads = e }
+    go : (r : Option Heading) → heading_of s ≡ r → first (turn_refusals_of r o p ++ issue_refusals_of r n room) ≡ 0 → Readable s
+    go None e z = absurd (omega arith)
+    go (Some h) e z = record { heading = h; reads = e }
 
 module _ (q : Orders) (k : ℕ) (line : List ℕ) (fine : underived q k line ≡ false) where
   none : first (derive_refusals line (as_derived (outcome_at q k)) (standing_at q k) (number_at q k) 54) ≡ 0
@@ -76,7 +75,7 @@ module _ (q : Orders) (k : ℕ) (line : List ℕ) (fine : underived q k line ≡
   derived_room at n h = omega (arith, derived_length, ended_length (heading_after q k line))
 
   -- ---- what is written
-  module _ (out : List ℕ) (at : ℕ) (room : at + 54 ≤ length out) {o p : ℕ} {r : Derived} {t : List ℕ} (eo : o ≡ as_derived (outcome_at q k)) (ep : p ≡ standing_at q k)
+  module _ (out : List ℕ) (at : ℕ) (room : at + 54 ≤ length out) {o p : ℕ} {r : Result (Unit {0}) DeriveError} {t : List ℕ} (eo : o ≡ as_derived (outcome_at q k)) (ep : p ≡ standing_at q k)
       (w : Derives line o p (number_at q k) (take (length out - at) (drop at out)) r t) where
     target_is : t ≡ heading_after q k line ++ drop 54 (drop at out)
     unfolding derived_target heading_after

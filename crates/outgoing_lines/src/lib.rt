@@ -15,17 +15,17 @@ ghost use Rattle.outgoing_lines.specs.Going.{outcome_in, ending, count_in, field
 
 use fields::kinds;
 use fields::kinds::Kind;
-use headings::{ItemNo, Read};
+use headings::{Heading, ItemNo};
 use text::strings::put;
+
+// The number of the identifier EC.
+const EC: usize = 14 * 36 + 12;
 
 // A number of a list, 0 past its end.
 pub fn at_or_zero(xs: &[u32], k: usize) -> u32
     ensures { result ≡ get_or xs.now k 0 }
 {
-    if k < xs.len() {
-        return xs[k];
-    }
-    0
+    xs.get(k).copied().unwrap_or(0)
 }
 
 // The caller's own EC bytes, what stands on an EC line behind its colon, or the caller's replacement bytes.
@@ -35,11 +35,7 @@ pub fn ec_bytes<'a>(own: &'a [u8], replacement: &'a [u8], outcome: u32) -> &'a [
     if outcome == 8 {
         return replacement;
     }
-    let n = own.len();
-    if n < 3 {
-        return &own[n..];
-    }
-    &own[3..]
+    &own[own.len().min(3)..]
 }
 
 // An 8 derives as 6 does.
@@ -58,9 +54,7 @@ fn outcome_in(kind: Kind, outcomes: &[u32], k: usize, o: u32) -> u32
 {
     match kind {
         Kind::Heading => at_or_zero(outcomes, k),
-        Kind::Continuation => o,
-        Kind::Field(ident) => o,
-        Kind::Other => o,
+        Kind::Continuation | Kind::Field(_) | Kind::Other => o,
     }
 }
 
@@ -71,9 +65,7 @@ fn count_in(kind: Kind, k: usize) -> usize
 {
     match kind {
         Kind::Heading => k + 1,
-        Kind::Continuation => k,
-        Kind::Field(ident) => k,
-        Kind::Other => k,
+        Kind::Continuation | Kind::Field(_) | Kind::Other => k,
     }
 }
 
@@ -82,10 +74,7 @@ fn grown(size: u64, n: u64) -> u64
     requires { size ≤ 4000000001 }
     ensures { result ≡ min 4000000001 (size + n) }
 {
-    if 4000000001 - size < n {
-        return 4000000001;
-    }
-    size + n
+    size.saturating_add(n).min(4000000001)
 }
 
 // How many bytes the line that goes out for a heading's text takes, with its CR LF.
@@ -93,8 +82,8 @@ fn heading_size(line: &[u8]) -> u64
     ensures { (q : Orders) (k : ℕ) → min 4000000001 (length (heading_after q k line.now ++ ending)) ≡ result }
 {
     match headings::reading::read(line) {
-        Read::Reads(h) => 56,
-        Read::Unreadable => 2,
+        Some(_) => 56,
+        None => 2,
     }
 }
 
@@ -108,7 +97,7 @@ fn ec_size<'a>(line: &'a [u8], replacement: &'a [u8], outcome: u32) -> u64
 fn field_size(line: &[u8], ident: usize, outcome: u32) -> u64
     ensures { min 4000000001 (length (field_text outcome ident line.now ++ ending)) ≡ result }
 {
-    if ident == 516 {
+    if ident == EC {
         return ec_size(line, b"9999999999", outcome);
     }
     grown(2, line.len() as u64)
@@ -120,9 +109,8 @@ fn line_size(kind: Kind, line: &[u8], outcome: u32) -> u64
 {
     match kind {
         Kind::Heading => heading_size(line),
-        Kind::Continuation => grown(2, line.len() as u64),
         Kind::Field(ident) => field_size(line, ident, outcome),
-        Kind::Other => grown(2, line.len() as u64),
+        Kind::Continuation | Kind::Other => grown(2, line.len() as u64),
     }
 }
 
@@ -134,6 +122,7 @@ pub fn size_of(s: &[u8], outcomes: &[u32]) -> u64
     let mut k = 0;
     let mut o: u32 = 0;
     let mut at = 0;
+    // A `while`: each line tells where the next one starts, and an iterator of lines would hold the same place.
     while at < s.len() {
         let f = lines::line_at(s, at);
         let end = f.end;
@@ -173,7 +162,7 @@ fn put_field(out: &mut [u8], at: usize, line: &[u8], ident: usize, outcome: u32)
     requires { at + length (field_text outcome ident line.now ++ ending) ≤ length out.old }
     ensures { Wrote out.old at (field_text outcome ident line.now ++ ending) out.new result }
 {
-    if ident == 516 {
+    if ident == EC {
         return put_ec(out, at, line, b"9999999999", outcome);
     }
     put_plain(out, at, line)
@@ -196,7 +185,7 @@ fn put_derived(
     let outcome = as_derived(at_or_zero(outcomes, k));
     let standing = at_or_zero(standings, k);
     let number = ItemNo((start as usize + k) as u32);
-    outcomes::derive(line, outcome, standing, number, &mut out[at..]);
+    let _ = outcomes::derive(line, outcome, standing, number, &mut out[at..]);
     put(out, at + 54, b"\r\n")
 }
 
@@ -218,9 +207,8 @@ fn put_line(
 {
     match kind {
         Kind::Heading => put_derived(out, at, line, outcomes, standings, start, k),
-        Kind::Continuation => put_plain(out, at, line),
         Kind::Field(ident) => put_field(out, at, line, ident, outcome),
-        Kind::Other => put_plain(out, at, line),
+        Kind::Continuation | Kind::Other => put_plain(out, at, line),
     }
 }
 
@@ -234,6 +222,7 @@ pub fn put_lines(out: &mut [u8], s: &[u8], outcomes: &[u32], standings: &[u32], 
     let mut k = 0;
     let mut o: u32 = 0;
     let mut at = 0;
+    // A `while`: each line tells where the next one starts, and an iterator of lines would hold the same place.
     while at < s.len() {
         let f = lines::line_at(s, at);
         let end = f.end;

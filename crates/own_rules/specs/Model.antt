@@ -6,7 +6,8 @@ use Rattle.headings.specs.declared.Code.{Code}
 use Rattle.headings.specs.declared.Heading.{Heading}
 use Rattle.headings.specs.ItemTypes.{is_payment}
 use Rattle.headings.specs.HeadRules.{rule10, rule13, rule14}
-use Rattle.rules.specs.declared.FirstKc.{FirstKc}
+use Rattle.rules.specs.declared.First.{First}
+use Rattle.rules.specs.declared.Payment.{Payment}
 use Rattle.rules.specs.Terms.{Terms}
 use Rattle.rules.specs.FieldRules.{until_today, until_thirty}
 use Rattle.rules.specs.HeadingRules.{no_kc}
@@ -31,10 +32,10 @@ breaks11 j day =
 abbrev pub breaks12 : Basis → Code → Bool
 breaks12 j first = not (eqb first.0 j.code.0)
 
-abbrev pub breaks15 : ℕ → FirstKc → Bool
+abbrev pub breaks15 : ℕ → First Payment → Bool
 breaks15 kind kc = is_payment kind && no_kc kc
 
-unfoldable pub own_marks : Basis → Heading → FirstKc → ℕ
+unfoldable pub own_marks : Basis → Heading → First Payment → ℕ
 own_marks j h kc =
     mark 10 (rule10 h) + mark 11 (breaks11 j h.day) + mark 12 (breaks12 j h.first) + mark 13 (rule13 h) + mark 14 (rule14 h)
     + mark 15 (breaks15 h.kind kc)

@@ -17,7 +17,7 @@ use days::{day_number, day_of, is_real};
 use headings::head_rules::{breaks_fourteen, breaks_ten, breaks_thirteen};
 use headings::item_types::is_payment;
 use headings::{Amount, Code, Heading};
-use rules::FirstKc;
+use rules::{First, Payment};
 
 // What a file is judged by: the submitter's code, and the limits that the accounting day sets, each a real day (or 0, where there is none
 // so early): the last that is not after it, the last that is at most thirty days after it, and the last that is more than ten days
@@ -34,10 +34,7 @@ pub struct Basis {
 fn eleven_less(number: u32) -> u32
     ensures { result ≡ day_of (number - 11) }
 {
-    if number < 11 {
-        return 0;
-    }
-    day_of(number - 11)
+    day_of(number.saturating_sub(11))
 }
 
 // The limits are reckoned once a file.
@@ -49,31 +46,23 @@ pub fn basis_of(code: Code, day: u32) -> Basis
     let thirty = day_of(number + 30);
     let stale = eleven_less(number);
     Basis {
-        code: code,
-        last: last,
-        thirty: thirty,
-        stale: stale,
+        code,
+        last,
+        thirty,
+        stale,
     }
 }
 
 fn until_today(kind: u32) -> bool
     ensures { result ≡ among kind until_today }
 {
-    (kind == 1)
-        | (kind == 11)
-        | (kind == 12)
-        | (kind == 13)
-        | (kind == 14)
-        | (kind == 21)
-        | (kind == 35)
-        | (kind == 37)
-        | (kind == 45)
+    matches!(kind, 1 | 11..=14 | 21 | 35 | 37 | 45)
 }
 
 fn until_thirty(kind: u32) -> bool
     ensures { result ≡ among kind until_thirty }
 {
-    (kind == 32) | (kind == 33)
+    matches!(kind, 32 | 33)
 }
 
 // Rule 8. The last day itself, which is the day of nearly every item, is real where it is one at all.
@@ -84,10 +73,10 @@ pub fn breaks_eight(basis: Basis, kind: u32, day: u32) -> bool
     if day == basis.last {
         return paying & (day == 0);
     }
-    let real = is_real(day);
-    let by_today = until_today(kind);
-    let by_thirty = until_thirty(kind);
-    paying & (!real | ((by_today & (basis.last < day)) | (by_thirty & (basis.thirty < day))))
+    paying
+        & (!is_real(day)
+            | ((until_today(kind) & (basis.last < day))
+                | (until_thirty(kind) & (basis.thirty < day))))
 }
 
 pub fn breaks_nine(kind: u32, amount: Amount) -> bool
@@ -111,17 +100,13 @@ fn breaks_twelve(basis: Basis, first: Code) -> bool
     first.0 != basis.code.0
 }
 
-pub fn has_no_kc(kc: FirstKc) -> bool
+pub fn has_no_kc(kc: First<Payment>) -> bool
     ensures { result ≡ no_kc kc }
 {
-    match kc {
-        FirstKc::NoKc => true,
-        FirstKc::BrokenKc => false,
-        FirstKc::Pays(_, _) => false,
-    }
+    matches!(kc, First::Missing)
 }
 
-pub fn breaks_fifteen(kind: u32, kc: FirstKc) -> bool
+pub fn breaks_fifteen(kind: u32, kc: First<Payment>) -> bool
     ensures { result ≡ breaks15 kind kc }
 {
     let none = has_no_kc(kc);
@@ -129,7 +114,7 @@ pub fn breaks_fifteen(kind: u32, kc: FirstKc) -> bool
 }
 
 // The marks of rules 10 to 15.
-pub fn own_marks(basis: Basis, h: Heading, kc: FirstKc) -> u64
+pub fn own_marks(basis: Basis, h: Heading, kc: First<Payment>) -> u64
     ensures { (result ≡ own_marks basis h kc) × (result < 2 ^ 16) }
 {
     flag(breaks_ten(h), MARK_10)

@@ -7,13 +7,17 @@ use mathlib.Core.Path.{◌≡◌, refl, sym, ap, subst, ◌∙◌}
 use mathlib.Core.Bool.{Bool, true, false, not, ◌&&◌, and_assoc, and_comm, true≢false, false≢true}
 use mathlib.Core.List.{List, [], ◌∷◌}
 use mathlib.Core.Logic.{⊎_elim}
-use lib.Dec.{leb, eqb}
+use lib.Dec.{leb, ltb, eqb}
 use lib.ListN.{length, get_or, set, take, drop, length-set, length-drop, drop_of_length-le}
 use lib.Seq.{drop-cons, take_all, get_or-set_same, get_or-set_other}
-use borrow.Author.Tests.{eq-eqb, ne_eqb, eqb-true, eqb-false, le-leb, lt-leb, leb-true}
+use borrow.Author.Tests.{eq-eqb, ne_eqb, eqb-true, eqb-false, le-leb, lt-leb, leb-true, ltb-true, ltb-false, lt-ltb}
+use Rattle.std.specs.Prelude.{Option, None, Some, MatchOption}
+use Rattle.std.proofs.Common.{nat_eq}
+use Rattle.std.specs.List.{list_any}
 use Rattle.laws.specs.Tests.{among}
-use Rattle.laws.proofs.Truth.{both_left}
+use Rattle.laws.proofs.Truth.{both_left, by_test}
 use Rattle.fields.specs.Kinds.{place}
+use Rattle.fields.proofs.Places.{place_in}
 use Rattle.participants.specs.Participants.{is_fit, all_codes, distinct, is_list}
 use Rattle.participants.specs.Firsts.{Firsts}
 
@@ -25,33 +29,6 @@ place_other : (x y : ℕ) (ys : List ℕ) → (y ≡ x → ⊥) → place x (y �
 unfolding place
 place_other x y ys n = rw (ne_eqb x y (λ e. n (sym e)))
 
-place_none : (x : ℕ) → place x [] ≡ 0
-unfolding place
-place_none x = refl
-
-pub record Seeking (codes : List ℕ) (code i : ℕ) : Type 0 where
-  pub to : i ≤ length codes
-  pub is : i + place code (drop i codes) ≡ place code codes
-
-pub seek_start : (codes : List ℕ) (code : ℕ) → Seeking codes code 0
-seek_start codes code = record { to = omega arith; is = omega arith }
-
-module _ {codes : List ℕ} {code i : ℕ} (S : Seeking codes code i) where
-  pub seek_hit : i < length codes → get_or codes i 0 ≡ code → i ≡ place code codes
-  seek_hit l e =
-      let h = ap (place code) (drop-cons codes i 0 l) ∙ place_same code (get_or codes i 0) (drop (suc i) codes) e in
-      omega (arith, S.is, h)
-
-  pub seek_more : i < length codes → (get_or codes i 0 ≡ code → ⊥) → Seeking codes code (i + 1)
-  seek_more l n =
-      let h = ap (place code) (drop-cons codes i 0 l) ∙ place_other code (get_or codes i 0) (drop (suc i) codes) n in
-      record { to = omega arith; is = rw add-one (omega (arith, S.is, h)) }
-
-  pub seek_end : length codes ≤ i → i ≡ place code codes
-  seek_end l =
-      let h = ap (place code) (drop_of_length-le codes l) ∙ place_none code in
-      omega (arith, S.is, h)
-
 -- ---- the place at one look
 -- where a code stands, and at no place before, is its place
 first_is : (x : ℕ) (ys : List ℕ) (i : ℕ) → i < length ys → get_or ys i 0 ≡ x → ((j : ℕ) → j < length ys → get_or ys j 0 ≡ x → i ≤ j) → i ≡ place x ys
@@ -60,6 +37,28 @@ first_is x (y ∷ ys) zero l e h = sym (place_same x y ys e)
 first_is x (y ∷ ys) (suc i) l e h =
     ap suc (first_is x ys i (omega (arith, l)) e (λ j k q. omega (arith, h (suc j) (omega (arith, k)) q)))
     ∙ sym (place_other x y ys (λ q. omega (arith, h 0 (omega arith) q)))
+
+none_among : (x : ℕ) (ys : List ℕ) → ((k : ℕ) → k < length ys → get_or ys k 0 ≡ x → ⊥) → among x ys ≡ false
+none_among x [] h = refl
+none_among x (y ∷ ys) h = rw (ne_eqb x y (λ e. h 0 (omega arith) (sym e)), none_among x ys (λ k l e. h (suc k) (omega arith) e))
+
+-- a code that stands at its place is listed
+pub listed : (x : ℕ) (ys : List ℕ) {p : ℕ} → p < length ys → p ≡ place x ys → (among x ys ≡ true) × (p < length ys) × (p ≡ place x ys)
+listed x ys {p} l e = (sym (place_in x ys) ∙ lt-ltb (place x ys) (length ys) (omega (arith, l, e)), l, e)
+
+-- the first of a list that is a number is its place
+pub placed : (x : ℕ) (ys : List ℕ) (r : Option ℕ)
+    → MatchOption r ((k : ℕ) → k < length ys → get_or ys k 0 ≡ x → ⊥) (λ p. (p < length ys) × (get_or ys p 0 ≡ x) × ((k : ℕ) → k < p → get_or ys k 0 ≡ x → ⊥))
+    → MatchOption r (among x ys ≡ false) (λ p. (among x ys ≡ true) × (p < length ys) × (p ≡ place x ys))
+placed x ys None h = none_among x ys h
+placed x ys (Some p) h = listed x ys h.0 (first_is x ys p h.0 h.1 (λ j l e. by_test (ltb j p) (λ w. absurd (h.2 j (ltb-true j p w) e)) (λ w. ltb-false j p w)))
+
+eqb_turned : (x y : ℕ) → eqb y x ≡ eqb x y
+eqb_turned x y = by_test (eqb x y) (λ w. eq-eqb y x (sym (eqb-true x y w)) ∙ sym w) (λ w. ne_eqb y x (λ e. eqb-false x y w (sym e)) ∙ sym w)
+
+pub any_among : (x : ℕ) (ys : List ℕ) → list_any (λ y. nat_eq y x) ys ≡ among x ys
+any_among x [] = refl
+any_among x (y ∷ ys) = rw (eqb_turned x y, any_among x ys)
 
 pub look_hit : {codes firsts : List ℕ} {code i : ℕ} → Firsts codes firsts → i ≡ get_or firsts (code % 1024) 0 → i < length codes → get_or codes i 0 ≡ code → i ≡ place code codes
 look_hit {codes} {firsts} {code} {i} F e l h =

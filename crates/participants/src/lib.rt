@@ -2,23 +2,17 @@
 // front or by a table made once, for every list. Stands on `fields` for places in a list, and on `laws`.
 #![tactic(auto)]
 
-ghost use Rattle.std.specs.Prelude.{◌≡◌, ◌≤◌, length};
+ghost use Rattle.std.specs.Prelude.{◌≡◌, true, false, ◌<◌, ◌≤◌, MatchOption, length};
+ghost use Rattle.laws.specs.Tests.{among};
 ghost use Rattle.fields.specs.Kinds.{place};
 ghost use Rattle.participants.specs.Participants.{is_list, is_fit};
 ghost use Rattle.participants.specs.Firsts.{Firsts};
 
-// The place of a code in the list, and the list's length where it does not stand there.
-pub fn place_of(codes: &[u32], code: u32) -> usize
-    ensures { result ≡ place code codes.now }
+// The place of a code in the list.
+pub fn place_of(codes: &[u32], code: u32) -> Option<usize>
+    ensures { MatchOption result (among code codes.now ≡ false) (λ p. (among code codes.now ≡ true) × (p < length codes.now) × (p ≡ place code codes.now)) }
 {
-    let mut i = 0;
-    while i < codes.len() {
-        if codes[i] == code {
-            return i;
-        }
-        i += 1;
-    }
-    i
+    codes.iter().position(|c| *c == code)
 }
 
 // For each remainder by 1024 the first place whose code has it, and 0 where none has. Made once for a file, it gives most codes their
@@ -28,30 +22,20 @@ pub fn firsts_of(codes: &[u32]) -> [u8; 1024]
     ensures { Firsts codes.now result }
 {
     let mut firsts = [0; 1024];
-    let mut i = codes.len();
-    while 0 < i {
-        i -= 1;
+    for i in (0..codes.len()).rev() {
         firsts[(codes[i] % 1024) as usize] = i as u8;
     }
     firsts
 }
 
-fn wide(b: u8) -> usize
-    ensures { result ≡ b }
-{
-    b as usize
-}
-
 // The place of a code. Only one that is not listed, or that shares its remainder with one before it, is looked for from the front.
-pub fn place_by(codes: &[u32], firsts: &[u8; 1024], code: u32) -> usize
+pub fn place_by(codes: &[u32], firsts: &[u8; 1024], code: u32) -> Option<usize>
     requires { Firsts codes.now firsts.now }
-    ensures { result ≡ place code codes.now }
+    ensures { MatchOption result (among code codes.now ≡ false) (λ p. (among code codes.now ≡ true) × (p < length codes.now) × (p ≡ place code codes.now)) }
 {
-    let at = wide(firsts[(code % 1024) as usize]);
-    if at < codes.len() {
-        if codes[at] == code {
-            return at;
-        }
+    let at = firsts[(code % 1024) as usize] as usize;
+    if at < codes.len() && codes[at] == code {
+        return Some(at);
     }
     place_of(codes, code)
 }
@@ -60,8 +44,8 @@ pub fn place_by(codes: &[u32], firsts: &[u8; 1024], code: u32) -> usize
 fn is_fit(code: u32, rest: &[u32]) -> bool
     ensures { result ≡ is_fit code rest.now }
 {
-    let found = place_of(rest, code) < rest.len();
-    ((1 <= code) & (code <= 9999)) & !found
+    let found = rest.contains(&code);
+    (1..=9999).contains(&code) && !found
 }
 
 // Not over 64 codes, each from 1 to 9999, none twice.
@@ -71,11 +55,8 @@ pub fn is_list(codes: &[u32]) -> bool
     if 64 < codes.len() {
         return false;
     }
-    let mut i = 0;
-    while i < codes.len() {
-        let code = codes[i];
-        i += 1;
-        if !is_fit(code, &codes[i..]) {
+    for (i, code) in codes.iter().enumerate() {
+        if !is_fit(*code, &codes[i + 1..]) {
             return false;
         }
     }

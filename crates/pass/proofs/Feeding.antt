@@ -9,7 +9,6 @@ use lib.Dec.{eqb, ltb}
 use lib.ListN.{length, drop, get_or, set}
 use Rattle.laws.specs.Tests.{mark}
 use Rattle.headings.specs.declared.Heading.{Heading}
-use Rattle.headings.specs.declared.Read.{Read}
 use Rattle.headings.specs.Reading.{heading_of}
 use Rattle.fields.specs.declared.kinds.Kind.{Kind}
 use Rattle.fields.specs.declared.kinds.Kind.TheVariants.{Continuation, Field, Other}
@@ -22,8 +21,9 @@ use Rattle.lines.specs.declared.Found.{Found}
 use Rattle.lines.specs.Lines.{Line, lines, taken, taken_by}
 use Rattle.lines.specs.Reading.{span, IsNext}
 use Rattle.lines.proofs.Lines.{lines_past}
-use Rattle.rules.specs.declared.FirstKc.{FirstKc}
-use Rattle.rules.specs.declared.FirstIn.{FirstIn}
+use Rattle.rules.specs.declared.First.{First}
+use Rattle.rules.specs.declared.Payment.{Payment}
+use Rattle.rules.specs.declared.Range.{Range}
 use Rattle.rules.specs.declared.Sums.{Sums}
 use Rattle.rules.specs.Terms.{Terms}
 use Rattle.rules.specs.Faults.{Fault}
@@ -52,6 +52,7 @@ use Rattle.pass.specs.Standing.{claims_in, Bounded, Standing, Alike, InPlace, Fe
 use Rattle.lines.proofs.Reading.{span_long}
 use Rattle.pass.proofs.Walk.{close_few, ident_few, reads_on, own_few}
 use Rattle.pass.proofs.Standing.{after_low, after_field, after_head, stand_low, stand_field, stand_head}
+use Rattle.std.specs.Prelude.{Option}
 
 -- ---- lines that are judged in their own place
 alike_same : (l : Line) → Alike l l
@@ -239,11 +240,11 @@ module _ {s : List ℕ} {base : ℕ} {j : Basis} {ls₁ rs₁ ps₁ stood₁ : L
           tail_on false = omega (arith, F.bounded.tail_few)
 
       -- a field
-      pub feed_field : (i : ℕ) → x ≡ Field i → {span' : FirstIn} → span' ≡ span_closed p.span p.field p.pend
+      pub feed_field : (i : ℕ) → x ≡ Field i → {span' : First Range} → span' ≡ span_closed p.span p.field p.pend
           → {stated' : Sums} → stated' ≡ stated_closed p.stated p.field p.pend → {a : Bool} → a ≡ ltb p.since (get_or stood i 0)
           → {said : Reading} → said ≡ reading_of (class_of i) (text_of (span at f.end s))
           → {o' : Open} → o' ≡ cond (eqb p.since 0) (open_loose (p.n + 1) own) (open_own j p.kc (read_as p.reads p.heading) (p.n + 1) own a i said)
-          → {kc' : FirstKc} → kc' ≡ cond (eqb p.since 0) p.kc (kc_own p.kc i said)
+          → {kc' : First Payment} → kc' ≡ cond (eqb p.since 0) p.kc (kc_own p.kc i said)
           → {p' : Pend} → p' ≡ cond (eqb p.since 0) p.pend (pend_of p.pend i said)
           → {stood' : List ℕ} → stood' ≡ set stood i (p.n + 1)
           → {g' : Ledger} {ls' rs' ps' : List ℕ} → Entered (marked p.field.no p.field.marks) p.ledger ls rs g' ls' rs'
@@ -258,7 +259,7 @@ module _ {s : List ℕ} {base : ℕ} {j : Basis} {ls₁ rs₁ ps₁ stood₁ : L
           tail_none false = omega arith
 
       -- a heading
-      pub feed_head : x ≡ HeadingLine → {r : Read} → r ≡ heading_of (span at f.end s)
+      pub feed_head : x ≡ HeadingLine → {r : Option Heading} → r ≡ heading_of (span at f.end s)
           → {o' : Open} → o' ≡ no_open → {h' : Heading} → h' ≡ heading_in r p.heading → {reads' : Bool} → reads' ≡ not (is_unreadable r) → {stated' : Sums} → stated' ≡ no_sums
           → {b' : Block} → b' ≡ (close_as j p.block p.wait p.since p.top (read_as p.reads p.heading) (close_claims (claims_in p) p.field p.pend)).block
           → {w' : Wait} → w' ≡ (close_as j p.block p.wait p.since p.top (read_as p.reads p.heading) (close_claims (claims_in p) p.field p.pend)).wait → w'.marks < 2 ^ 41

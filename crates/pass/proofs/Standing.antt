@@ -8,17 +8,15 @@ use native.Mathlib.Omega.{arith}
 use lib.Dec.{eqb, ltb}
 use lib.ListN.{length, take, get_or, set, replicate, length-append, length-replicate}
 use Rattle.headings.specs.declared.Heading.{Heading}
-use Rattle.headings.specs.declared.Read.{Read}
-use Rattle.headings.specs.declared.Read.TheVariants.{Unreadable}
 use Rattle.headings.specs.Reading.{heading_of}
 use Rattle.fields.specs.declared.readings.Reading.{Reading}
 use Rattle.fields.specs.Classes.{class_of}
 use Rattle.fields.specs.Readings.{text_of, reading_of}
 use Rattle.lines.specs.Lines.{Line, lines, taken_by, offset_of}
-use Rattle.rules.specs.declared.FirstKc.{FirstKc}
-use Rattle.rules.specs.declared.FirstKc.TheVariants.{NoKc}
-use Rattle.rules.specs.declared.FirstIn.{FirstIn}
-use Rattle.rules.specs.declared.FirstIn.TheVariants.{NoIn}
+use Rattle.rules.specs.declared.First.{First}
+use Rattle.rules.specs.declared.First.TheVariants.{Missing}
+use Rattle.rules.specs.declared.Payment.{Payment}
+use Rattle.rules.specs.declared.Range.{Range}
 use Rattle.rules.specs.declared.Sums.{Sums}
 use Rattle.rules.specs.Terms.{Terms}
 use Rattle.rules.specs.Faults.{Fault, faults_in}
@@ -53,6 +51,7 @@ use Rattle.pass.specs.declared.Pass.{Pass}
 use Rattle.shutting.specs.Starts.{Stands, WaitsAt}
 use Rattle.pass.specs.Standing.{off_in, faults_among, claims_in, fresh, Bounded, Placed, Standing}
 use Rattle.pass.proofs.Walk.{reads_again, zeros, means_as, head_as}
+use Rattle.std.specs.Prelude.{None, Option}
 
 -- ---- where lines start
 take_past : (xs ys : List Line) → take (length xs) (xs ++ ys) ≡ xs
@@ -138,7 +137,7 @@ after_low p g o reads = record {
   n = p.n + 1;
 }
 
-abbrev pub after_field : Pass → Ledger → Open → Pend → FirstKc → FirstIn → Sums → ℕ → Pass
+abbrev pub after_field : Pass → Ledger → Open → Pend → First Payment → First Range → Sums → ℕ → Pass
 after_field p g o pend kc span stated here = record {
   ledger = g;
   field = o;
@@ -165,8 +164,8 @@ after_head p g o own reads h stated b w here waits = record {
   top = own;
   reads = reads;
   heading = h;
-  kc = NoKc;
-  span = NoIn;
+  kc = Missing;
+  span = Missing;
   stated = stated;
   block = b;
   wait = w;
@@ -175,7 +174,7 @@ after_head p g o own reads h stated b w here waits = record {
 }
 
 -- the first KC is kept apart
-parted : (t : Bool) (a b : FirstKc) (span : FirstIn) (stated : Sums) → claims_as (cond t a b) span stated ≡ cond t (claims_as a span stated) (claims_as b span stated)
+parted : (t : Bool) (a b : First Payment) (span : First Range) (stated : Sums) → claims_as (cond t a b) span stated ≡ cond t (claims_as a span stated) (claims_as b span stated)
 parted true a b span stated = refl
 parted false a b span stated = refl
 
@@ -184,7 +183,7 @@ same_no true o k = refl
 same_no false o k = refl
 
 module _ {terms : Terms} {past : List Line} {ls₀ rs₀ ps₀ ls rs ps stood : List ℕ} {p : Pass} (W : Standing terms past ls₀ rs₀ ps₀ ls rs ps stood p) where
-  abbrev read : Read
+  abbrev read : Option Heading
   read = read_as p.reads p.heading
 
   -- one line more, whatever it is
@@ -223,7 +222,7 @@ module _ {terms : Terms} {past : List Line} {ls₀ rs₀ ps₀ ls rs ps stood : 
       -- a continuation, or a line of no kind
       pub stand_low : (t : Bool) → sorted row ≡ low (record { row = row; continues = t }) → {m : ℕ} → m ≡ low_marks_at own p.since p.field.no t
           → {o' : Open} → o' ≡ low_open t p.field (length l.bytes)
-          → {reads' : Bool} → read_as reads' p.heading ≡ cond (t && eqb p.field.no 0) Unreadable read
+          → {reads' : Bool} → read_as reads' p.heading ≡ cond (t && eqb p.field.no 0) None read
           → {g' : Ledger} {ls' rs' ps' : List ℕ} → Entered (marked (p.n + 1) m) p.ledger ls rs g' ls' rs'
           → Kept (λ (off : ℕ → ℕ). off (p.n + 1) ≡ here) p.ledger.kept ls ps g'.kept ls' ps'
           → Standing terms (past ++ (l ∷ [])) ls₀ rs₀ ps₀ ls' rs' ps' stood (after_low p g' o' reads')
@@ -243,12 +242,12 @@ module _ {terms : Terms} {past : List Line} {ls₀ rs₀ ps₀ ls rs ps stood : 
 
       module _ {j : Basis} (ej : j ≡ basis_of terms) where
         -- a field
-        pub stand_field : (i : ℕ) → sorted row ≡ field (record { row = row; ident = i }) → i < 1296 → {span' : FirstIn} → span' ≡ span_closed p.span p.field p.pend
+        pub stand_field : (i : ℕ) → sorted row ≡ field (record { row = row; ident = i }) → i < 1296 → {span' : First Range} → span' ≡ span_closed p.span p.field p.pend
             → {stated' : Sums} → stated' ≡ stated_closed p.stated p.field p.pend
             → {a : Bool} → a ≡ ltb p.since (get_or stood i 0)
             → {said : Reading} → said ≡ reading_of (class_of i) (text_of l.bytes)
             → {o' : Open} → o' ≡ cond (eqb p.since 0) (open_loose (p.n + 1) own) (open_own j p.kc read (p.n + 1) own a i said)
-            → {kc' : FirstKc} → kc' ≡ cond (eqb p.since 0) p.kc (kc_own p.kc i said)
+            → {kc' : First Payment} → kc' ≡ cond (eqb p.since 0) p.kc (kc_own p.kc i said)
             → {p' : Pend} → p' ≡ cond (eqb p.since 0) p.pend (pend_of p.pend i said)
             → {stood' : List ℕ} → stood' ≡ set stood i (p.n + 1)
             → {g' : Ledger} {ls' rs' ps' : List ℕ} → Entered (marked p.field.no p.field.marks) p.ledger ls rs g' ls' rs'
@@ -278,7 +277,7 @@ module _ {terms : Terms} {past : List Line} {ls₀ rs₀ ps₀ ls rs ps stood : 
             field_here off e false = on_here off e
 
         -- a heading
-        pub stand_head : sorted row ≡ heading row → {r : Read} → r ≡ heading_of l.bytes
+        pub stand_head : sorted row ≡ heading row → {r : Option Heading} → r ≡ heading_of l.bytes
             → {o' : Open} → o' ≡ no_open → {h' : Heading} → h' ≡ heading_in r p.heading → {reads' : Bool} → reads' ≡ not (is_unreadable r) → {stated' : Sums} → stated' ≡ no_sums
             → {b' : Block} → b' ≡ (close_as j p.block p.wait p.since p.top read (close_claims (claims_in p) p.field p.pend)).block
             → {w' : Wait} → w' ≡ (close_as j p.block p.wait p.since p.top read (close_claims (claims_in p) p.field p.pend)).wait
@@ -293,7 +292,7 @@ module _ {terms : Terms} {past : List Line} {ls₀ rs₀ ps₀ ls rs ps stood : 
             (head_out terms W.pieces p.n p.field p.since p.top read (claims_in p) p.pend p.block p.wait stood W.means row W.all
             ∙ sym (λ i. insert_all (marked p.field.no p.field.marks ++ close_faults (ej i) p.block p.wait p.since p.top read c) W.all))
             (after_head p g' o' own reads' h' stated' b' w' here k) (add-one p.n)
-            (head_as eo' (add-one p.n) eo ((λ i. read_as (ed i) (eh' i)) ∙ reads_again r p.heading ∙ er) (ap (claims_as NoKc NoIn) et)
+            (head_as eo' (add-one p.n) eo ((λ i. read_as (ed i) (eh' i)) ∙ reads_again r p.heading ∙ er) (ap (claims_as Missing Missing) et)
             (eb ∙ (λ i. (close_as (ej i) p.block p.wait p.since p.top read c).block))
             (ew ∙ (λ i. (close_as (ej i) p.block p.wait p.since p.top read c).wait))
             (means_head terms W.pieces p.n p.field p.since p.top read (claims_in p) p.pend p.block p.wait stood W.means row refl)) E
@@ -306,14 +305,14 @@ module _ {terms : Terms} {past : List Line} {ls₀ rs₀ ps₀ ls rs ps stood : 
   -- the file ends
   pub stand_end : {j : Basis} → j ≡ basis_of terms → {g' : Ledger} {ls' rs' ps' : List ℕ}
       → let q = close_as j p.block p.wait p.since p.top read (close_claims (claims_in p) p.field p.pend) in
-      Entered ((marked p.field.no p.field.marks ++ close_faults j p.block p.wait p.since p.top read (close_claims (claims_in p) p.field p.pend)) ++ marked q.wait.line (last_marks q.block.any q.wait)) p.ledger ls rs g' ls' rs'
+      Entered ((marked p.field.no p.field.marks ++ close_faults j p.block p.wait p.since p.top read (close_claims (claims_in p) p.field p.pend)) ++ marked q.wait.line (last_marks q.block.course.any q.wait)) p.ledger ls rs g' ls' rs'
       → Kept (λ (off : ℕ → ℕ). (off p.field.no ≡ p.starts.field) × Stands off p.starts p.since p.wait.line) p.ledger.kept ls ps g'.kept ls' ps'
       → Listed (off_in past) (faults_among terms past) ls₀ rs₀ ps₀ g' ls' rs' ps'
   unfolding rows_from
   stand_end {j} ej {g'} {ls'} {rs'} {ps'} E K =
       let c : Claims = close_claims (claims_in p) p.field p.pend in
       let xs : Basis → List Fault = λ k. marked p.field.no p.field.marks ++ close_faults k p.block p.wait p.since p.top read c in
-      let ys : Basis → List Fault = λ k. marked (close_as k p.block p.wait p.since p.top read c).wait.line (last_marks (close_as k p.block p.wait p.since p.top read c).block.any (close_as k p.block p.wait p.since p.top read c).wait) in
+      let ys : Basis → List Fault = λ k. marked (close_as k p.block p.wait p.since p.top read c).wait.line (last_marks (close_as k p.block p.wait p.since p.top read c).block.course.any (close_as k p.block p.wait p.since p.top read c).wait) in
       let whole : run terms put start [] (rows_from 1 past) ≡ faults_among terms past =
       emitted terms put put_comm [] (rows_from 1 past) ∙ in_line_order 1 (spots terms (tree (rows_from 1 past))) (spots_orderly terms (tree (rows_from 1 past))) (lines_rise terms 1 past) in
       let done : put_all put (final terms W.pieces) W.all ≡ faults_among terms past =

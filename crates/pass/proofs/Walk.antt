@@ -13,8 +13,6 @@ use Rattle.laws.proofs.Any.{or_right}
 use Rattle.text.specs.Characters.{is_inadmissible}
 use Rattle.text.proofs.Admissible.{odd_asked}
 use Rattle.headings.specs.declared.Heading.{Heading}
-use Rattle.headings.specs.declared.Read.{Read}
-use Rattle.headings.specs.declared.Read.TheVariants.{Reads, Unreadable}
 use Rattle.fields.specs.declared.kinds.Kind.{Kind}
 use Rattle.fields.specs.declared.kinds.Kind.TheVariants.{Field}
 use Rattle.fields.specs.declared.readings.Reading.{Reading}
@@ -23,8 +21,9 @@ use Rattle.fields.specs.Codes.{code_of, claims}
 use Rattle.fields.proofs.LineKinds.{field_is}
 use Rattle.lines.specs.declared.Found.{Found}
 use Rattle.lines.specs.Reading.{span, IsNext}
-use Rattle.rules.specs.declared.FirstKc.{FirstKc}
-use Rattle.rules.specs.declared.FirstIn.{FirstIn}
+use Rattle.rules.specs.declared.First.{First}
+use Rattle.rules.specs.declared.Payment.{Payment}
+use Rattle.rules.specs.declared.Range.{Range}
 use Rattle.rules.specs.declared.Sums.{Sums}
 use Rattle.rules.specs.Terms.{Terms}
 use Rattle.rules.specs.Rows.{Row}
@@ -48,9 +47,10 @@ use Rattle.judging.proofs.Cases.{not_kc}
 use Rattle.closing.proofs.ByParts.{whole, close_parts}
 use Rattle.closing.proofs.Sets.{line_marks}
 use Rattle.judging.proofs.Meaning.{Means}
+use Rattle.std.specs.Prelude.{None, Option, Some}
 
 -- no more is entered at once than leaves room to count on
-pub close_few : (o : Open) (j : Basis) (b : Block) (w : Wait) (n m : ℕ) (r : Read) (c : Claims) → length (marked o.no o.marks ++ close_faults j b w n m r c) ≤ 192
+pub close_few : (o : Open) (j : Basis) (b : Block) (w : Wait) (n m : ℕ) (r : Option Heading) (c : Claims) → length (marked o.no o.marks ++ close_faults j b w n m r c) ≤ 192
 close_few o j b w n m r c =
     omega (
       arith,
@@ -70,18 +70,18 @@ own_at {s} {at} {f} N {bad} {own} n eb eo =
     eo ∙ (λ i. line_marks_of (eb i) f.ended) ∙ (λ i. line_marks_of (N.tells i && any_of is_inadmissible bytes) f.ended) ∙ (λ i. line_marks_of (odd_asked bytes i) f.ended)
 
 -- a field that closes and claims nothing
-pub claims_kept : (o : Open) (p : Pend) (span : FirstIn) (stated : Sums) → o.class < 5 → (span ≡ span_closed span o p) × (stated ≡ stated_closed stated o p)
+pub claims_kept : (o : Open) (p : Pend) (span : First Range) (stated : Sums) → o.class < 5 → (span ≡ span_closed span o p) × (stated ≡ stated_closed stated o p)
 claims_kept o p span stated e =
     let five : eqb o.class 5 ≡ false = ne_eqb o.class 5 (λ q. omega arith) in
     let six : eqb o.class 6 ≡ false = ne_eqb o.class 6 (λ q. omega arith) in
     (rw five, rw six)
 
 -- the field that opens stands above every heading, or claims or is kept, or neither
-module _ (since i : ℕ) (said : Reading) (kc : FirstKc) (p : Pend) where
+module _ (since i : ℕ) (said : Reading) (kc : First Payment) (p : Pend) where
   pub own_above : since ≡ 0 → (kc ≡ cond (eqb since 0) kc (kc_own kc i said)) × (p ≡ cond (eqb since 0) p (pend_of p i said))
   own_above e = (rw (eq-eqb since 0 e), rw (eq-eqb since 0 e))
 
-  pub own_inside : (since ≡ 0 → ⊥) → {x : FirstKc} → x ≡ kc_own kc i said → {y : Pend} → y ≡ pend_of p i said
+  pub own_inside : (since ≡ 0 → ⊥) → {x : First Payment} → x ≡ kc_own kc i said → {y : Pend} → y ≡ pend_of p i said
       → (x ≡ cond (eqb since 0) kc (kc_own kc i said)) × (y ≡ cond (eqb since 0) p (pend_of p i said))
   own_inside e ex ey = (rw (ne_eqb since 0 e) ex, rw (ne_eqb since 0 e) ey)
 
@@ -117,7 +117,7 @@ module _ (counts sums : List ℕ) (stated : Sums) (reads : Bool) (h : Heading) {
       go true false p q = eg ∙ sym (rw p)
       go false b p q = eg
 
-module _ (j : Basis) (c : Course) (counts sums : List ℕ) (w : Wait) (n m : ℕ) (r : Read) {cl cl₀ : Claims} (ec : cl ≡ cl₀) {gm : ℕ} (eg : gm ≡ groups_on counts sums cl.sums r) where
+module _ (j : Basis) (c : Course) (counts sums : List ℕ) (w : Wait) (n m : ℕ) (r : Option Heading) {cl cl₀ : Claims} (ec : cl ≡ cl₀) {gm : ℕ} (eg : gm ≡ groups_on counts sums cl.sums r) where
   parts : close_as j (block_of c counts sums) w n m r cl₀
       ≡ whole (close_by j c w n m r cl.kc cl.span gm) (counts_by counts n r cl.kc) (sums_by sums n r cl.kc)
   parts =
@@ -135,16 +135,16 @@ module _ (j : Basis) (c : Course) (counts sums : List ℕ) (w : Wait) (n m : ℕ
   shut_faults = λ i. marked w.line (sym parts i).told ++ marked n (sym parts i).marks
 
 -- .. with an account whose course was taken out of it
-module _ (j : Basis) (b : Block) (w : Wait) (n m : ℕ) (r : Read) {c : Course} (eb : c ≡ course_of b) {cl cl₀ : Claims} (ec : cl ≡ cl₀) {gm : ℕ} (eg : gm ≡ groups_on b.counts b.sums cl.sums r) where
+module _ (j : Basis) (b : Block) (w : Wait) (n m : ℕ) (r : Option Heading) {c : Course} (eb : c ≡ course_of b) {cl cl₀ : Claims} (ec : cl ≡ cl₀) {gm : ℕ} (eg : gm ≡ groups_on b.counts b.sums cl.sums r) where
   account_is : block_of c b.counts b.sums ≡ b
   account_is = λ i. block_of (eb i) b.counts b.sums
 
   pub end_wait : {w' : Wait} → w' ≡ (close_by j c w n m r cl.kc cl.span gm).wait → w' ≡ (close_as j b w n m r cl₀).wait
   end_wait e = shut_wait j c b.counts b.sums w n m r ec eg e ∙ (λ i. (close_as j (account_is i) w n m r cl₀).wait)
 
-  pub end_any : {c' : Course} → c' ≡ (close_by j c w n m r cl.kc cl.span gm).course → c'.any ≡ (close_as j b w n m r cl₀).block.any
+  pub end_any : {c' : Course} → c' ≡ (close_by j c w n m r cl.kc cl.span gm).course → c'.any ≡ (close_as j b w n m r cl₀).block.course.any
   end_any e =
-      ap (λ (x : Block). x.any) (shut_block j c b.counts b.sums w n m r ec eg e refl refl) ∙ (λ i. (close_as j (account_is i) w n m r cl₀).block.any)
+      ap (λ (x : Block). x.course.any) (shut_block j c b.counts b.sums w n m r ec eg e refl refl) ∙ (λ i. (close_as j (account_is i) w n m r cl₀).block.course.any)
 
   pub end_faults : by_faults j c w n m r cl.kc cl.span gm ≡ close_faults j b w n m r cl₀
   end_faults = shut_faults j c b.counts b.sums w n m r ec eg ∙ (λ i. close_faults j (account_is i) w n m r cl₀)
@@ -154,11 +154,11 @@ pub ident_few : (s : List ℕ) {x : Kind} → x ≡ kind_of s → (i : ℕ) → 
 ident_few s ex i e = (field_is s i (sym ex ∙ e)).2
 
 -- a heading reads
-pub reads_again : (r : Read) (old : Heading) → read_as (not (is_unreadable r)) (heading_in r old) ≡ r
-reads_again (Reads h) old = refl
-reads_again Unreadable old = refl
+pub reads_again : (r : Option Heading) (old : Heading) → read_as (not (is_unreadable r)) (heading_in r old) ≡ r
+reads_again (Some h) old = refl
+reads_again None old = refl
 
-pub reads_on : (reads z : Bool) (h : Heading) → read_as (reads && not z) h ≡ cond (true && z) Unreadable (read_as reads h)
+pub reads_on : (reads z : Bool) (h : Heading) → read_as (reads && not z) h ≡ cond (true && z) None (read_as reads h)
 reads_on true true h = refl
 reads_on true false h = refl
 reads_on false true h = refl
@@ -179,10 +179,10 @@ zeros zero k = refl
 zeros (suc n) zero = refl
 zeros (suc n) (suc k) = zeros n k
 
-pub means_as : {terms : Terms} {c : Pieces} {n : ℕ} {o o' : Open} {since top : ℕ} {r : Read} {cl cl' : Claims} {p p' : Pend} {b : Block} {w : Wait} {stood stood' : List ℕ} → o' ≡ o → cl' ≡ cl → p' ≡ p → stood' ≡ stood
+pub means_as : {terms : Terms} {c : Pieces} {n : ℕ} {o o' : Open} {since top : ℕ} {r : Option Heading} {cl cl' : Claims} {p p' : Pend} {b : Block} {w : Wait} {stood stood' : List ℕ} → o' ≡ o → cl' ≡ cl → p' ≡ p → stood' ≡ stood
     → Means terms c n o since top r cl p b w stood → Means terms c n o' since top r cl' p' b w stood'
 means_as eo ec ep es M = rw (eo, ec, ep, es) M
 
-pub head_as : {terms : Terms} {c : Pieces} {n : ℕ} {o o' : Open} {since since' top top' : ℕ} {r r' : Read} {cl cl' : Claims} {p : Pend} {b b' : Block} {w w' : Wait} {stood : List ℕ} → o' ≡ o → since' ≡ since → top' ≡ top → r' ≡ r → cl' ≡ cl → b' ≡ b → w' ≡ w
+pub head_as : {terms : Terms} {c : Pieces} {n : ℕ} {o o' : Open} {since since' top top' : ℕ} {r r' : Option Heading} {cl cl' : Claims} {p : Pend} {b b' : Block} {w w' : Wait} {stood : List ℕ} → o' ≡ o → since' ≡ since → top' ≡ top → r' ≡ r → cl' ≡ cl → b' ≡ b → w' ≡ w
     → Means terms c n o since top r cl p b w stood → Means terms c n o' since' top' r' cl' p b' w' stood
 head_as eo es et er ec eb ew M = rw (eo, es, et, er, ec, eb, ew) M

@@ -8,8 +8,7 @@ use Rattle.fields.specs.declared.classes.Class.{Class}
 use Rattle.fields.specs.Kinds.{kind_of}
 use Rattle.fields.specs.Readings.{text_of, reading_of}
 use Rattle.lines.specs.Lines.{Line, lines, taken, taken_by}
-use Rattle.rules.specs.declared.FirstKc.TheVariants.{NoKc}
-use Rattle.rules.specs.declared.FirstIn.TheVariants.{NoIn}
+use Rattle.rules.specs.declared.First.TheVariants.{Missing}
 use Rattle.rules.specs.Terms.{Terms}
 use Rattle.rules.specs.Rows.{rows_from}
 use Rattle.rules.specs.Tree.{tree}
@@ -53,8 +52,8 @@ fresh h = record {
   top = 0;
   reads = false;
   heading = h;
-  kc = NoKc;
-  span = NoIn;
+  kc = Missing;
+  span = Missing;
   stated = no_sums;
   block = summary [];
   wait = no_wait;

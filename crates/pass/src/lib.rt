@@ -24,7 +24,7 @@ use judging::opening::{Open, Pend};
 use judging::{marking, opening};
 use ledger::Ledger;
 use own_rules::Basis;
-use rules::{FirstIn, FirstKc, Sums};
+use rules::{First, Payment, Range, Sums};
 use shutting::{Starts, again, count_item, shut_all, unseen};
 
 // No heading yet.
@@ -52,8 +52,8 @@ pub struct Pass {
     pub top: u64,
     pub reads: bool,
     pub heading: Heading,
-    pub kc: FirstKc,
-    pub span: FirstIn,
+    pub kc: First<Payment>,
+    pub span: First<Range>,
     pub stated: Sums,
     pub block: Block,
     pub wait: Wait,
@@ -85,8 +85,8 @@ pub fn start() -> Pass
         top: 0,
         reads: false,
         heading,
-        kc: FirstKc::NoKc,
-        span: FirstIn::NoIn,
+        kc: First::Missing,
+        span: First::Missing,
         stated,
         block,
         wait,
@@ -167,8 +167,8 @@ pub fn feed(
                     head: here,
                     wait: t.start,
                 };
-                kc = FirstKc::NoKc;
-                span = FirstIn::NoIn;
+                kc = First::Missing;
+                span = First::Missing;
                 stated = claiming::no_sums();
                 open = opening::none_open();
                 let read = headings::reading::read(&s[from..end]);

@@ -17,6 +17,7 @@ use Rattle.own_rules.specs.declared.Basis.{Basis}
 use Rattle.own_rules.specs.Model.{basis_of}
 use Rattle.going.specs.declared.Going.{Going}
 use Rattle.going.specs.Reached.{Sound, Reached, Gone}
+use Rattle.std.specs.Prelude.{Ok, Err}
 use Rattle.portions.specs.declared.Portions.{Portions}
 use Rattle.portions.specs.Usable.{is_open}
 use Rattle.portions.specs.States.{HasRead, Holds}
@@ -123,9 +124,9 @@ module _ (p : Portions) (s ls rs ps stood : List ℕ) (o : is_open p ls rs ps �
 -- ---- the answer to a portion
 
 module _ (s : List ℕ) (p : Portions) (ls rs ps stood : List ℕ) where
-  pub not_taken : is_open p ls rs ps ≡ false → Adds s p ls rs ps stood (record { taken = false; state = p }) ls rs ps stood
-  not_taken e = record { taken = sym e; kept = λ _. (refl, refl, refl, refl, refl); goes_on = λ code day file H. absurd (true≢false (sym H.usable ∙ e)) }
+  pub not_taken : is_open p ls rs ps ≡ false → Adds s p ls rs ps stood (Err (record {})) ls rs ps stood
+  not_taken e = record { taken = sym e; kept = λ _. (refl, refl, refl, refl); goes_on = tt }
 
   pub was_taken : is_open p ls rs ps ≡ true → {q : Portions} {ls' rs' ps' stood' : List ℕ} → GoesOn s p ls rs ps stood q ls' rs' ps' stood'
-      → Adds s p ls rs ps stood (record { taken = true; state = q }) ls' rs' ps' stood'
+      → Adds s p ls rs ps stood (Ok q) ls' rs' ps' stood'
   was_taken e G = record { taken = sym e; kept = λ f. absurd (true≢false (sym e ∙ f)); goes_on = G }

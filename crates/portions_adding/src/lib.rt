@@ -9,26 +9,24 @@ ghost use Rattle.portions_adding.specs.Adding.{Adds, GoesOn, counting, adding_nu
 use headings::Code;
 use portions::{Portions, usable};
 
-// Whether the portion was taken (if not: 18), and the state to go on with.
-#[derive(Clone, Copy)]
-pub struct Added {
-    pub taken: bool,
-    pub state: Portions,
+// The state is not open.
+#[derive(Clone, Copy, Debug, PartialEq, Eq)]
+pub struct NotOpen;
+
+// Document 02's number of it.
+impl From<NotOpen> for u32 {
+    ghost from_gives = { λ _ number. number ≡ adding_number false };
+
+    fn from(_refusal: NotOpen) -> u32 {
+        18
+    }
 }
 
 // Bytes are counted, and nothing is read.
 fn counted(p: Portions, bytes: u32) -> Portions
     ensures { result ≡ counting p bytes }
 {
-    let going = p.going;
-    Portions {
-        going,
-        code: p.code,
-        day: p.day,
-        bytes,
-        seen: p.seen,
-        takes: p.takes,
-    }
+    Portions { bytes, ..p }
 }
 
 // The bytes before the end mark are judged.
@@ -52,11 +50,9 @@ fn read_on(
     let going = going::go_on(&s[..n], basis, lines, rules, offsets, stood, before);
     Portions {
         going,
-        code: p.code,
-        day: p.day,
         bytes,
         seen: n < s.len(),
-        takes: p.takes,
+        ..p
     }
 }
 
@@ -83,6 +79,7 @@ fn take_in(
     read_on(s, p, bytes, lines, rules, offsets, stood)
 }
 
+// The state to go on with; one that is not open stays as it is.
 pub fn add(
     s: &[u8],
     p: Portions,
@@ -90,22 +87,11 @@ pub fn add(
     rules: &mut [u32; 256],
     offsets: &mut [u32; 256],
     stood: &mut [u32; 1296],
-) -> Added
+) -> Result<Portions, NotOpen>
     ensures { Adds s.now p lines.old rules.old offsets.old stood.old result lines.new rules.new offsets.new stood.new }
 {
     if !usable::is_open(p, lines, rules, offsets) {
-        return Added {
-            taken: false,
-            state: p,
-        };
+        return Err(NotOpen);
     }
-    let state = take_in(s, p, lines, rules, offsets, stood);
-    Added { taken: true, state }
-}
-
-// The number of an answer, 0 where the portion was taken.
-pub fn number_of(taken: bool) -> u32
-    ensures { result ≡ adding_number taken }
-{
-    if taken { 0 } else { 18 }
+    Ok(take_in(s, p, lines, rules, offsets, stood))
 }

@@ -1,6 +1,7 @@
 -- A file that comes in portions, at the C face: what the calls leave, by what the jobs promise; and that however the file is cut,
 -- closing leaves what certis_check of the whole leaves with room for 256.
-use Prim.Native.Nat.{ℕ, ◌+◌}
+use Prim.Native.Nat.{ℕ, ◌+◌, ◌≤◌}
+use native.Mathlib.Omega.{arith}
 use mathlib.Core.Path.{◌≡◌, refl, sym, ap, subst, ◌∙◌}
 use mathlib.Core.Bool.{Bool, true, false, cond, not, true≢false}
 use mathlib.Core.List.{List, [], ◌∷◌, ◌++◌}
@@ -9,27 +10,27 @@ use lib.ListN.{length, set}
 use borrow.Author.Tests.{eq-eqb, ne_eqb}
 use Rattle.laws.specs.Refusals.{◌if◌, first}
 use Rattle.rules.specs.Terms.{input}
-use Rattle.rules.specs.Faults.{faults}
 use Rattle.joining.specs.Portions.{concat}
 use Rattle.listing.specs.Checking.{check_refusals, checked_number, checked_or, Checks}
 use Rattle.portions.specs.declared.Portions.{Portions}
-use Rattle.portions_opening.specs.declared.Opened.{Opened}
-use Rattle.portions_adding.specs.declared.Added.{Added}
-use Rattle.answering.specs.declared.Closing.{Closing}
-use Rattle.answering.specs.declared.Closing.TheVariants.{Done, Late}
+use Rattle.std.specs.Prelude.{Result, Ok, Err, MatchResult}
+use Rattle.portions_opening.specs.declared.OpenError.{OpenError}
+use Rattle.portions_opening.specs.declared.OpenError.TheVariants.{BadCode, BadDay}
+use Rattle.portions_adding.specs.declared.NotOpen.{NotOpen}
+use Rattle.answering.specs.declared.CloseError.{CloseError}
+use Rattle.answering.specs.declared.CloseError.TheVariants.{Refused, Late}
 use Rattle.answering.specs.declared.Closed.{Closed}
 use Rattle.portions.specs.Usable.{is_open}
 use Rattle.portions.specs.States.{Rooms, Holds}
-use Rattle.portions_opening.specs.Opening.{open_refusals, opening_number, Opens}
+use Rattle.portions_opening.specs.Opening.{open_refusals, unopened_number, Opens}
 use Rattle.portions_adding.specs.Adding.{adding_number, Adds}
-use Rattle.answering.specs.Closing.{file_refusals, close_refusals, closing_number, closing_or, checked_in, Closes}
+use Rattle.answering.specs.Closing.{file_refusals, close_refusals, unclosed_number, closing_number, closing_or, checked_in, Closes}
 use Rattle.portions.proofs.Bounds.{shut_shut}
 use Rattle.going.proofs.Pieces.{Thens, held_all}
 use Rattle.stored.specs.Stored.{Puts}
 use Rattle.stored.proofs.Back.{state_shut}
 use Rattle.checking_face.specs.Face.{CheckedAt}
 use Rattle.portions_face.specs.Arriving.{Numbers, state_of, Lent, is_open_at, HoldsAt, PortionsOpenedAt, PortionAddedAt, closed_of, PortionsClosedAt}
-use Rattle.results.proofs.Stored.{stored}
 
 -- numbers that were kept
 abbrev pub Same : Numbers → Numbers → Type 0
@@ -43,39 +44,49 @@ PutIn done p x y = Puts done p x.wide x.length x.narrow x.frame x.small x.text y
 
 -- ---- opening
 
-pub opened_at : {code day : ℕ} (x y : Numbers) {stood stood' : List ℕ} {o : Opened} {r : ℕ} → Opens code day stood o stood' → r ≡ opening_number o.answer → PutIn (eqb r 0) o.state x y
-    → PortionsOpenedAt code day x stood r y stood'
-opened_at {code} {day} x y {stood} {stood'} {o} {r} O e P =
+pub opened_at : {code day : ℕ} (x y : Numbers) {stood stood' : List ℕ} {p : Portions} → Opens code day stood (Ok p) stood' → PutIn true p x y
+    → PortionsOpenedAt code day x stood 0 y stood'
+opened_at {code} {day} x y {stood' = stood'} O P = record {
+  number = O.number;
+  kept = λ f. absurd (f refl);
+  holds = λ _ ls rs ps rooms. subst (λ (p : Portions). Holds code day [] p ls rs ps stood') (sym (P.put refl)) (O.holds ls rs ps rooms);
+}
+
+some_number : (u : OpenError) → 1 ≤ unopened_number u
+some_number BadCode = omega arith
+some_number BadDay = omega arith
+
+pub not_opened : {code day : ℕ} (x : Numbers) {stood stood' : List ℕ} {u : OpenError} {r : ℕ} → Opens code day stood (Err u) stood' → r ≡ unopened_number u → PortionsOpenedAt code day x stood r x stood'
+not_opened {code} {day} x {stood} {u = u} {r} O e =
     let n : r ≡ first (open_refusals code day) = e ∙ O.number in
-    record {
-      number = n;
-      kept = λ f.
-          let z : eqb r 0 ≡ false = ne_eqb r 0 f in
-          (same_is x y (P.kept z), O.stood_after ∙ rw (sym n, z));
-      holds = λ z ls rs ps rooms.
-          subst (λ (p : Portions). Holds code day [] p ls rs ps stood') (sym (P.put (eq-eqb r 0 z))) (O.holds (sym n ∙ z) ls rs ps rooms);
-    }
+    let z : (r ≡ 0 → ⊥) = λ q. omega (arith, e, q, some_number u) in
+    record { number = n; kept = λ _. (refl, O.stood_after ∙ rw (sym n, ne_eqb r 0 z)); holds = λ q. absurd (z q) }
 
 -- ---- a portion
 
-pub added_at : {s : List ℕ} (a b : Lent) {r : Added} {k : ℕ} {q : Portions} → q ≡ state_of a.numbers → Adds s q a.lines a.rules a.offsets a.stood r b.lines b.rules b.offsets b.stood
-    → PutIn r.taken r.state a.numbers b.numbers → k ≡ adding_number r.taken → PortionAddedAt s a k b
-added_at {s} a b {r} {k} {q} is Q P e =
-    let A : Adds s (state_of a.numbers) a.lines a.rules a.offsets a.stood r b.lines b.rules b.offsets b.stood =
-    subst (λ (p : Portions). Adds s p a.lines a.rules a.offsets a.stood r b.lines b.rules b.offsets b.stood) is Q in
+pub added_at : {s : List ℕ} (a b : Lent) {p q : Portions} → q ≡ state_of a.numbers → Adds s q a.lines a.rules a.offsets a.stood (Ok p) b.lines b.rules b.offsets b.stood
+    → PutIn true p a.numbers b.numbers → PortionAddedAt s a 0 b
+added_at {s} a b {p} is Q P =
+    let A : Adds s (state_of a.numbers) a.lines a.rules a.offsets a.stood (Ok p) b.lines b.rules b.offsets b.stood =
+    subst (λ (q : Portions). Adds s q a.lines a.rules a.offsets a.stood (Ok p) b.lines b.rules b.offsets b.stood) is Q in
+    record {
+      number = ap adding_number A.taken;
+      kept = λ f. absurd (f refl);
+      goes_on = λ code day file H.
+          subst (λ (p : Portions). Holds code day (file ++ s) p b.lines b.rules b.offsets b.stood) (sym (P.put refl)) (A.goes_on code day file H);
+    }
+
+pub not_added : {s : List ℕ} (a : Lent) {u : NotOpen} {q : Portions} {k : ℕ} {ls rs ps stood : List ℕ} → q ≡ state_of a.numbers → Adds s q a.lines a.rules a.offsets a.stood (Err u) ls rs ps stood
+    → k ≡ adding_number false → PortionAddedAt s a k (record { numbers = a.numbers; lines = ls; rules = rs; offsets = ps; stood = stood })
+not_added {s} a {u} {q} {k} {ls} {rs} {ps} {stood} is Q e =
+    let A : Adds s (state_of a.numbers) a.lines a.rules a.offsets a.stood (Err u) ls rs ps stood =
+    subst (λ (q : Portions). Adds s q a.lines a.rules a.offsets a.stood (Err u) ls rs ps stood) is Q in
+    let K = A.kept (sym A.taken) in
     record {
       number = e ∙ ap adding_number A.taken;
-      kept = λ f. go A r.taken refl f;
-      goes_on = λ code day file H.
-          subst (λ (p : Portions). Holds code day (file ++ s) p b.lines b.rules b.offsets b.stood) (sym (P.put (A.taken ∙ H.usable))) (A.goes_on code day file H);
+      kept = λ _. λ i. record { numbers = a.numbers; lines = K.0 i; rules = K.1 i; offsets = K.2 i; stood = K.3 i };
+      goes_on = λ code day file H. absurd (true≢false (sym H.usable ∙ sym A.taken));
     }
-  where
-    go : Adds s (state_of a.numbers) a.lines a.rules a.offsets a.stood r b.lines b.rules b.offsets b.stood → (t : Bool) → r.taken ≡ t → (k ≡ 0 → ⊥) → b ≡ a
-    go A true q f = absurd (f (e ∙ ap adding_number q))
-    go A false q f =
-        let K = A.kept (sym A.taken ∙ q) in
-        let N : b.numbers ≡ a.numbers = same_is a.numbers b.numbers (P.kept q) in
-        λ i. record { numbers = N i; lines = K.1 i; rules = K.2 i; offsets = K.3 i; stood = K.4 i }
 
 -- ---- closing
 
@@ -91,12 +102,23 @@ own_number p = go (ltb 10000000 p.bytes) (not p.seen) (ltb (p.going.came + 1) p.
     go false false false false = refl
 
 -- an open state is answered as checking answers
-answered : (p : Portions) (ls rs ps : List ℕ) → is_open p ls rs ps ≡ true → (q : Closing) → closing_number q ≡ first (close_refusals p ls rs ps)
+answered : (p : Portions) (ls rs ps : List ℕ) → is_open p ls rs ps ≡ true → (q : Result ℕ CloseError) → closing_number q ≡ first (close_refusals p ls rs ps)
     → (closing_number q ≡ checked_number (checked_in q)) × ((old : ℕ) → closing_or q old ≡ checked_or (checked_in q) old)
-answered p ls rs ps o (Done c) e = (refl, λ _. refl)
-answered p ls rs ps o Late e =
+answered p ls rs ps o (Ok t) e = (refl, λ _. refl)
+answered p ls rs ps o (Err (Refused u)) e = (refl, λ _. refl)
+answered p ls rs ps o (Err Late) e =
     let n : 18 ≡ first (file_refusals p) = e ∙ rw o in
     absurd (true≢false (ap (λ (k : ℕ). eqb k 18) n ∙ own_number p))
+
+-- the number that is told of an answer
+number_is : (q : Result ℕ CloseError) {k : ℕ} → MatchResult q (λ _. k ≡ 0) (λ e. k ≡ unclosed_number e) → k ≡ closing_number q
+number_is (Ok _) e = e
+number_is (Err _) e = e
+
+-- where something is refused there is no total
+no_total : (q : Result ℕ CloseError) (old : ℕ) → (closing_number q ≡ 0 → ⊥) → closing_or q old ≡ old
+no_total (Ok _) old z = absurd (z refl)
+no_total (Err _) old z = refl
 
 -- other numbers in the frame
 abbrev pub framed : Numbers → List ℕ → Numbers
@@ -113,26 +135,27 @@ closed_frame a {k} number v false o =
     let n : eqb k 18 ≡ true = eq-eqb k 18 w in
     ap (framed a.numbers) (v ∙ rw n)
 
-pub closed_at : (a : Lent) (before : ℕ) {os₀ qs₀ ts₀ os qs ts : List ℕ} {c : Closed} {k sum after : ℕ} {ls' rs' ps' stood' f : List ℕ} {q : Portions} → q ≡ state_of a.numbers
-    → Closes q a.lines a.rules a.offsets a.stood os₀ qs₀ ts₀ c ls' rs' ps' stood' os qs ts → k ≡ closing_number c.answer → sum ≡ closing_or c.answer 0 → after ≡ cond (eqb k 0) sum before
+pub closed_at : (a : Lent) (before : ℕ) {os₀ qs₀ ts₀ os qs ts : List ℕ} {c : Closed} {k after : ℕ} {ls' rs' ps' stood' f : List ℕ} {q : Portions} → q ≡ state_of a.numbers
+    → Closes q a.lines a.rules a.offsets a.stood os₀ qs₀ ts₀ c ls' rs' ps' stood' os qs ts → MatchResult c.answer (λ _. k ≡ 0) (λ e. k ≡ unclosed_number e) → after ≡ closing_or c.answer before
     → f ≡ cond (not (eqb k 18)) (set a.numbers.frame 0 0) a.numbers.frame
     → PortionsClosedAt a os₀ qs₀ ts₀ before k (record { numbers = framed a.numbers f; lines = ls'; rules = rs'; offsets = ps'; stood = stood' }) os qs ts after
-closed_at a before {os₀} {qs₀} {ts₀} {os} {qs} {ts} {c} {k} {sum} {after} {ls'} {rs'} {ps'} {stood'} {f} {q} is D e t u v =
+closed_at a before {os₀} {qs₀} {ts₀} {os} {qs} {ts} {c} {k} {after} {ls'} {rs'} {ps'} {stood'} {f} {q} is D m u v =
     let p : Portions = state_of a.numbers in
+    let e : k ≡ closing_number c.answer = number_is c.answer m in
     let C : Closes p a.lines a.rules a.offsets a.stood os₀ qs₀ ts₀ c ls' rs' ps' stood' os qs ts =
     subst (λ (x : Portions). Closes x a.lines a.rules a.offsets a.stood os₀ qs₀ ts₀ c ls' rs' ps' stood' os qs ts) is D in
     let number : k ≡ first (close_refusals p a.lines a.rules a.offsets) = e ∙ C.number in
     record {
       number = number;
       numbers = closed_frame a number v (is_open_at a) refl;
-      kept = λ g. let K = C.kept (λ z. g (number ∙ z)) in (K.0, K.1, K.2, K.3, K.4, K.5, K.6, u ∙ rw (ne_eqb k 0 g));
+      kept = λ g. let K = C.kept (λ z. g (number ∙ z)) in (K.0, K.1, K.2, K.3, K.4, K.5, K.6, u ∙ no_total c.answer before (λ z. g (e ∙ z)));
       checks = λ code day file H rooms.
           let K : Checks file (input code day) os₀ qs₀ ts₀ (checked_in c.answer) os qs ts = C.checks code day file H rooms in
           let A = answered p a.lines a.rules a.offsets H.usable c.answer C.number in
           let n : k ≡ first (check_refusals file (input code day) (length os₀) (length qs₀) (length ts₀)) = e ∙ A.0 ∙ K.number in
           record {
             number = n;
-            total = u ∙ stored (λ (x : ℕ). x) (length (faults (input code day) file)) 0 before n (t ∙ A.1 0 ∙ K.total 0);
+            total = u ∙ A.1 before ∙ K.total before ∙ rw n;
             lines = K.lines ∙ rw n;
             rules = K.rules ∙ rw n;
             offsets = K.offsets ∙ rw n;

@@ -6,7 +6,7 @@
 
 ghost use Rattle.portions_face.specs.Arriving.{PortionsOpenedAt, PortionAddedAt, PortionsClosedAt};
 
-use results::store_total;
+use results::leave;
 
 // Opens a file that is to come in portions; of `struct certis_portions` the three lists are not asked for.
 pub fn open(
@@ -22,21 +22,13 @@ pub fn open(
 ) -> u32
     ensures { PortionsOpenedAt code day (record { wide = wide.old; length = length.old; narrow = narrow.old; frame = frame.old; small = small.old; text = text.old }) stood.old result (record { wide = wide.new; length = length.new; narrow = narrow.new; frame = frame.new; small = small.new; text = text.new }) stood.new }
 {
-    let r = portions_opening::open(code, day, stood);
-    let answer = r.answer;
-    let state = r.state;
-    let refusal = portions_opening::number_of(answer);
-    stored::store(
-        refusal == 0,
-        state,
-        wide,
-        length,
-        narrow,
-        frame,
-        small,
-        text,
-    );
-    refusal
+    match portions_opening::open(code, day, stood) {
+        Ok(state) => {
+            stored::store(true, state, wide, length, narrow, frame, small, text);
+            0
+        }
+        Err(error) => u32::from(error),
+    }
 }
 
 // A portion comes.
@@ -56,10 +48,13 @@ pub fn add(
     ensures { PortionAddedAt bytes.now (record { numbers = record { wide = wide.old; length = length.old; narrow = narrow.old; frame = frame.old; small = small.old; text = text.old }; lines = lines.old; rules = rules.old; offsets = offsets.old; stood = stood.old }) result (record { numbers = record { wide = wide.new; length = length.new; narrow = narrow.new; frame = frame.new; small = small.new; text = text.new }; lines = lines.new; rules = rules.new; offsets = offsets.new; stood = stood.new }) }
 {
     let before = stored::state_in(wide, *length, narrow, frame, small, text);
-    let r = portions_adding::add(bytes, before, lines, rules, offsets, stood);
-    let state = r.state;
-    stored::store(r.taken, state, wide, length, narrow, frame, small, text);
-    portions_adding::number_of(r.taken)
+    match portions_adding::add(bytes, before, lines, rules, offsets, stood) {
+        Ok(state) => {
+            stored::store(true, state, wide, length, narrow, frame, small, text);
+            0
+        }
+        Err(refusal) => u32::from(refusal),
+    }
 }
 
 // No more comes: `first`, `second` and `third` take the line numbers, the rules and the offsets.
@@ -82,11 +77,8 @@ pub fn close(
     ensures { PortionsClosedAt (record { numbers = record { wide = wide.old; length = length.old; narrow = narrow.old; frame = frame.old; small = small.old; text = text.old }; lines = lines.old; rules = rules.old; offsets = offsets.old; stood = stood.old }) first.old second.old third.old total.old result (record { numbers = record { wide = wide.new; length = length.new; narrow = narrow.new; frame = frame.new; small = small.new; text = text.new }; lines = lines.new; rules = rules.new; offsets = offsets.new; stood = stood.new }) first.new second.new third.new total.new }
 {
     let before = stored::state_in(wide, *length, narrow, frame, small, text);
-    let r = answering::close(before, lines, rules, offsets, stood, first, second, third);
-    let answer = r.answer;
-    let refusal = answering::number_of(answer);
-    let faults = answering::total_or(answer, 0);
-    store_total(total, refusal == 0, faults);
+    let closed = answering::close(before, lines, rules, offsets, stood, first, second, third);
+    let refusal = leave(closed.answer, total);
     stored::shut_frame(refusal != 18, frame);
     refusal
 }

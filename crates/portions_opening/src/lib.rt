@@ -4,70 +4,54 @@
 #![tactic(auto)]
 
 ghost use Rattle.std.specs.Prelude.{◌≡◌};
-ghost use Rattle.portions_opening.specs.Opening.{Opens, opening_number, BegunAs};
+ghost use Rattle.portions_opening.specs.Opening.{Opens, unopened_number, BegunAs};
 
 use listing::checking;
 use portions::Portions;
 
-#[derive(Clone, Copy)]
-pub enum Opening {
-    Open,
+// Why no state is opened.
+#[derive(Clone, Copy, Debug, PartialEq, Eq)]
+pub enum OpenError {
     BadCode,
     BadDay,
 }
 
-// The answer, and the state to go on with; on a refusal that is a closed one.
-#[derive(Clone, Copy)]
-pub struct Opened {
-    pub answer: Opening,
-    pub state: Portions,
+// The number of a refusal.
+impl From<OpenError> for u32 {
+    ghost from_gives = { λ error number. number ≡ unopened_number error };
+
+    fn from(error: OpenError) -> u32 {
+        match error {
+            OpenError::BadCode => 1,
+            OpenError::BadDay => 2,
+        }
+    }
 }
 
 // Nothing has come.
-fn begun(code: u32, day: u32, takes: bool) -> Portions
-    ensures { BegunAs code day takes result }
+fn begun(code: u32, day: u32) -> Portions
+    ensures { BegunAs code day result }
 {
-    let going = going::start();
     Portions {
-        going,
+        going: going::start(),
         code,
         day,
         bytes: 0,
         seen: false,
-        takes,
+        takes: true,
     }
 }
 
-// The array of identifiers is cleared where nothing is refused.
-pub fn open(code: u32, day: u32, stood: &mut [u32; 1296]) -> Opened
+// The state to go on with. The array of identifiers is cleared where nothing is refused.
+pub fn open(code: u32, day: u32, stood: &mut [u32; 1296]) -> Result<Portions, OpenError>
     ensures { Opens code day stood.old result stood.new }
 {
     if !checking::is_code(code) {
-        return Opened {
-            answer: Opening::BadCode,
-            state: begun(code, day, false),
-        };
+        return Err(OpenError::BadCode);
     }
     if !checking::is_accounting_day(day) {
-        return Opened {
-            answer: Opening::BadDay,
-            state: begun(code, day, false),
-        };
+        return Err(OpenError::BadDay);
     }
     *stood = shutting::unseen();
-    Opened {
-        answer: Opening::Open,
-        state: begun(code, day, true),
-    }
-}
-
-// The number of an answer, 0 for an open state.
-pub fn number_of(r: Opening) -> u32
-    ensures { result ≡ opening_number r }
-{
-    match r {
-        Opening::Open => 0,
-        Opening::BadCode => 1,
-        Opening::BadDay => 2,
-    }
+    Ok(begun(code, day))
 }

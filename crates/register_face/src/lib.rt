@@ -6,13 +6,13 @@
 ghost use Rattle.register_face.specs.Face.{BlankedAt, EnteredAt};
 
 use entering::{blanking, entering as registering};
-use results::store_size;
+use results::{leave, number_of};
 
 // A new register: 13 bytes.
 pub fn blank(code: u32, target: &mut [u8]) -> u32
     ensures { BlankedAt code target.old result target.new }
 {
-    blanking::number_of(blanking::blank(code, target))
+    number_of(blanking::blank(code, target))
 }
 
 pub fn enter(
@@ -26,7 +26,5 @@ pub fn enter(
     ensures { EnteredAt register.now file.now code day target.old written.old result target.new written.new }
 {
     let answer = registering::enter(register, file, code, day, target);
-    let refusal = registering::number_of(answer);
-    store_size(written, refusal == 0, registering::written_or(answer, 0));
-    refusal
+    leave(answer, written)
 }

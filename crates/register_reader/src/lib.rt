@@ -14,13 +14,11 @@ use text::strings;
 fn most_of(version: u32) -> u32
     ensures { result ≡ most_of version }
 {
-    if version == 1 {
-        return 64;
+    match version {
+        1 => 64,
+        2 => 1024,
+        _ => 0,
     }
-    if version == 2 {
-        return 1024;
-    }
-    0
 }
 
 fn is_version(version: u32) -> bool
@@ -73,9 +71,8 @@ fn ranges_stand(s: &[u8], latest: u32, n: usize) -> bool
 {
     let mut day: u32 = 0;
     let mut last: u32 = 0;
-    let mut at = 13;
-    let mut left = n;
-    while 0 < left {
+    for i in 0..n {
+        let at = 13 + 12 * i;
         let then = bytes::read(s, at, 4);
         let from = bytes::read(s, at + 4, 4);
         let to = bytes::read(s, at + 8, 4);
@@ -84,8 +81,6 @@ fn ranges_stand(s: &[u8], latest: u32, n: usize) -> bool
         }
         day = then;
         last = to;
-        at += 12;
-        left -= 1;
     }
     true
 }

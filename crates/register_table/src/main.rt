@@ -11,21 +11,11 @@ fn number(rt: &impl Print, name: &str, k: u32) -> io::Result<()> {
     println!(rt; "{name}: {k}")
 }
 
-fn print_byte(rt: &impl Print, b: u8) -> io::Result<()> {
-    print!(rt; "{b:02x}")
-}
-
-fn end_line(rt: &impl Print) -> io::Result<()> {
-    rt.println("")
-}
-
 fn print_bytes(rt: &impl Print, s: &[u8]) -> io::Result<()> {
-    let mut i = 0;
-    while i < s.len() {
-        print_byte(rt, s[i])?;
-        i += 1;
+    for &b in s {
+        print!(rt; "{b:02x}")?;
     }
-    end_line(rt)
+    rt.println("")
 }
 
 fn shown(
@@ -39,7 +29,7 @@ fn shown(
 ) -> io::Result<()> {
     let r = job::enter(register, file, code, day, target);
     number(rt, name, job::number_of(r))?;
-    let n = job::written_or(r, 0);
+    let n = r.unwrap_or(0);
     if n <= target.len() {
         print_bytes(rt, &target[..n])?;
     }
@@ -156,10 +146,8 @@ fn days_of_ranges(rt: &impl Print) -> io::Result<()> {
 fn odd(keys: &mut [u64])
     requires { length keys.old ≤ 1025 }
 {
-    let mut i = 0;
-    while i < keys.len() {
-        keys[i] = 202403040000001 + 2 * (i as u64);
-        i += 1;
+    for (i, key) in keys.iter_mut().enumerate() {
+        *key = 202403040000001 + 2 * (i as u64);
     }
 }
 
@@ -183,7 +171,7 @@ fn enter_ends(
 ) -> io::Result<()> {
     let r = job::enter(register, file, 300, 20240304, target);
     number(rt, name, job::number_of(r))?;
-    let n = job::written_or(r, 0);
+    let n = r.unwrap_or(0);
     if n <= target.len() {
         print_ends(rt, &target[..n])?;
     }

@@ -39,12 +39,10 @@ pub fn put_register(out: &mut [u8], code: u32, latest: u32, starts: &[u64], ends
     ensures { Wrote out.old 0 (register_bytes (record { code = code; latest = latest; ranges = ranges_of starts.now ends.now })) out.new result }
 {
     let mut at = put_head(out, code as u64, latest as u64, starts.len() as u64);
-    let mut i = 0;
-    while i < starts.len() {
+    for i in 0..starts.len() {
         let a = starts[i];
         let b = ends[i];
         at = put_range(out, at, a / 10000000, a % 10000000, b % 10000000);
-        i += 1;
     }
     at
 }

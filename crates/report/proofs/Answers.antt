@@ -9,7 +9,8 @@ use Rattle.laws.proofs.Truth.{by_test}
 use Rattle.laws.proofs.Parts.{take_rest}
 use Rattle.rules.specs.Faults.{Fault, written}
 use Rattle.ledger.specs.Slices.{held}
-use Rattle.listing_texts.specs.declared.job.Job.TheVariants.{Of, NoJob}
+use Rattle.std.specs.Prelude.{Some, None}
+use Rattle.listing_texts.specs.declared.job.Job.{Job}
 use Rattle.listing_texts.specs.Job.{job_of}
 use Rattle.listing_texts.specs.Printing.{listing_text, refused_text}
 use Rattle.report.specs.Program.{answer_text, job_text, printed}
@@ -58,12 +59,12 @@ module _ (refusal : List ℕ → ℕ → ℕ → ℕ) (faults : List ℕ → ℕ
   too_long h = rw (lt-ltb 65536 (length input) h)
 
   module _ (h : length input ≤ 65536) where
-    pub no_job : job_of input ≡ NoJob → refused_text 8 ≡ printed refusal faults input
+    pub no_job : job_of input ≡ None → refused_text 8 ≡ printed refusal faults input
     unfolding printed
     no_job e = rw (le-ltb 65536 (length input) h, e)
 
     -- the file is the part from place 14 on
-    pub has_job : (code day : ℕ) → job_of input ≡ Of code day
-        → job_text refusal faults (Of code day) (take (length input - 14) (drop 14 input)) ≡ printed refusal faults input
+    pub has_job : (job : Job) → job_of input ≡ Some job
+        → job_text refusal faults (Some job) (take (length input - 14) (drop 14 input)) ≡ printed refusal faults input
     unfolding printed
-    has_job code day e = rw (le-ltb 65536 (length input) h, e, take_rest 14 input)
+    has_job job e = rw (le-ltb 65536 (length input) h, e, take_rest 14 input)

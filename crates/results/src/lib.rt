@@ -1,32 +1,30 @@
-// A result behind a caller's pointer. Promised: it is stored where the job is done, else what stood there stays; it is never loaded. One
-// function for each width that a C host has pointers to. Stands on nothing.
+// An answer as a C host sees it. Promised: its number is its refusal's, or 0; its value behind a caller's pointer is stored where the job is
+// done, else what stood there stays; it is never loaded. Stands on nothing.
 #![tactic(auto)]
 
-ghost use Rattle.std.specs.Prelude.{◌≡◌, cond};
+ghost use Rattle.std.specs.Prelude.{◌≡◌, MatchResult};
+ghost use Rattle.std.specs.Result.{result_unwrap_or};
 
-// A total behind a pointer, where the job is done.
-pub fn store_total(at: &mut u64, done: bool, total: u64)
-    ensures { at.new ≡ cond done total at.old }
+// The number of an answer: its refusal's, 0 where nothing is refused.
+pub fn number_of<T: Drop, E: Into<u32>>(answer: Result<T, E>) -> u32
+    ensures { MatchResult answer (λ _. result ≡ 0) (λ e. E.converts e result) }
 {
-    if done {
-        *at = total;
+    match answer {
+        Ok(_) => 0,
+        Err(error) => error.into(),
     }
 }
 
-// A number behind a pointer, where the job is done.
-pub fn store_answer(at: &mut u32, done: bool, answer: u32)
-    ensures { at.new ≡ cond done answer at.old }
+// The number of an answer. Its value stands behind the pointer after, and where there is none, what stood there.
+pub fn leave<T: Copy, E: Into<u32>>(answer: Result<T, E>, at: &mut T) -> u32
+    ensures number { MatchResult answer (λ _. result ≡ 0) (λ e. E.converts e result) }
+    ensures after { at.new ≡ result_unwrap_or answer at.old }
 {
-    if done {
-        *at = answer;
-    }
-}
-
-// A length behind a pointer, where the job is done.
-pub fn store_size(at: &mut usize, done: bool, size: usize)
-    ensures { at.new ≡ cond done size at.old }
-{
-    if done {
-        *at = size;
+    match answer {
+        Ok(value) => {
+            *at = value;
+            0
+        }
+        Err(error) => error.into(),
     }
 }

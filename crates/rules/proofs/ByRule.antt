@@ -7,8 +7,6 @@ use mathlib.Core.List.Memᴰ
 use mathlib.Core.List.{List, map, Memᴰ}
 use mathlib.Core.Logic.{◌↔◌, ◌⊎◌, inl, inr}
 use Rattle.headings.specs.declared.Heading.{Heading}
-use Rattle.headings.specs.declared.Read.{Read}
-use Rattle.headings.specs.declared.Read.TheVariants.{Reads}
 use Rattle.figures.specs.declared.parts.Number.{Number}
 use Rattle.figures.specs.declared.parts.Number.TheVariants.{Good, Failing, Zero}
 use Rattle.fields.specs.declared.readings.Reading.{Reading}
@@ -26,6 +24,7 @@ use Rattle.rules.specs.Spots.{low_tests, field_tests, loose_tests, own_tests, bl
 use Rattle.rules.specs.Faults.{fault, faults}
 use Rattle.rules.specs.Demand.{spots_of}
 use Rattle.rules.proofs.Demand.{listed_by_its_test}
+use Rattle.std.specs.Prelude.{Option, Some}
 
 -- a number does not fail where it is zero
 fails_or_zero : (said : Reading) → of_party number_fails said ≡ true → of_party number_zero said ≡ true → ⊥
@@ -101,18 +100,18 @@ module _ (terms : Terms) (file : List ℕ) where
         (Memᴰ.append_right (own_tests terms (digest i) (head_of i.head)) (Memᴰ.head refl)))))
 
     -- 10 to 15, and 17 to 21 and 30 to 39, at one that reads as h
-    module _ (h : Heading) (e : head_of i.head ≡ Reads h) where
+    module _ (h : Heading) (e : head_of i.head ≡ Some h) where
       pub at_readable : (r : ℕ) (b : Bool)
-          → Memᴰ (r if b) (own_tests terms (digest i) (Reads h)) ⊎ Memᴰ (r if b) (block_tests (map digest above) (digest i) (Reads h))
+          → Memᴰ (r if b) (own_tests terms (digest i) (Some h)) ⊎ Memᴰ (r if b) (block_tests (map digest above) (digest i) (Some h))
           → InList i.head.owner.no r ↔ (b ≡ true)
       unfolding head_tests
       at_readable r b (inl t) =
           at_heading r b (Memᴰ.tail (Memᴰ.tail (Memᴰ.tail
-          (Memᴰ.append_left _ (subst (λ (hd : Read). Memᴰ (r if b) (own_tests terms (digest i) hd)) (sym e) t)))))
+          (Memᴰ.append_left _ (subst (λ (hd : Option Heading). Memᴰ (r if b) (own_tests terms (digest i) hd)) (sym e) t)))))
       at_readable r b (inr t) =
           at_heading r b (Memᴰ.tail (Memᴰ.tail (Memᴰ.tail
           (Memᴰ.append_right (own_tests terms (digest i) (head_of i.head))
-          (Memᴰ.tail (subst (λ (hd : Read). Memᴰ (r if b) (block_tests (map digest above) (digest i) hd)) (sym e) t))))))
+          (Memᴰ.tail (subst (λ (hd : Option Heading). Memᴰ (r if b) (block_tests (map digest above) (digest i) hd)) (sym e) t))))))
 
       -- so 19
       pub nineteen_at_heading : InList i.head.owner.no 19 ↔ (rule19 (map digest above) h ≡ true)

@@ -10,8 +10,6 @@ use mathlib.Core.Logic.{◌⊎◌, inl, inr}
 use lib.Dec.{T, leb, ltb}
 use borrow.Author.Tests.{leb-true, ltb-true}
 use Rattle.laws.proofs.Entries.{and_left, and_right}
-use Rattle.headings.specs.declared.Read.{Read}
-use Rattle.headings.specs.declared.Read.TheVariants.{Reads, Unreadable}
 use Rattle.rules.specs.Terms.{Terms}
 use Rattle.rules.specs.Rows.{Row, FieldRow, LowRow}
 use Rattle.rules.specs.Tree.{Owned, Item, File}
@@ -20,6 +18,8 @@ use Rattle.rules.specs.Tests.{Test, ◌if◌, Spot}
 use Rattle.rules.specs.LineRules.{Place, nowhere, inside, rule1, rule4}
 use Rattle.rules.specs.Spots.{low_tests, field_tests, loose_tests, own_tests, block_tests, rule16_at, head_tests, low_spot, lows, place_in, field_spot, fields, inner, items, spots}
 use Rattle.rules.proofs.Rising.{Rising}
+use Rattle.headings.specs.declared.Heading.{Heading}
+use Rattle.std.specs.Prelude.{None, Option as Optional, Some}
 
 -- ---- tests that ascend
 -- the rules ascend, from k on, and are below 64
@@ -69,11 +69,11 @@ module _ (terms : Terms) where
   unfolding head_tests own_tests block_tests
   head_ascends above i below = go (head_of i.head)
     where
-      go : (hd : Read)
+      go : (hd : Optional Heading)
           → T (ascending 0 ((1 if rule1 i.head.owner) ∷ (4 if rule4 i.head.owner) ∷ (6 if is_unreadable (head_of i.head))
           ∷ (own_tests terms (digest i) hd ++ ((16 if rule16_at above i below) ∷ block_tests (map digest above) (digest i) hd))))
-      go (Reads h) = tt
-      go Unreadable = tt
+      go (Some h) = tt
+      go None = tt
 
   lows_orderly : (p : Place) (ls : List LowRow) → Orderly (lows p ls)
   unfolding low_spot low_tests

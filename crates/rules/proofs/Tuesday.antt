@@ -4,28 +4,27 @@ use Prim.Native.Nat.{ℕ}
 use mathlib.Core.Path.{◌≡◌, refl}
 use mathlib.Core.List.{List, [], ◌∷◌, ◌++◌}
 use Rattle.days.specs.Days.{is_real, is_leap, row, month_length, day_number}
-use Rattle.headings.specs.declared.Read.TheVariants.{Reads}
 use Rattle.headings.specs.ItemTypes.{is_input, is_payment, is_priority, is_trilateral}
 use Rattle.headings.specs.HeadRules.{rule10, rule13, rule14}
-use Rattle.rules.specs.declared.FirstKc.{FirstKc}
-use Rattle.rules.specs.declared.FirstKc.TheVariants.{NoKc, Pays}
-use Rattle.rules.specs.declared.FirstIn.{FirstIn}
-use Rattle.rules.specs.declared.FirstIn.TheVariants.{NoIn, Runs}
-use Rattle.rules.specs.declared.FirstSum.TheVariants.{NoSum, Says}
+use Rattle.rules.specs.declared.First.{First}
+use Rattle.rules.specs.declared.First.TheVariants.{Missing, Says}
+use Rattle.rules.specs.declared.Payment.{Payment}
+use Rattle.rules.specs.declared.Range.{Range}
 use Rattle.rules.specs.declared.Sum.{Sum}
 use Rattle.rules.specs.declared.Digest.{Digest}
 use Rattle.rules.specs.Terms.{input}
 use Rattle.rules.specs.Tests.{broken_of}
 use Rattle.rules.specs.Spots.{own_tests, block_tests}
+use Rattle.std.specs.Prelude.{Some}
 
 abbrev no_sum : Sum
-no_sum = record { stated = NoSum }
+no_sum = record { stated = Missing }
 
 -- an item of 300, for 710, on 4 March 2024; S1 states c and s
-abbrev item : (kind number : ℕ) → FirstKc → FirstIn → (c s : ℕ) → Digest
+abbrev item : (kind number : ℕ) → First Payment → First Range → (c s : ℕ) → Digest
 item kind number kc span c s =
     record {
-      head = Reads (record {
+      head = Some (record {
         kind = kind;
         day = 20240304;
         first = record { 0 = 300 };
@@ -36,17 +35,17 @@ item kind number kc span c s =
       });
       kc = kc;
       span = span;
-      sums = record { groups = no_sum ∷ record { stated = Says c (record { 0 = s }) } ∷ no_sum ∷ no_sum ∷ no_sum ∷ no_sum ∷ no_sum ∷ no_sum ∷ no_sum ∷ no_sum ∷ [] };
+      sums = record { groups = no_sum ∷ record { stated = Says (record { count = c; sum = record { 0 = s } }) } ∷ no_sum ∷ no_sum ∷ no_sum ∷ no_sum ∷ no_sum ∷ no_sum ∷ no_sum ∷ no_sum ∷ [] };
     }
 
 abbrev payment : (kind number amount : ℕ) → Digest
-payment kind number amount = item kind number (Pays (record { 0 = amount }) 20240304) NoIn 0 0
+payment kind number amount = item kind number (Says (record { amount = record { 0 = amount }; day = 20240304 })) Missing 0 0
 
 abbrev block : List Digest
 block = payment 13 2 2500 ∷ payment 11 1 12500 ∷ []
 
 abbrev closing : (c s : ℕ) → Digest
-closing c s = item 51 0 NoKc (Runs (record { 0 = 1 }) (record { 0 = 2 })) c s
+closing c s = item 51 0 Missing (Says (record { first = record { 0 = 1 }; last = record { 0 = 2 } })) c s
 
 -- the rules that are broken at its heading, 16 left aside
 abbrev broken : List Digest → Digest → List ℕ

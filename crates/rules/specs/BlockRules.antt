@@ -5,10 +5,10 @@ use Rattle.laws.specs.Lists.{sum}
 use Rattle.headings.specs.declared.ItemNo.{ItemNo}
 use Rattle.headings.specs.declared.Heading.{Heading}
 use Rattle.headings.specs.ItemTypes.{is_closing, is_payment, is_priority}
-use Rattle.rules.specs.declared.FirstIn.{FirstIn}
-use Rattle.rules.specs.declared.FirstIn.TheVariants.{NoIn, BrokenIn, Runs}
-use Rattle.rules.specs.declared.FirstSum.{FirstSum}
-use Rattle.rules.specs.declared.FirstSum.TheVariants.{NoSum, BrokenSum, Says}
+use Rattle.rules.specs.declared.First.{First}
+use Rattle.rules.specs.declared.First.TheVariants.{Missing, Unread, Says}
+use Rattle.rules.specs.declared.Range.{Range}
+use Rattle.rules.specs.declared.Statement.{Statement}
 use Rattle.rules.specs.declared.Sum.{Sum}
 use Rattle.rules.specs.declared.Sums.{Sums}
 use Rattle.rules.specs.declared.Digest.{Digest}
@@ -46,25 +46,25 @@ unlike p q = (p && not q) || (not p && q)
 abbrev pub rule20 : List Digest → Heading → Bool
 rule20 above h = is_payment h.kind && unlike (is_priority h.kind) (is_priority (oldest h.kind (payments (readable above))))
 
-abbrev pub span_wrong : List Heading → FirstIn → Bool
-span_wrong hs NoIn = true
-span_wrong hs BrokenIn = false
-span_wrong [] (Runs a b) = false
-span_wrong (g ∷ gs) (Runs a b) = not (eqb a.0 (oldest g gs).number.0 && eqb b.0 g.number.0)
+abbrev pub span_wrong : List Heading → First Range → Bool
+span_wrong hs Missing = true
+span_wrong hs Unread = false
+span_wrong [] (Says p) = false
+span_wrong (g ∷ gs) (Says p) = not (eqb p.first.0 (oldest g gs).number.0 && eqb p.last.0 g.number.0)
 
 -- '21: a 51 with no IN, or whose first IN reads and isn't the first and last number of the block's other headings, if any'
-abbrev pub rule21 : List Digest → Heading → FirstIn → Bool
+abbrev pub rule21 : List Digest → Heading → First Range → Bool
 rule21 above h span = is_closing h.kind && span_wrong (readable (block_above above)) span
 
 -- what reads and isn't the count n and the sum t; absent means 0 and 0. 'A true sum of 10^17 or more equals no Sd': it has 17 digits
 -- (`large_sum`, `large_count` of `account`)
-abbrev pub misstated : ℕ → ℕ → FirstSum → Bool
-misstated n t NoSum = not (eqb 0 n && eqb 0 t)
-misstated n t BrokenSum = false
-misstated n t (Says c s) = not (eqb c n && eqb s.0 t)
+abbrev pub misstated : ℕ → ℕ → First Statement → Bool
+misstated n t Missing = not (eqb 0 n && eqb 0 t)
+misstated n t Unread = false
+misstated n t (Says p) = not (eqb p.count n && eqb p.sum.0 t)
 
-abbrev pub stated_in : List Sum → ℕ → FirstSum
-stated_in groups d = (get_or groups d (record { stated = NoSum })).stated
+abbrev pub stated_in : List Sum → ℕ → First Statement
+stated_in groups d = (get_or groups d (record { stated = Missing })).stated
 
 -- '30 to 38: for group d = 0 to 8, a 51 whose first Sd reads (absent means 0 and 0) and isn't the count and sum over the block's items of
 -- input type other than 51 with tens digit d and a first KC that reads': here 30 + d; 'group 9 joins as rule 39' (document 02, A3)

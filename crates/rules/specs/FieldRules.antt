@@ -1,9 +1,7 @@
 -- Rules 5 to 9, 23 and 24, at a field of an item. The fields above one in its item are listed with the nearest first.
-use Rattle.std.specs.Prelude.{ℕ, Bool, true, false, not, ◌&&◌, ◌||◌, List, [], ◌∷◌, eqb, ltb}
+use Rattle.std.specs.Prelude.{ℕ, Bool, true, false, not, ◌&&◌, ◌||◌, List, [], ◌∷◌, eqb, ltb, None, Option, Some}
 use Rattle.laws.specs.Tests.{among}
 use Rattle.days.specs.Days.{is_real, later}
-use Rattle.headings.specs.declared.Read.{Read}
-use Rattle.headings.specs.declared.Read.TheVariants.{Reads, Unreadable}
 use Rattle.headings.specs.ItemTypes.{is_payment}
 use Rattle.figures.specs.declared.parts.Number.{Number}
 use Rattle.figures.specs.declared.parts.Number.TheVariants.{Good, Failing, Zero}
@@ -17,6 +15,7 @@ use Rattle.rules.specs.Terms.{Terms}
 use Rattle.rules.specs.Rows.{FieldRow}
 use Rattle.rules.specs.Tree.{Owned}
 use Rattle.rules.specs.Said.{continuations, says, stands}
+use Rattle.headings.specs.declared.Heading.{Heading}
 
 -- '5: identifier stood already in this item'
 abbrev pub rule5 : List (Owned FieldRow) → Owned FieldRow → Bool
@@ -89,28 +88,28 @@ abbrev pub is_first_kc : List (Owned FieldRow) → Owned FieldRow → Bool
 is_first_kc above g = eqb g.owner.ident (named "KC") && not (stands (named "KC") above)
 
 -- the heading reads, and so does the field, as a KC whose day breaks 8
-abbrev pub late : Terms → Read → Reading → Bool
-late terms (Reads h) (Paid a d) = rule8 terms h.kind d
-late terms (Reads h) Broken = false
-late terms (Reads h) Plain = false
-late terms (Reads h) (Span a b) = false
-late terms (Reads h) (Stated n a) = false
-late terms (Reads h) (Party b) = false
-late terms Unreadable r = false
+abbrev pub late : Terms → Option Heading → Reading → Bool
+late terms (Some h) (Paid a d) = rule8 terms h.kind d
+late terms (Some h) Broken = false
+late terms (Some h) Plain = false
+late terms (Some h) (Span a b) = false
+late terms (Some h) (Stated n a) = false
+late terms (Some h) (Party b) = false
+late terms None r = false
 
 -- .. whose amount breaks 9
-abbrev pub large : Read → Reading → Bool
-large (Reads h) (Paid a d) = rule9 h.kind a.0
-large (Reads h) Broken = false
-large (Reads h) Plain = false
-large (Reads h) (Span a b) = false
-large (Reads h) (Stated n a) = false
-large (Reads h) (Party b) = false
-large Unreadable r = false
+abbrev pub large : Option Heading → Reading → Bool
+large (Some h) (Paid a d) = rule9 h.kind a.0
+large (Some h) Broken = false
+large (Some h) Plain = false
+large (Some h) (Span a b) = false
+large (Some h) (Stated n a) = false
+large (Some h) (Party b) = false
+large None r = false
 
 -- so at a field, below a heading that reads as h
-abbrev pub rule8_at : Terms → Read → List (Owned FieldRow) → Owned FieldRow → Bool
+abbrev pub rule8_at : Terms → Option Heading → List (Owned FieldRow) → Owned FieldRow → Bool
 rule8_at terms h above g = is_first_kc above g && late terms h (says g)
 
-abbrev pub rule9_at : Read → List (Owned FieldRow) → Owned FieldRow → Bool
+abbrev pub rule9_at : Option Heading → List (Owned FieldRow) → Owned FieldRow → Bool
 rule9_at h above g = is_first_kc above g && large h (says g)

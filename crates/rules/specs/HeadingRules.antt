@@ -4,8 +4,9 @@ use Rattle.std.specs.Prelude.{Bool, true, false, not, ◌&&◌, ◌||◌, eqb}
 use Rattle.days.specs.Days.{is_real, later}
 use Rattle.headings.specs.declared.Heading.{Heading}
 use Rattle.headings.specs.ItemTypes.{is_payment}
-use Rattle.rules.specs.declared.FirstKc.{FirstKc}
-use Rattle.rules.specs.declared.FirstKc.TheVariants.{NoKc, BrokenKc, Pays}
+use Rattle.rules.specs.declared.First.{First}
+use Rattle.rules.specs.declared.First.TheVariants.{Missing, Unread, Says}
+use Rattle.rules.specs.declared.Payment.{Payment}
 use Rattle.rules.specs.Terms.{Terms}
 use Rattle.rules.specs.Rows.{Row}
 use Rattle.rules.specs.Tree.{Owned}
@@ -23,11 +24,11 @@ rule11 terms h = not (is_real h.day) || (later h.day terms.today 0 || later term
 abbrev pub rule12 : Terms → Heading → Bool
 rule12 terms h = not (eqb h.first.0 terms.code.0)
 
-abbrev pub no_kc : FirstKc → Bool
-no_kc NoKc = true
-no_kc BrokenKc = false
-no_kc (Pays a day) = false
+abbrev pub no_kc : First Payment → Bool
+no_kc Missing = true
+no_kc Unread = false
+no_kc (Says p) = false
 
 -- '15: not a 51, and no KC line', 'for input types'
-abbrev pub rule15 : Heading → FirstKc → Bool
+abbrev pub rule15 : Heading → First Payment → Bool
 rule15 h kc = is_payment h.kind && no_kc kc

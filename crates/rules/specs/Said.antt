@@ -1,24 +1,22 @@
 -- What a field says with its continuations, what a heading reads as, and what an item says that the rules at headings ask for.
-use Rattle.std.specs.Prelude.{ℕ, Bool, true, false, cond, ◌||◌, List, [], ◌∷◌, eqb}
-use Rattle.std.proofs.Math.Option.{Option, none, some}
-use Rattle.headings.specs.declared.Read.{Read}
-use Rattle.headings.specs.declared.Read.TheVariants.{Reads, Unreadable}
+use Rattle.std.specs.Prelude.{ℕ, Bool, true, false, cond, ◌||◌, List, [], ◌∷◌, eqb, None, Option, Some}
+use Rattle.std.proofs.Math.Option.{Option as Maybe, none, some}
 use Rattle.headings.specs.Reading.{heading_of}
 use Rattle.fields.specs.declared.readings.Reading.{Reading}
-use Rattle.fields.specs.declared.readings.Reading.TheVariants.{Broken, Plain, Paid, Span, Stated, Party}
+use Rattle.fields.specs.declared.readings.Reading.TheVariants.{Paid, Span, Stated}
 use Rattle.fields.specs.Kinds.{named}
 use Rattle.fields.specs.Classes.{class_of, sum_group}
 use Rattle.fields.specs.Tails.{says_of}
-use Rattle.rules.specs.declared.FirstKc.{FirstKc}
-use Rattle.rules.specs.declared.FirstKc.TheVariants.{NoKc, BrokenKc, Pays}
-use Rattle.rules.specs.declared.FirstIn.{FirstIn}
-use Rattle.rules.specs.declared.FirstIn.TheVariants.{NoIn, BrokenIn, Runs}
-use Rattle.rules.specs.declared.FirstSum.{FirstSum}
-use Rattle.rules.specs.declared.FirstSum.TheVariants.{NoSum, BrokenSum, Says}
+use Rattle.rules.specs.declared.First.{First}
+use Rattle.rules.specs.declared.First.TheVariants.{Missing, Unread, Says}
+use Rattle.rules.specs.declared.Payment.{Payment}
+use Rattle.rules.specs.declared.Range.{Range}
+use Rattle.rules.specs.declared.Statement.{Statement}
 use Rattle.rules.specs.declared.Sum.{Sum}
 use Rattle.rules.specs.declared.Digest.{Digest}
 use Rattle.rules.specs.Rows.{Row, FieldRow, LowRow}
 use Rattle.rules.specs.Tree.{Owned, Item}
+use Rattle.headings.specs.declared.Heading.{Heading}
 
 -- ---- fields
 -- the continuations among some lines
@@ -36,16 +34,16 @@ stands i [] = false
 stands i (g ∷ gs) = eqb g.owner.ident i || stands i gs
 
 -- the first of two, where there is one
-abbrev pub or_else : Option Reading → Option Reading → Option Reading
+abbrev pub or_else : Maybe Reading → Maybe Reading → Maybe Reading
 or_else (some r) o = some r
 or_else none o = o
 
-abbrev pub if_there : Bool → Reading → Option Reading
+abbrev pub if_there : Bool → Reading → Maybe Reading
 if_there true r = some r
 if_there false r = none
 
 -- what the first field says whose identifier passes a test
-unfoldable pub first_said : (ℕ → Bool) → List (Owned FieldRow) → Option Reading
+unfoldable pub first_said : (ℕ → Bool) → List (Owned FieldRow) → Maybe Reading
 first_said p [] = none
 first_said p (g ∷ gs) = or_else (if_there (p g.owner.ident) (says g)) (first_said p gs)
 
@@ -62,51 +60,39 @@ continued [] = false
 continued (l ∷ ls) = l.continues || continued ls
 
 -- a heading reads if it has its layout, which has no continuation
-unfoldable pub head_of : Owned Row → Read
-head_of g = cond (continued g.below) Unreadable (heading_of g.owner.bytes)
+unfoldable pub head_of : Owned Row → Option Heading
+head_of g = cond (continued g.below) None (heading_of g.owner.bytes)
 
-abbrev pub is_unreadable : Read → Bool
-is_unreadable (Reads h) = false
-is_unreadable Unreadable = true
+abbrev pub is_unreadable : Option Heading → Bool
+is_unreadable (Some h) = false
+is_unreadable None = true
 
 -- ---- items
--- its first KC: none, one that does not read, or its amount and day
-abbrev pub kc_by : Reading → FirstKc
-kc_by (Paid a d) = Pays a d
-kc_by Broken = BrokenKc
-kc_by Plain = BrokenKc
-kc_by (Span a b) = BrokenKc
-kc_by (Stated n a) = BrokenKc
-kc_by (Party b) = BrokenKc
+-- what a KC says: an amount and a day
+abbrev pub kc_by : Reading → First Payment
+kc_by (Paid a d) = Says (record { amount = a; day = d })
+kc_by r = Unread
 
-abbrev pub kc_of : Option Reading → FirstKc
-kc_of none = NoKc
+abbrev pub kc_of : Maybe Reading → First Payment
+kc_of none = Missing
 kc_of (some r) = kc_by r
 
--- its first IN
-abbrev pub span_by : Reading → FirstIn
-span_by (Span a b) = Runs a b
-span_by Broken = BrokenIn
-span_by Plain = BrokenIn
-span_by (Paid a d) = BrokenIn
-span_by (Stated n a) = BrokenIn
-span_by (Party b) = BrokenIn
+-- an IN: the first number and the last
+abbrev pub span_by : Reading → First Range
+span_by (Span a b) = Says (record { first = a; last = b })
+span_by r = Unread
 
-abbrev pub span_of : Option Reading → FirstIn
-span_of none = NoIn
+abbrev pub span_of : Maybe Reading → First Range
+span_of none = Missing
 span_of (some r) = span_by r
 
--- its first Sd
-abbrev pub stated_by : Reading → FirstSum
-stated_by (Stated n a) = Says n a
-stated_by Broken = BrokenSum
-stated_by Plain = BrokenSum
-stated_by (Paid a d) = BrokenSum
-stated_by (Span a b) = BrokenSum
-stated_by (Party b) = BrokenSum
+-- an Sd: a count and a sum
+abbrev pub stated_by : Reading → First Statement
+stated_by (Stated n a) = Says (record { count = n; sum = a })
+stated_by r = Unread
 
-abbrev pub stated_of : Option Reading → FirstSum
-stated_of none = NoSum
+abbrev pub stated_of : Maybe Reading → First Statement
+stated_of none = Missing
 stated_of (some r) = stated_by r
 
 -- one for each group

@@ -1,9 +1,7 @@
 -- Which rules are tested at which line, each under its number, and all lines of a file in their order. What stands above a line is listed
 -- with the nearest first.
-use Rattle.std.specs.Prelude.{ℕ, Bool, List, [], ◌∷◌, ◌++◌, map}
-use Rattle.std.proofs.Math.Option.{Option, none, some}
-use Rattle.headings.specs.declared.Read.{Read}
-use Rattle.headings.specs.declared.Read.TheVariants.{Reads, Unreadable}
+use Rattle.std.specs.Prelude.{ℕ, Bool, List, [], ◌∷◌, ◌++◌, map, None, Option, Some}
+use Rattle.std.proofs.Math.Option.{Option as Maybe, none, some}
 use Rattle.headings.specs.HeadRules.{rule10, rule13, rule14}
 use Rattle.lines.specs.Lines.{lines}
 use Rattle.rules.specs.declared.Digest.{Digest}
@@ -16,6 +14,7 @@ use Rattle.rules.specs.LineRules.{Place, nowhere, prelude, inside, rule1, rule2,
 use Rattle.rules.specs.FieldRules.{rule5, rule6, rule7, rule8_at, rule9_at, rule23, rule24}
 use Rattle.rules.specs.HeadingRules.{rule6_at, rule11, rule12, rule15}
 use Rattle.rules.specs.BlockRules.{rule16, rule17, rule18, rule19, rule20, rule21, rule30}
+use Rattle.headings.specs.declared.Heading.{Heading}
 
 -- ---- the tests at a line
 -- at a continuation, or a line of no kind
@@ -27,7 +26,7 @@ low_tests p l =
     (4 if rule4 l.row) ∷ []
 
 -- at a field of an item, by what its heading reads as and the fields above it
-unfoldable pub field_tests : Terms → Read → List (Owned FieldRow) → Owned FieldRow → List Test
+unfoldable pub field_tests : Terms → Option Heading → List (Owned FieldRow) → Owned FieldRow → List Test
 field_tests terms h above g =
     (1 if rule1 g.owner.row) ∷
     (4 if rule4 g.owner.row) ∷
@@ -47,9 +46,9 @@ loose_tests g =
     (4 if rule4 g.owner.row) ∷ []
 
 -- at a heading, 10 to 15: 'At a readable heading'
-unfoldable pub own_tests : Terms → Digest → Read → List Test
-own_tests terms it Unreadable = []
-own_tests terms it (Reads h) =
+unfoldable pub own_tests : Terms → Digest → Option Heading → List Test
+own_tests terms it None = []
+own_tests terms it (Some h) =
     (10 if rule10 h) ∷
     (11 if rule11 terms h) ∷
     (12 if rule12 terms h) ∷
@@ -58,9 +57,9 @@ own_tests terms it (Reads h) =
     (15 if rule15 h it.kc) ∷ []
 
 -- 17 to 21 and 30 to 39, by the items above: these 'concern readable headings'
-unfoldable pub block_tests : List Digest → Digest → Read → List Test
-block_tests above it Unreadable = []
-block_tests above it (Reads h) =
+unfoldable pub block_tests : List Digest → Digest → Option Heading → List Test
+block_tests above it None = []
+block_tests above it (Some h) =
     (17 if rule17 above h) ∷
     (18 if rule18 above h) ∷
     (19 if rule19 above h) ∷
@@ -102,20 +101,20 @@ abbrev pub lows : Place → List LowRow → List Spot
 lows p [] = []
 lows p (l ∷ ls) = low_spot p l ∷ lows p ls
 
-abbrev pub place_in : Option (Owned Row) → Place
+abbrev pub place_in : Maybe (Owned Row) → Place
 place_in none = prelude
 place_in (some h) = inside
 
 module _ (terms : Terms) where
   -- a field, with the heading of its item if it has one, and the fields above it there
-  abbrev pub field_tests_in : Option (Owned Row) → List (Owned FieldRow) → Owned FieldRow → List Test
+  abbrev pub field_tests_in : Maybe (Owned Row) → List (Owned FieldRow) → Owned FieldRow → List Test
   field_tests_in none above g = loose_tests g
   field_tests_in (some h) above g = field_tests terms (head_of h) above g
 
-  unfoldable pub field_spot : Option (Owned Row) → List (Owned FieldRow) → Owned FieldRow → Spot
+  unfoldable pub field_spot : Maybe (Owned Row) → List (Owned FieldRow) → Owned FieldRow → Spot
   field_spot h above g = spot g.owner.row.no (field_tests_in h above g)
 
-  abbrev pub fields : Option (Owned Row) → List (Owned FieldRow) → List (Owned FieldRow) → List Spot
+  abbrev pub fields : Maybe (Owned Row) → List (Owned FieldRow) → List (Owned FieldRow) → List Spot
   fields h above [] = []
   fields h above (g ∷ gs) = field_spot h above g ∷ (lows (place_in h) g.below ++ fields h (g ∷ above) gs)
 

@@ -22,35 +22,41 @@
 // for each rule. What the code keeps and computes is no part of this: its models stand in the crates above, and say so in their first line.
 #![tactic(auto)]
 
-use headings::{Amount, ItemNo, Read};
+use headings::{Amount, Heading, ItemNo};
 
-// The first KC of an item: its amount and its day.
+// What an item's first field of a kind says: there is none, it does not read, or what it says.
 #[derive(Clone, Copy)]
-pub enum FirstKc {
-    NoKc,
-    BrokenKc,
-    Pays(Amount, u32),
+pub enum First<T> {
+    Missing,
+    Unread,
+    Says(T),
 }
 
-// The first IN of an item: the first and the last number that it names.
+// What a KC says.
 #[derive(Clone, Copy)]
-pub enum FirstIn {
-    NoIn,
-    BrokenIn,
-    Runs(ItemNo, ItemNo),
+pub struct Payment {
+    pub amount: Amount,
+    pub day: u32,
 }
 
-// The first Sd of an item: the count and the sum that it states.
+// What an IN says: the first and the last number that it names.
 #[derive(Clone, Copy)]
-pub enum FirstSum {
-    NoSum,
-    BrokenSum,
-    Says(u32, Amount),
+pub struct Range {
+    pub first: ItemNo,
+    pub last: ItemNo,
 }
 
+// What an S0 to S9 states.
+#[derive(Clone, Copy)]
+pub struct Statement {
+    pub count: u32,
+    pub sum: Amount,
+}
+
+// The first Sd of an item.
 #[derive(Clone, Copy)]
 pub struct Sum {
-    pub stated: FirstSum,
+    pub stated: First<Statement>,
 }
 
 // The first S0 to S9 of an item. Only a 51 is asked for them.
@@ -62,8 +68,8 @@ pub struct Sums {
 // An item, as the rules at headings see it.
 #[derive(Clone, Copy)]
 pub struct Digest {
-    pub head: Read,
-    pub kc: FirstKc,
-    pub span: FirstIn,
+    pub head: Option<Heading>,
+    pub kc: First<Payment>,
+    pub span: First<Range>,
     pub sums: Sums,
 }

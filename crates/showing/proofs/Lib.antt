@@ -1,4 +1,3 @@
-pub mod Signs
 pub mod Written
 pub mod Unique
 pub mod Examples

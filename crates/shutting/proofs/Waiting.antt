@@ -6,9 +6,9 @@ use Prim.Native.Nat.{ℕ, ◌+◌}
 use lib.Dec.{eqb}
 use borrow.Author.Tests.{eqb-true, eqb-false}
 use Rattle.laws.specs.Tests.{mark}
-use Rattle.headings.specs.declared.Read.{Read}
-use Rattle.rules.specs.declared.FirstKc.{FirstKc}
-use Rattle.rules.specs.declared.FirstIn.{FirstIn}
+use Rattle.rules.specs.declared.First.{First}
+use Rattle.rules.specs.declared.Payment.{Payment}
+use Rattle.rules.specs.declared.Range.{Range}
 use Rattle.rules.specs.Faults.{Fault}
 use Rattle.rules.specs.Said.{is_unreadable}
 use Rattle.rules.specs.Blocks.{closes_at}
@@ -21,6 +21,8 @@ use Rattle.closing.specs.declared.Wait.{Wait}
 use Rattle.closing.specs.Closing.{shut_by, close_by}
 use Rattle.shutting.specs.declared.Starts.{Starts}
 use Rattle.shutting.specs.Starts.{Stands, WaitsAt, start_of}
+use Rattle.headings.specs.declared.Heading.{Heading}
+use Rattle.std.specs.Prelude.{Option}
 
 -- where the heading starts that waits then: the line is none, or that of the heading, or the one that waited
 module _ (s : Starts) (n : ℕ) (w : Wait) (off : ℕ → ℕ) (S : Stands off s n w.line) where
@@ -38,7 +40,7 @@ module _ (s : Starts) (n : ℕ) (w : Wait) (off : ℕ → ℕ) (S : Stands off s
   starts_at true false true b b' m = one_of_three w.line (λ x y. S.at_wait)
   starts_at true false false b b' m = one_of_three n (λ x y. absurd (y refl))
 
-pub waits_at : (j : Basis) (c : Course) (w : Wait) (n m : ℕ) (r : Read) (kc : FirstKc) (span : FirstIn) (groups : ℕ) (s : Starts) {x : Wait} → x ≡ (close_by j c w n m r kc span groups).wait → {k : ℕ} → k ≡ start_of s x.line n
+pub waits_at : (j : Basis) (c : Course) (w : Wait) (n m : ℕ) (r : Option Heading) (kc : First Payment) (span : First Range) (groups : ℕ) (s : Starts) {x : Wait} → x ≡ (close_by j c w n m r kc span groups).wait → {k : ℕ} → k ≡ start_of s x.line n
     → WaitsAt s n w.line x.line k
 unfolding close_by
 waits_at j c w n m r kc span groups s {x} e {k} ek off S =

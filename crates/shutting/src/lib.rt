@@ -13,12 +13,12 @@ ghost use Rattle.shutting.specs.Starts.{Stands, WaitsAt, start_of};
 
 use blocks::Course;
 use closing::Wait;
-use headings::{Heading, Read};
+use headings::Heading;
 use judging::opening;
 use judging::opening::Open;
 use ledger::Ledger;
 use own_rules::Basis;
-use rules::{FirstIn, FirstKc};
+use rules::{First, Payment, Range};
 
 // No identifier stood.
 pub fn unseen() -> [u32; 1296]
@@ -71,7 +71,7 @@ pub fn count_item(
     no: u32,
     reads: bool,
     h: Heading,
-    kc: FirstKc,
+    kc: First<Payment>,
 )
     ensures counts_after { counts.new ≡ counts_by counts.old no (read_as reads h) kc }
     ensures sums_after { sums.new ≡ sums_by sums.old no (read_as reads h) kc }
@@ -93,9 +93,9 @@ fn shut_item(
     basis: Basis,
     no: u32,
     own: u64,
-    read: Read,
-    kc: FirstKc,
-    span: FirstIn,
+    read: Option<Heading>,
+    kc: First<Payment>,
+    span: First<Range>,
     groups: u64,
     c: Course,
     w: Wait,
@@ -109,16 +109,13 @@ fn shut_item(
     ensures waits_at { WaitsAt starts no w.line result.wait.line result.start }
 {
     let s = closing::close_item(basis, c, w, no, own, read, kc, span, groups);
-    let course = s.course;
-    let wait = s.wait;
-    let start = start_of(starts, wait.line, no);
     let first = ledger::enter(lines, rules, offsets, g, w.line, starts.wait, s.told);
     let ledger = ledger::enter(lines, rules, offsets, first, no, starts.head, s.marks);
     Closed {
         ledger,
-        course,
-        wait,
-        start,
+        course: s.course,
+        wait: s.wait,
+        start: start_of(starts, s.wait.line, no),
     }
 }
 
@@ -135,8 +132,8 @@ pub fn shut_all(
     own: u64,
     reads: bool,
     h: Heading,
-    kc: FirstKc,
-    span: FirstIn,
+    kc: First<Payment>,
+    span: First<Range>,
     groups: u64,
     c: Course,
     w: Wait,

@@ -12,12 +12,10 @@ fn holds_pair(s: &[u8], a: u8, b: u8) -> bool
     ensures { result ≡ false → Apart s.now a b (length s.now) }
 {
     let mut found = false;
-    let mut i = 1;
-    while i < s.len() {
+    for i in 1..s.len() {
         if (s[i - 1] == a) & (s[i] == b) {
             found = true;
         }
-        i += 1;
     }
     found
 }
@@ -51,14 +49,12 @@ fn near(s: &[u8], at: usize, stop: usize, a: u8, b: u8) -> usize
     requires { (at ≤ stop) × (stop ≤ length s.now) }
     ensures { IsSign s.now a b at stop result }
 {
-    let mut i = at;
-    while i < stop {
+    for i in at..stop {
         if stands(s, i, a, b) {
             return i;
         }
-        i += 1;
     }
-    i
+    stop
 }
 
 // The same, sixteen places at a time where no sign is near.
@@ -67,11 +63,12 @@ pub fn sign_from(s: &[u8], at: usize, stop: usize, a: u8, b: u8) -> usize
     ensures { IsSign s.now a b at stop result }
 {
     let mut i = at;
+    // By hand, since a step is sixteen places or as far as `near` looked.
     while i < stop {
         if is_quiet(s, i, a, b) {
             i += 16;
         } else {
-            let end = text::least(i + 16, stop);
+            let end = stop.min(i + 16);
             i = near(s, i, end, a, b);
             if i < end {
                 return i;

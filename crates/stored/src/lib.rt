@@ -20,6 +20,7 @@ use portions::Portions;
 const OPEN: u32 = 0x43455254;
 
 // The state that stands in some numbers.
+#[tactic(auto, unfolding(crate::specs::Stored::state_in))]
 pub fn state_in(
     wide: &[u64; 38],
     length: u64,
@@ -35,20 +36,17 @@ pub fn state_in(
         narrow: *narrow,
         small: *small,
     };
-    let pass = carried::pass_of(words);
-    let held = Held {
-        text: *text,
-        len: length as usize,
-        cr: frame[7] != 0,
-    };
-    let going = Going {
-        pass,
-        held,
-        at: frame[4],
-        came: frame[5],
-    };
     Portions {
-        going,
+        going: Going {
+            pass: carried::pass_of(words),
+            held: Held {
+                text: *text,
+                len: length as usize,
+                cr: frame[7] != 0,
+            },
+            at: frame[4],
+            came: frame[5],
+        },
         code: frame[1],
         day: frame[2],
         bytes: frame[3],
@@ -66,18 +64,16 @@ fn mark_of(takes: bool) -> u32
 fn frame_of(p: Portions) -> [u32; 8]
     ensures { result ≡ frame_of p }
 {
-    let mark = mark_of(p.takes);
     let going = p.going;
-    let held = going.held;
     [
-        mark,
+        mark_of(p.takes),
         p.code,
         p.day,
         p.bytes,
         going.at,
         going.came,
         p.seen as u32,
-        held.cr as u32,
+        going.held.cr as u32,
     ]
 }
 
@@ -98,17 +94,16 @@ pub fn store(
         return;
     }
     let going = p.going;
-    let pass = going.pass;
-    let held = going.held;
-    let words = carried::words_of(pass);
+    let words = carried::words_of(going.pass);
+    // An array of a field goes by way of a variable: a straight `*wide = words.wide` was tried, and the borrow checker does not cover it.
     let w = words.wide;
     let n = words.narrow;
     let s = words.small;
-    let t = held.text;
+    let t = going.held.text;
     *wide = w;
     *narrow = n;
     *small = s;
-    *length = held.len as u64;
+    *length = going.held.len as u64;
     *text = t;
     *frame = frame_of(p);
 }

@@ -1,7 +1,5 @@
 -- A turnover and an amount, and the limit.
-use Rattle.std.specs.Prelude.{ℕ, ◌≡◌, Bool, true, false, cond, ◌||◌, List, ltb, get_or, set, ℤ, pos, neg_ℤ, nat_abs, ◌+ℤ◌}
-use Rattle.sums.specs.declared.Turnover.{Turnover}
-use Rattle.sums.specs.declared.Turnover.TheVariants.{Stands, Beyond}
+use Rattle.std.specs.Prelude.{ℕ, ◌≡◌, Bool, true, false, cond, ◌||◌, List, Option, Some, None, ltb, get_or, set, ℤ, pos, neg_ℤ, nat_abs, ◌+ℤ◌}
 
 abbrev pub signed : Bool → ℕ → ℤ
 signed false a = pos a
@@ -12,8 +10,8 @@ abbrev pub beyond : ℤ → Bool
 beyond z = ltb 99999999999999999 (nat_abs z)
 
 -- a turnover and an amount, together or past the limit
-abbrev pub sum_of : ℤ → ℤ → Turnover
-sum_of t x = cond (beyond (t +ℤ x)) Beyond (Stands (t +ℤ x))
+abbrev pub sum_of : ℤ → ℤ → Option ℤ
+sum_of t x = cond (beyond (t +ℤ x)) None (Some (t +ℤ x))
 
 -- a turnover with an amount more
 abbrev pub plus_at : List ℤ → ℕ → ℤ → List ℤ

@@ -5,12 +5,8 @@
 ghost use Rattle.std.specs.Prelude.{◌≡◌, ◌<◌, pos, nat_abs, ◌+ℤ◌, get_or};
 ghost use Rattle.sums.specs.Sums.{signed, beyond, sum_of, added, AddsBoth};
 
-// A turnover with an amount more, or that it would pass the limit.
-#[derive(Clone, Copy)]
-pub enum Turnover {
-    Stands(i64),
-    Beyond,
-}
+// What a turnover may be at most, either way.
+const LIMIT: i64 = 99999999999999999;
 
 // An amount, or what takes it away.
 pub fn with_sign(minus: bool, amount: u64) -> i64
@@ -18,32 +14,19 @@ pub fn with_sign(minus: bool, amount: u64) -> i64
     ensures { result ≡ signed minus amount }
 {
     let a = amount as i64;
-    if minus {
-        return 0 - a;
-    }
-    a
+    if minus { -a } else { a }
 }
 
-// A host may lend any turnovers. One so far out that the sum could wrap stays beyond the limit with any amount, since an amount has at
-// most fifteen digits.
-fn plus(t: i64, x: i64) -> Turnover
+// The sum, unless it would pass the limit. A host may lend any turnovers, also one so far out that the sum would wrap.
+fn plus(t: i64, x: i64) -> Option<i64>
     requires { nat_abs x < 1000000000000000 }
     ensures { result ≡ sum_of t x }
 {
-    if 4611686018427387904 < t {
-        return Turnover::Beyond;
+    let sum = t.checked_add(x)?;
+    if sum < -LIMIT || LIMIT < sum {
+        return None;
     }
-    if t < -4611686018427387904 {
-        return Turnover::Beyond;
-    }
-    let v = t + x;
-    if 99999999999999999 < v {
-        return Turnover::Beyond;
-    }
-    if v < -99999999999999999 {
-        return Turnover::Beyond;
-    }
-    Turnover::Stands(v)
+    Some(sum)
 }
 
 // A turnover with an amount more, and whether it would pass the limit; then it stays.
@@ -52,14 +35,11 @@ fn add_at(ts: &mut [i64; 256], at: usize, x: i64) -> bool
     ensures value { result ≡ beyond (get_or ts.old at (pos 0) +ℤ x) }
     ensures ts_after { ts.new ≡ added ts.old at x }
 {
-    let s = plus(ts[at], x);
-    match s {
-        Turnover::Beyond => true,
-        Turnover::Stands(v) => {
-            ts[at] = v;
-            false
-        }
-    }
+    let Some(sum) = plus(ts[at], x) else {
+        return true;
+    };
+    ts[at] = sum;
+    false
 }
 
 // Two turnovers with an amount more, and whether one of them would pass the limit.
@@ -67,8 +47,5 @@ pub fn add_both(ts: &mut [i64; 256], here: usize, there: usize, x: i64) -> bool
     requires { (here < 256) × (there < 256) × (nat_abs x < 1000000000000000) }
     ensures { AddsBoth ts.old here there x result ts.new }
 {
-    if add_at(ts, here, x) {
-        return true;
-    }
-    add_at(ts, there, x)
+    add_at(ts, here, x) || add_at(ts, there, x)
 }

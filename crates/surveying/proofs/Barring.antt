@@ -6,8 +6,6 @@ use mathlib.Core.List.{List, [], ◌∷◌, ◌++◌, map}
 use Rattle.laws.proofs.Truth.{by_test}
 use Rattle.laws.specs.Lists.{any_of}
 use Rattle.laws.proofs.Any.{or_left, or_right, any_append}
-use Rattle.headings.specs.declared.Read.{Read}
-use Rattle.headings.specs.declared.Read.TheVariants.{Reads, Unreadable}
 use Rattle.rules.specs.declared.Digest.{Digest}
 use Rattle.rules.specs.Terms.{Terms}
 use Rattle.rules.specs.Tests.{Test, ◌if◌, broken_of}
@@ -19,6 +17,8 @@ use Rattle.rules.specs.Spots.{own_tests, block_tests, rule16_at, head_tests, inn
 use Rattle.vetting.specs.Vetting.{bars, any_barred, item_barred}
 use Rattle.vetting.proofs.Barring.{barred_both}
 use Rattle.surveying.specs.Model.{items_barred}
+use Rattle.headings.specs.declared.Heading.{Heading}
+use Rattle.std.specs.Prelude.{None, Option, Some}
 
 -- ---- tests of rules that bar nothing
 broken_append : (ts us : List Test) → broken_of (ts ++ us) ≡ broken_of ts ++ broken_of us
@@ -40,10 +40,10 @@ idle (t ∷ ts) e =
     go true w = rw (or_left (bars t.rule) (any_of bars (map rule_of ts)) e) w
     go false w = w
 
-block_idle : (above : List Digest) (it : Digest) (h : Read) → any_of bars (broken_of (block_tests above it h)) ≡ false
+block_idle : (above : List Digest) (it : Digest) (h : Option Heading) → any_of bars (broken_of (block_tests above it h)) ≡ false
 unfolding any_of block_tests
-block_idle above it Unreadable = refl
-block_idle above it (Reads h) = idle (block_tests above it (Reads h)) refl
+block_idle above it None = refl
+block_idle above it (Some h) = idle (block_tests above it (Some h)) refl
 
 -- what stands above and below an item plays no part
 module _ (terms : Terms) (i : Item) where

@@ -1,7 +1,7 @@
 -- The first line of a slice: a heading, and so the first item's; or another, which bars all.
 use Prim.Native.Nat.{ℕ, ◌<◌}
 use mathlib.Core.Path.{◌≡◌, refl, sym, ap, subst, ◌∙◌}
-use mathlib.Core.Bool.{Bool, true, false, cond, not, ◌||◌, true≢false}
+use mathlib.Core.Bool.{Bool, true, false, cond, not, ◌||◌}
 use mathlib.Core.Option.{none}
 use mathlib.Core.List.{List, [], ◌∷◌, ◌++◌}
 use lib.ListN.{length, drop}
@@ -10,8 +10,6 @@ use Rattle.lines.specs.Lines.{Line, lines}
 use Rattle.lines.specs.Reading.{line_at, span}
 use Rattle.lines.proofs.Reading.{is_next}
 use Rattle.headings.specs.declared.Heading.{Heading}
-use Rattle.headings.specs.declared.Read.{Read}
-use Rattle.headings.specs.declared.Read.TheVariants.{Reads, Unreadable}
 use Rattle.headings.specs.Reading.{heading_of}
 use Rattle.headings.specs.ItemTypes.{is_priority}
 use Rattle.fields.specs.declared.kinds.Kind.{Kind}
@@ -25,13 +23,14 @@ use Rattle.rules.specs.LineRules.{nowhere, prelude, rule1, rule4}
 use Rattle.rules.specs.Spots.{low_tests, loose_tests, low_spot, lows, field_spot, fields, items, spots, spots_in}
 use Rattle.item_reader.specs.Slips.{Headed}
 use Rattle.vetting.specs.Vetting.{bars, any_barred}
-use Rattle.outgoing_lines.specs.Outgoing.{Orders, underived}
+use Rattle.outgoing_lines.specs.Outgoing.{Orders}
 use Rattle.surveying.specs.declared.Lead.{Lead}
-use Rattle.surveying.specs.declared.Way.TheVariants.{Nowhere, Goes}
+use Rattle.surveying.specs.declared.Way.{Way}
 use Rattle.surveying.specs.Items.{items_of, type_in, is_alone, out_kind, goes_to}
 use Rattle.surveying.specs.Model.{way_of, Asks, Leads, items_barred}
-use Rattle.surveying.proofs.Ways.{way_nowhere, way_goes, unread_refused, refused_by, kind_by, to_by}
+use Rattle.surveying.proofs.Ways.{way_none, way_some, unread_refused, refused_by, kind_by, to_by}
 use Rattle.surveying.proofs.Barring.{items_barred_lem}
+use Rattle.std.specs.Prelude.{None, Option, Some}
 
 module _ (s : List ℕ) (l : 0 < length s) where
   abbrev text : List ℕ
@@ -64,24 +63,26 @@ module _ (s : List ℕ) (l : 0 < length s) where
       abbrev item : Item
       item = item_of row below
 
-      leads_by : (lead : Lead) → Leads q (item ∷ below.items) lead → Leads q (items_of s) lead
+      leads_by : (lead : Option Lead) → Leads q (item ∷ below.items) lead → Leads q (items_of s) lead
       leads_by lead f = subst (λ (is : List Item). Leads q is lead) (sym first_item) f
 
-      never : (lead : Lead) → underived q 0 text ≡ true → Leads q (items_of s) lead
-      never lead e = leads_by lead (λ z. absurd (true≢false (sym e ∙ z)))
+      pub lead_unread : heading_of text ≡ None → Leads q (items_of s) None
+      lead_unread e = leads_by None (unread_refused q 0 text e)
 
-      pub lead_unread : (lead : Lead) → heading_of text ≡ Unreadable → Leads q (items_of s) lead
-      lead_unread lead e = never lead (unread_refused q 0 text e)
+      module _ (g : Heading) (e : heading_of text ≡ Some g) where
+        pub lead_refused : way_of g o p n ≡ None → Leads q (items_of s) None
+        lead_refused w = leads_by None (refused_by q 0 A text g e ∙ ap not (way_none g o p n w))
 
-      module _ (g : Heading) (e : heading_of text ≡ Reads g) where
-        pub lead_refused : (lead : Lead) → way_of g o p n ≡ Nowhere → Leads q (items_of s) lead
-        lead_refused lead w = never lead (refused_by q 0 A text g e ∙ ap not (way_nowhere g o p n w))
-
-        pub lead_goes : {kind to : ℕ} → way_of g o p n ≡ Goes kind to → Leads q (items_of s) (record { to = to; priority = is_priority g.kind; alone = is_alone kind })
+        pub lead_goes : (way : Way) → way_of g o p n ≡ Some way → Leads q (items_of s) (Some (record { to = way.to; priority = is_priority g.kind; alone = is_alone way.kind }))
         unfolding out_kind goes_to
-        lead_goes {kind} {to} w =
-            let x = way_goes g o p n kind to w in
-            leads_by _ (λ z. (x.2 ∙ sym (to_by q 0 A text g e), ap (λ (r : Read). is_priority (type_in r)) (sym e), ap is_alone (x.1 ∙ sym (kind_by q 0 A text g e))))
+        lead_goes way w =
+            let x = way_some g o p n way w in
+            leads_by _ (
+              refused_by q 0 A text g e ∙ ap not x.0,
+              ap (λ (y : Way). y.to) x.1 ∙ sym (to_by q 0 A text g e),
+              ap (λ (r : Option Heading). is_priority (type_in r)) (sym e),
+              ap is_alone (ap (λ (y : Way). y.kind) x.1 ∙ sym (kind_by q 0 A text g e)),
+            )
 
   -- ---- any other line breaks rule 3
   module _ (terms : Terms) where

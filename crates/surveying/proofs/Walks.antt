@@ -22,7 +22,7 @@ use Rattle.item_reader.specs.Slips.{file_from, Headed}
 use Rattle.vetting.specs.Vetting.{item_barred}
 use Rattle.outgoing_lines.specs.Outgoing.{Orders}
 use Rattle.surveying.specs.declared.Lead.{Lead}
-use Rattle.surveying.specs.declared.Survey.TheVariants.{Sent}
+use Rattle.std.specs.Prelude.{Some}
 use Rattle.surveying.specs.Items.{items_of, out_kind, unsent, any_unsent, any_mixes, amounts_out}
 use Rattle.surveying.specs.Model.{StopsAt, GoesOn, items_barred, Surveys}
 use Rattle.surveying.proofs.Tallies.{Tally, tally_start, tally_on, tally_end}
@@ -145,7 +145,7 @@ module _ (q : Orders) (terms : Terms) (lead : Lead) (s : List ℕ) where
       unfolding rows_from
       none_left = sym w.rest ∙ ap (λ (ls : List Line). (tree (rows_from w.line ls)).items) (lines_past s at end)
 
-      pub walk_end : Surveys q terms lead s (Sent other) counts sums
+      pub walk_end : Surveys q terms lead s (Some other) counts sums
       unfolding items_barred any_unsent any_mixes amounts_out
       walk_end = (
         ap (λ (t : Bool). t || any_unsent q lead.to 0 (items_of s)) (w.clean ∙ ap (items_barred terms) none_left) ∙ w.sent ∙ ap (any_unsent q lead.to k) none_left,

@@ -1,16 +1,14 @@
 -- Where an item goes, by the two steps of deriving.
 use Prim.Native.Nat.{ℕ, ◌<◌}
 use native.Mathlib.Omega.{arith}
-use mathlib.Core.Path.{◌≡◌, refl, sym, ap, ◌∙◌}
+use mathlib.Core.Path.{◌≡◌, refl, ap, ◌∙◌}
 use mathlib.Core.Bool.{Bool, true, false, cond, not, ◌&&◌, ◌||◌, and-false, true≢false}
-use mathlib.Core.List.{List, [], ◌∷◌, ◌++◌}
+use mathlib.Core.List.{List, ◌∷◌, ◌++◌}
 use lib.Dec.{eqb, leb}
 use borrow.Author.Tests.{eqb-true, lt-leb}
-use Rattle.laws.proofs.Truth.{by_test}
 use Rattle.laws.specs.Refusals.{◌if◌, first}
 use Rattle.laws.proofs.Refusals.{none_applies}
 use Rattle.headings.specs.declared.Heading.{Heading}
-use Rattle.headings.specs.declared.Read.TheVariants.{Reads, Unreadable}
 use Rattle.headings.specs.Reading.{heading_of}
 use Rattle.headings.specs.ItemTypes.{is_closing, is_input, is_trilateral, is_priority, is_payment}
 use Rattle.headings.specs.HeadRules.{rule10, rule13, rule14}
@@ -19,8 +17,8 @@ use Rattle.turning.specs.Turning.{barred, barred_to, is_outcome, is_standing, is
 use Rattle.outcomes.specs.Deriving.{issue_refusals, tell_refusals, number_refusals, derive_refusals, outgoing_kind, recipient}
 use Rattle.outgoing_lines.specs.Outgoing.{Orders, as_derived, outcome_at, underived}
 use Rattle.surveying.specs.declared.Way.{Way}
-use Rattle.surveying.specs.declared.Way.TheVariants.{Nowhere, Goes}
-use Rattle.surveying.specs.Model.{refusal_of, way_of, Asks}
+use Rattle.surveying.specs.Model.{refusal_of, way_to, way_of, Asks}
+use Rattle.std.specs.Prelude.{None, Option, Some}
 
 -- a number of more than seven digits is in no class
 large_class : (kind n : ℕ) → 9999999 < n → in_class kind n ≡ false
@@ -40,66 +38,33 @@ module _ (h : Heading) (o p n : ℕ) where
   steps a b c = first ((12 if a) ∷ (13 if b) ∷ (14 if c) ∷ issue_refusals h.kind (record { 0 = n }) 54)
 
   -- not in its class: one of the two steps refuses
-  pub no_class : in_class h.kind n ≡ false → way_of h o p n ≡ Nowhere
+  pub no_class : in_class h.kind n ≡ false → way_of h o p n ≡ None
   no_class e = go (barred_to p h) (not (is_outcome (as_derived o) && is_standing p)) (is_missing p h.kind (as_derived o))
     where
-      go : (a b c : Bool) → cond (eqb (steps a b c) 0) (Goes (turned h (as_derived o)).kind (turned h (as_derived o)).second.0) Nowhere ≡ Nowhere
+      go : (a b c : Bool) → cond (eqb (steps a b c) 0) (Some (way_to (turned h (as_derived o)))) None ≡ None
       go true b c = refl
       go false true c = refl
       go false false true = refl
       go false false false = rw e
 
-  pub too_large : 9999999 < n → way_of h o p n ≡ Nowhere
+  pub too_large : 9999999 < n → way_of h o p n ≡ None
   too_large l = no_class (large_class h.kind n l)
 
-  -- the first step refuses
-  pub stops : (k : ℕ) → eqb k 0 ≡ false → k ≡ first (turn_refusals h (as_derived o) p) → way_of h o p n ≡ Nowhere
-  stops k z e = go (barred_to p h) (not (is_outcome (as_derived o) && is_standing p)) (is_missing p h.kind (as_derived o)) (ap (λ (j : ℕ). eqb j 0) (sym e) ∙ z)
-    where
-      go : (a b c : Bool) → eqb (first ((12 if a) ∷ (13 if b) ∷ (14 if c) ∷ [])) 0 ≡ false
-          → cond (eqb (steps a b c) 0) (Goes (turned h (as_derived o)).kind (turned h (as_derived o)).second.0) Nowhere ≡ Nowhere
-      go true b c w = refl
-      go false true c w = refl
-      go false false true w = refl
-      go false false false w = absurd (true≢false w)
-
-  -- neither does
-  pub goes : (g : Heading) → 0 ≡ first (turn_refusals h (as_derived o) p) → g ≡ turned h (as_derived o) → in_class h.kind n ≡ true → way_of h o p n ≡ Goes g.kind g.second.0
-  goes g e f i = go (barred_to p h) (not (is_outcome (as_derived o) && is_standing p)) (is_missing p h.kind (as_derived o)) (sym e) ∙ ap (λ (x : Heading). Goes x.kind x.second.0) (sym f)
-    where
-      go : (a b c : Bool) → first ((12 if a) ∷ (13 if b) ∷ (14 if c) ∷ []) ≡ 0
-          → cond (eqb (steps a b c) 0) (Goes (turned h (as_derived o)).kind (turned h (as_derived o)).second.0) Nowhere ≡ Goes (turned h (as_derived o)).kind (turned h (as_derived o)).second.0
-      go true b c w = absurd (omega (arith, w))
-      go false true c w = absurd (omega (arith, w))
-      go false false true w = absurd (omega (arith, w))
-      go false false false w = rw i
-
 -- ---- what an answer says
-abbrev has_way : Way → Bool
-has_way (Goes kind to) = true
-has_way Nowhere = false
-
-abbrev kind_in : Way → ℕ
-kind_in (Goes kind to) = kind
-kind_in Nowhere = 0
-
-abbrev code_in : Way → ℕ
-code_in (Goes kind to) = to
-code_in Nowhere = 0
-
 module _ (h : Heading) (o p n : ℕ) where
-  abbrev answer : Bool → Way
-  answer b = cond b (Goes (turned h (as_derived o)).kind (turned h (as_derived o)).second.0) Nowhere
+  pub way_none : way_of h o p n ≡ None → eqb (refusal_of h o p n) 0 ≡ false
+  way_none = go (eqb (refusal_of h o p n) 0)
+    where
+      go : (b : Bool) → ◌≡◌ {A = Option Way} (cond b (Some (way_to (turned h (as_derived o)))) None) None → b ≡ false
+      go true e = absurd (cc)
+      go false e = refl
 
-  pub way_nowhere : way_of h o p n ≡ Nowhere → eqb (refusal_of h o p n) 0 ≡ false
-  way_nowhere e = by_test (eqb (refusal_of h o p n) 0)
-      (λ q. rw q (absurd (true≢false (ap has_way (rw q at e)))))
-      (λ q. rw q)
-
-  pub way_goes : (kind to : ℕ) → way_of h o p n ≡ Goes kind to → (eqb (refusal_of h o p n) 0 ≡ true) × (kind ≡ (turned h (as_derived o)).kind) × (to ≡ (turned h (as_derived o)).second.0)
-  way_goes kind to e = by_test (eqb (refusal_of h o p n) 0)
-      (λ q. rw q (refl, sym (ap kind_in (rw q at e)), sym (ap code_in (rw q at e))))
-      (λ q. rw q (absurd (true≢false (sym (ap has_way (rw q at e))))))
+  pub way_some : (way : Way) → way_of h o p n ≡ Some way → (eqb (refusal_of h o p n) 0 ≡ true) × (way ≡ way_to (turned h (as_derived o)))
+  way_some way = go (eqb (refusal_of h o p n) 0)
+    where
+      go : (b : Bool) → ◌≡◌ {A = Option Way} (cond b (Some (way_to (turned h (as_derived o)))) None) (Some way) → (b ≡ true) × (way ≡ way_to (turned h (as_derived o)))
+      go true e = (refl, cc)
+      go false e = absurd (cc)
 
   -- what is sent is a payment
   pub sent_pays : eqb (refusal_of h o p n) 0 ≡ true → is_payment h.kind ≡ true
@@ -113,11 +78,11 @@ module _ (h : Heading) (o p n : ℕ) where
 
 -- ---- of an item's heading
 -- one that does not read is refused
-pub unread_refused : (q : Orders) (k : ℕ) (text : List ℕ) → heading_of text ≡ Unreadable → underived q k text ≡ true
+pub unread_refused : (q : Orders) (k : ℕ) (text : List ℕ) → heading_of text ≡ None → underived q k text ≡ true
 unfolding underived derive_refusals tell_refusals number_refusals
 unread_refused q k text e = rw e
 
-module _ (q : Orders) (k : ℕ) {o p n : ℕ} (A : Asks q k o p n) (text : List ℕ) (h : Heading) (e : heading_of text ≡ Reads h) where
+module _ (q : Orders) (k : ℕ) {o p n : ℕ} (A : Asks q k o p n) (text : List ℕ) (h : Heading) (e : heading_of text ≡ Some h) where
   pub refused_by : underived q k text ≡ not (eqb (refusal_of h o p n) 0)
   unfolding underived derive_refusals tell_refusals number_refusals
   refused_by = rw (e, A.outcome, A.standing, A.number)

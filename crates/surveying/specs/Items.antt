@@ -1,9 +1,7 @@
 -- What is asked of the items of a slice, one after the other (document 02, A7, amended by A12). Below, k counts the items above one.
-use Rattle.std.specs.Prelude.{ℕ, suc, Bool, false, not, ◌||◌, List, [], ◌∷◌, eqb, length}
+use Rattle.std.specs.Prelude.{ℕ, suc, Bool, false, not, ◌||◌, List, [], ◌∷◌, eqb, length, None, Option, Some}
 use Rattle.laws.specs.Lists.{sum}
 use Rattle.lines.specs.Lines.{lines}
-use Rattle.headings.specs.declared.Read.{Read}
-use Rattle.headings.specs.declared.Read.TheVariants.{Reads, Unreadable}
 use Rattle.headings.specs.Reading.{heading_of}
 use Rattle.headings.specs.ItemTypes.{is_priority, group_of}
 use Rattle.outcomes.specs.Deriving.{outgoing_kind, recipient}
@@ -15,6 +13,7 @@ use Rattle.rules.specs.BlockRules.{unlike}
 use Rattle.account.specs.Summary.{ten}
 use Rattle.item_reader.specs.Slips.{kc_among}
 use Rattle.outgoing_lines.specs.Outgoing.{Orders, as_derived, outcome_at, underived}
+use Rattle.headings.specs.declared.Heading.{Heading}
 
 -- the items of a slice
 unfoldable pub items_of : List ℕ → List Item
@@ -24,9 +23,9 @@ items_of s = (tree (rows_from 1 (lines s))).items
 abbrev pub head_text : Item → List ℕ
 head_text i = i.head.owner.bytes
 
-abbrev pub type_in : Read → ℕ
-type_in (Reads h) = h.kind
-type_in Unreadable = 0
+abbrev pub type_in : Option Heading → ℕ
+type_in (Some h) = h.kind
+type_in None = 0
 
 abbrev pub in_kind : Item → ℕ
 in_kind i = type_in (heading_of (head_text i))

@@ -1,5 +1,5 @@
 -- Model of the code, not part of the statement: what each function of `surveying` finds of an item, and what the walk over all of them finds.
-use Rattle.std.specs.Prelude.{ℕ, suc, ◌+◌, ◌≤◌, ◌<◌, min, ◌≡◌, Bool, true, false, cond, not, ◌||◌, List, [], ◌∷◌, ◌++◌, eqb, length, drop}
+use Rattle.std.specs.Prelude.{ℕ, suc, ◌+◌, ◌≤◌, ◌<◌, min, ◌≡◌, Bool, true, false, cond, not, ◌||◌, List, [], ◌∷◌, ◌++◌, eqb, length, drop, Option, None, Some}
 use Rattle.laws.specs.Lists.{sum}
 use Rattle.laws.specs.Refusals.{first}
 use Rattle.headings.specs.declared.Heading.{Heading}
@@ -15,12 +15,8 @@ use Rattle.item_reader.specs.Slips.{file_from, Headed}
 use Rattle.vetting.specs.Vetting.{item_barred, ItemAt}
 use Rattle.outgoing_lines.specs.Outgoing.{Orders, as_derived, outcome_at, standing_at, underived}
 use Rattle.surveying.specs.declared.Way.{Way}
-use Rattle.surveying.specs.declared.Way.TheVariants.{Nowhere, Goes}
 use Rattle.surveying.specs.declared.Step.{Step}
-use Rattle.surveying.specs.declared.Step.TheVariants.{Stops, On}
 use Rattle.surveying.specs.declared.Lead.{Lead}
-use Rattle.surveying.specs.declared.Survey.{Survey}
-use Rattle.surveying.specs.declared.Survey.TheVariants.{NotSent, Sent}
 use Rattle.surveying.specs.Items.{items_of, head_text, in_kind, out_kind, goes_to, is_alone, unsent, any_unsent, mixes, any_mixes, amounts_out}
 
 -- the refusals of deriving from a heading that reads
@@ -28,8 +24,11 @@ abbrev pub refusal_of : Heading → ℕ → ℕ → ℕ → ℕ
 refusal_of h o p n = first (turn_refusals h (as_derived o) p ++ issue_refusals h.kind (record { 0 = n }) 54)
 
 -- the type and the recipient of the heading that is derived
-abbrev pub way_of : Heading → ℕ → ℕ → ℕ → Way
-way_of h o p n = cond (eqb (refusal_of h o p n) 0) (Goes (turned h (as_derived o)).kind (turned h (as_derived o)).second.0) Nowhere
+abbrev pub way_to : Heading → Way
+way_to g = record { kind = g.kind; to = g.second.0 }
+
+abbrev pub way_of : Heading → ℕ → ℕ → ℕ → Option Way
+way_of h o p n = cond (eqb (refusal_of h o p n) 0) (Some (way_to (turned h (as_derived o)))) None
 
 -- a recipient is no participant, or not the first one's
 abbrev pub strays : ℕ → ℕ → Bool
@@ -59,10 +58,10 @@ module _ (q : Orders) (terms : Terms) (lead : Lead) (s : List ℕ) (at k : ℕ) 
     pub counted : counts' ≡ plus_at count_cap counts (group_of (out_kind q k item)) 1
     pub summed : sums' ≡ plus_at sum_cap sums (group_of (out_kind q k item)) amount
 
-  abbrev pub Steps : Step → List ℕ → List ℕ → Type 0
-  Steps Stops counts' sums' = (n : ℕ) → StopsAt n
-  Steps (On next other) counts' sums' =
-      ((n : ℕ) → GoesOn next other counts' sums' n) × (at < next) × (next ≤ length s) × (next < length s → Headed s next)
+  abbrev pub Steps : Option Step → List ℕ → List ℕ → Type 0
+  Steps None counts' sums' = (n : ℕ) → StopsAt n
+  Steps (Some t) counts' sums' =
+      ((n : ℕ) → GoesOn t.next t.differs counts' sums' n) × (at < t.next) × (t.next ≤ length s) × (t.next < length s → Headed s t.next)
 
 -- ---- all of them
 -- a line of one of some items bars it
@@ -72,17 +71,18 @@ items_barred terms (i ∷ is) = item_barred terms i || items_barred terms is
 
 -- what a walk over all items finds, by what the first one says: that one is not sent; or else whether one is of another class, and the
 -- groups, as far as their caps
-abbrev pub Surveys : Orders → Terms → Lead → List ℕ → Survey → List ℕ → List ℕ → Type 0
-Surveys q terms lead s NotSent counts sums = (items_barred terms (items_of s) || any_unsent q lead.to 0 (items_of s)) ≡ true
-Surveys q terms lead s (Sent other) counts sums =
+abbrev pub Surveys : Orders → Terms → Lead → List ℕ → Option Bool → List ℕ → List ℕ → Type 0
+Surveys q terms lead s None counts sums = (items_barred terms (items_of s) || any_unsent q lead.to 0 (items_of s)) ≡ true
+Surveys q terms lead s (Some other) counts sums =
     ((items_barred terms (items_of s) || any_unsent q lead.to 0 (items_of s)) ≡ false)
     × (other ≡ any_mixes q lead.priority lead.alone 0 (items_of s))
     × (counts ≡ ten (λ d. min count_cap (length (amounts_out q d 0 (items_of s)))))
     × (sums ≡ ten (λ d. min sum_cap (sum (amounts_out q d 0 (items_of s)))))
 
 -- what the first item says, where deriving does not refuse it
-abbrev pub Leads : Orders → List Item → Lead → Type 0
+abbrev pub Leads : Orders → List Item → Option Lead → Type 0
 Leads q [] lead = Unit {0}
-Leads q (i ∷ is) lead =
-    underived q 0 (head_text i) ≡ false
-    → (lead.to ≡ goes_to q 0 i) × (lead.priority ≡ is_priority (in_kind i)) × (lead.alone ≡ is_alone (out_kind q 0 i))
+Leads q (i ∷ is) None = underived q 0 (head_text i) ≡ true
+Leads q (i ∷ is) (Some lead) =
+    (underived q 0 (head_text i) ≡ false)
+    × (lead.to ≡ goes_to q 0 i) × (lead.priority ≡ is_priority (in_kind i)) × (lead.alone ≡ is_alone (out_kind q 0 i))

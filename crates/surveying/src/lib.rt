@@ -17,18 +17,18 @@ ghost use Rattle.surveying.specs.Model.{strays, way_of, Asks, Steps, Surveys, Le
 
 use group_sums::add_amount;
 use headings::item_types::is_priority;
-use headings::{Code, Heading, ItemNo, Read};
+use headings::{Code, Heading, ItemNo};
 use outcome_tables::in_class;
 use outgoing_lines::{as_derived, at_or_zero};
 use own_rules::{Basis, basis_of};
-use turning::{Turned, turn};
-use vetting::{Taken, take_item, unstamped};
+use turning::turn;
+use vetting::{take_item, unstamped};
 
-// The type and the recipient of a derived heading, or that deriving refuses it.
+// The type and the recipient of a derived heading.
 #[derive(Clone, Copy)]
-pub enum Way {
-    Nowhere,
-    Goes(u32, u32),
+pub struct Way {
+    pub kind: u32,
+    pub to: u32,
 }
 
 // What the first item says of all: the recipient, the class, and whether the derived type stands alone.
@@ -39,18 +39,11 @@ pub struct Lead {
     pub alone: bool,
 }
 
-// One item: it is not sent; or the place of the next, and whether it is of another class than the first.
+// One item that is sent: the place of the next, and whether it is of another class than the first.
 #[derive(Clone, Copy)]
-pub enum Step {
-    Stops,
-    On(usize, bool),
-}
-
-// All items: one is not sent; or whether one is of another class than the first.
-#[derive(Clone, Copy)]
-pub enum Survey {
-    NotSent,
-    Sent(bool),
+pub struct Step {
+    pub next: usize,
+    pub differs: bool,
 }
 
 fn is_alone(kind: u32) -> bool
@@ -62,37 +55,38 @@ fn is_alone(kind: u32) -> bool
 fn unlike(a: bool, b: bool) -> bool
     ensures { result ≡ unlike a b }
 {
-    (a & !b) | (!a & b)
+    a != b
 }
 
 // Whether a recipient is no house, or not the first one's.
 fn strays(first: u32, to: u32) -> bool
     ensures { result ≡ strays first to }
 {
-    !((1 <= to) & (to <= 9999)) | !(to == first)
+    !matches!(to, 1..=9999) | (to != first)
 }
 
-// Where an item goes.
-fn way_of(h: Heading, outcome: u32, standing: u32, number: u64) -> Way
+// Where an item goes, if deriving does not refuse it.
+fn way_of(h: Heading, outcome: u32, standing: u32, number: u64) -> Option<Way>
     ensures { result ≡ way_of h outcome standing number }
 {
     if 9999999 < number {
-        return Way::Nowhere;
+        return None;
     }
     match turn(h, as_derived(outcome), standing) {
-        Turned::Barred => Way::Nowhere,
-        Turned::NotOutcome => Way::Nowhere,
-        Turned::Nowhere => Way::Nowhere,
-        Turned::To(g) => {
+        Err(_) => None,
+        Ok(g) => {
             if !in_class(h.kind, ItemNo(number as u32)) {
-                return Way::Nowhere;
+                return None;
             }
-            Way::Goes(g.kind, g.second.0)
+            Some(Way {
+                kind: g.kind,
+                to: g.second.0,
+            })
         }
     }
 }
 
-// One item, where k stand above it: it is judged, and counted in the group of its derived type.
+// One item, where k stand above it: it is judged, and counted in the group of its derived type; none where it is not sent.
 fn one_item(
     table: &[bool; 256],
     stood: &mut [usize; 1296],
@@ -106,28 +100,26 @@ fn one_item(
     lead: Lead,
     counts: &mut [u64; 10],
     sums: &mut [u64; 10],
-) -> Step
+) -> Option<Step>
     requires { (table.now ≡ answers) × (at < length s.now) × Headed s.now at × Stamped stood.old (k + 1) × (k < 30000) }
     ensures stamped { Stamped stood.new (k + 2) }
     ensures steps { (q : Orders) (terms : Terms) → basis ≡ basis_of terms → Asks q k outcome standing number → Steps q terms lead s.now at k counts.old sums.old result counts.new sums.new }
 {
-    match take_item(table, stood, s, at, k + 1, basis) {
-        Taken::Barred => Step::Stops,
-        Taken::Sound(h, amount, next) => match way_of(h, outcome, standing, number) {
-            Way::Nowhere => Step::Stops,
-            Way::Goes(kind, to) => {
-                if strays(lead.to, to) {
-                    return Step::Stops;
-                }
-                add_amount(counts, sums, kind, amount.0);
-                let other = unlike(is_priority(h.kind), lead.priority);
-                Step::On(next, other | unlike(is_alone(kind), lead.alone))
-            }
-        },
+    let item = take_item(table, stood, s, at, k + 1, basis)?;
+    let h = item.heading;
+    let way = way_of(h, outcome, standing, number)?;
+    if strays(lead.to, way.to) {
+        return None;
     }
+    add_amount(counts, sums, way.kind, item.amount.0);
+    let other = unlike(is_priority(h.kind), lead.priority);
+    Some(Step {
+        next: item.next,
+        differs: other | unlike(is_alone(way.kind), lead.alone),
+    })
 }
 
-// All items of a slice that begins with a heading, by what the first one says.
+// All items of a slice that begins with a heading, by what the first one says: whether one is of another class; none where one is not sent.
 pub fn survey_all(
     s: &[u8],
     outcomes: &[u32],
@@ -138,7 +130,7 @@ pub fn survey_all(
     lead: Lead,
     counts: &mut [u64; 10],
     sums: &mut [u64; 10],
-) -> Survey
+) -> Option<bool>
     requires { Headed s.now 0 × (0 < length s.now) × (length (items_of s.now) ≤ 30000) × (counts.old ≡ replicate 10 0) × (sums.old ≡ replicate 10 0) }
     ensures { Surveys (record { outcomes = outcomes.now; standings = standings.now; start = start }) (input code day) lead s.now result counts.new sums.new }
 {
@@ -148,56 +140,35 @@ pub fn survey_all(
     let mut at = 0;
     let mut k = 0;
     let mut other = false;
+    // A `while`: each item tells where the next one starts, so k is counted beside it.
     while at < s.len() {
         let outcome = at_or_zero(outcomes, k);
         let standing = at_or_zero(standings, k);
         let number = (start as u64) + (k as u64);
-        match one_item(
+        let step = one_item(
             &table, &mut stood, s, at, k, basis, outcome, standing, number, lead, counts, sums,
-        ) {
-            Step::Stops => {
-                return Survey::NotSent;
-            }
-            Step::On(next, differs) => {
-                at = next;
-                k += 1;
-                other = other | differs;
-            }
-        }
+        )?;
+        at = step.next;
+        k += 1;
+        other |= step.differs;
     }
-    Survey::Sent(other)
+    Some(other)
 }
 
-// What the first item says of all.
-pub fn lead_of(s: &[u8], outcome: u32, standing: u32, number: u64) -> Lead
+// What the first item says of all, if deriving does not refuse it.
+pub fn lead_of(s: &[u8], outcome: u32, standing: u32, number: u64) -> Option<Lead>
     requires { Headed s.now 0 × (0 < length s.now) }
     ensures { (q : Orders) → Asks q 0 outcome standing number → Leads q (items_of s.now) result }
 {
     let f = lines::line_near(s, 0);
     let end = f.end;
-    match headings::reading::read(&s[0..end]) {
-        Read::Unreadable => no_lead(),
-        Read::Reads(h) => match way_of(h, outcome, standing, number) {
-            Way::Nowhere => no_lead(),
-            Way::Goes(kind, to) => {
-                let priority = is_priority(h.kind);
-                let alone = is_alone(kind);
-                Lead {
-                    to,
-                    priority,
-                    alone,
-                }
-            }
-        },
-    }
-}
-
-fn no_lead() -> Lead {
-    Lead {
-        to: 0,
-        priority: false,
-        alone: false,
-    }
+    let h = headings::reading::read(&s[..end])?;
+    let way = way_of(h, outcome, standing, number)?;
+    Some(Lead {
+        to: way.to,
+        priority: is_priority(h.kind),
+        alone: is_alone(way.kind),
+    })
 }
 
 // How many items a slice has; of more than 30,000, that they are more.
@@ -206,6 +177,7 @@ pub fn count_items(s: &[u8]) -> usize
 {
     let mut n = 0;
     let mut at = item_reader::heading_from(s, 0);
+    // A `while`: each item tells where the next one starts.
     while at < s.len() {
         if 30000 < n {
             return n;

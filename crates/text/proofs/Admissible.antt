@@ -1,14 +1,14 @@
 -- The two words of bits and the table, as it is filled, say what `is_admissible` says; a byte that is not odd is not inadmissible.
-use mathlib.Core.Path.{◌≡◌, refl, sym}
-use mathlib.Core.Bool.{Bool, true, false, cond, not, ◌&&◌, ◌||◌, true≢false}
+use mathlib.Core.Path.{◌≡◌, refl, sym, ◌∙◌}
+use mathlib.Core.Bool.{Bool, true, false, cond, not, ◌&&◌, ◌||◌, not-not, true≢false}
 use mathlib.Core.List.{List}
-use Prim.Native.Nat.{ℕ, zero, suc, ◌+◌, ◌/◌, ◌%◌, ◌^◌, ◌<◌}
-use lib.ListN.{get_or, set, replicate}
-use lib.Dec.{eqb, ltb, ltb→lt}
+use Prim.Native.Nat.{ℕ, zero, suc, ◌/◌, ◌%◌, ◌^◌, ◌<◌}
+use lib.ListN.{get_or, set}
+use lib.Dec.{eqb, ltb}
 use Rattle.laws.specs.Tests.{among}
 use Rattle.laws.specs.Lists.{any_of, tabulate}
 use Rattle.laws.proofs.Any.{weaker}
-use Rattle.laws.proofs.Finite.{agree, at, table_at}
+use Rattle.laws.proofs.Finite.{agree, table_at}
 use Rattle.text.specs.Characters.{is_plain, others, is_admissible, is_inadmissible, is_odd, answers}
 
 -- the words that the code asks from 80 on, and its plain test below
@@ -21,9 +21,13 @@ pub asked_is : (b : ℕ) → b < 256 → asked b ≡ is_admissible b
 unfolding is_admissible
 asked_is b h = agree asked is_admissible 256 tt b h
 
-pub answer_at : (b : ℕ) → b < 256 → get_or answers b false ≡ is_admissible b
+answer_at : (b : ℕ) → b < 256 → get_or answers b false ≡ is_admissible b
 unfolding answers
 answer_at b h = table_at is_admissible 256 b h
+
+-- what the table answers at the place of a byte
+pub answered : (t : List Bool) (b i : ℕ) → t ≡ answers → i ≡ b → b < 256 → get_or t i false ≡ not (is_inadmissible b)
+answered t b i e p h = rw (e, p) (answer_at b h ∙ sym (not-not (is_admissible b)))
 
 plain_good : (p : Bool) (b : ℕ) → not p ≡ false → not (p || among b others) ≡ false
 plain_good true b e = refl
@@ -41,15 +45,7 @@ odd_asked s = go (any_of is_odd s) refl
     go true e = refl
     go false e = sym (weaker is_odd is_inadmissible odd_weaker s e)
 
--- the table as the code fills it: 20 to 7E
-abbrev pub plain_to : ℕ → List Bool
-plain_to zero = replicate 256 false
-plain_to (suc n) = set (plain_to n) (0x20 + n) true
-
-pub plain_all : plain_to 95 ≡ tabulate is_plain 0 256
-plain_all = refl
-
--- .. and the others, one by one
+-- the table as the code fills it: the plain bytes, and the others one by one
 abbrev pub others_to : ℕ → List Bool
 others_to zero = tabulate is_plain 0 256
 others_to (suc k) = set (others_to k) (get_or others k 0) true
@@ -57,6 +53,3 @@ others_to (suc k) = set (others_to k) (get_or others k 0) true
 pub others_all : others_to 45 ≡ answers
 unfolding answers is_admissible
 others_all = refl
-
-pub other_few : (k : ℕ) → k < 45 → get_or others k 0 < 256
-other_few k h = ltb→lt _ _ (at (λ i. ltb (get_or others i 0) 256) 45 tt k h)

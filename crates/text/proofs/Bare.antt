@@ -2,13 +2,13 @@
 use mathlib.Core.Path.{◌≡◌, refl, ap, ◌∙◌, sym}
 use mathlib.Core.Bool.{Bool, true, false, cond}
 use mathlib.Core.List.{List, [], ◌∷◌}
-use Prim.Native.Nat.{ℕ, zero, suc, ◌+◌, ◌-◌, ◌/◌, ◌%◌, ◌^◌, ◌≤◌, ◌<◌}
-use native.Mathlib.Nat.{div-eq_of_lt, le-div_iff_mul-le, div-lt_iff_lt-mul, mod-eq_of_lt, one-le-pow, pow-le-pow_right, pow-suc, pow-succ', div-div-eq-div-mul, zero-add, suc-add}
+use Prim.Native.Nat.{ℕ, zero, suc, ◌+◌, ◌-◌, ◌*◌, ◌/◌, ◌%◌, ◌^◌, ◌≤◌, ◌<◌}
+use native.Mathlib.Nat.{div-eq_of_lt, le-div_iff_mul-le, div-lt_iff_lt-mul, mod-eq_of_lt, one-le-pow, pow-le-pow_right, pow-succ', zero-add, suc-add}
 use native.Mathlib.Numerals.{add-one}
 use native.Mathlib.Omega.{arith}
-use lib.Dec.{leb, eqb}
+use lib.Dec.{eqb}
 use lib.ListN.{length}
-use borrow.Author.Tests.{leb-true, leb-false, ne_eqb, eqb-true}
+use borrow.Author.Tests.{ne_eqb, eqb-true}
 use Rattle.text.specs.Digits.{digits, value_after, value}
 use Rattle.text.specs.Decimals.{bare, decimal}
 use Rattle.text.proofs.Widths.{read_written, length_digits}
@@ -93,36 +93,13 @@ pub decimal_value : (v : ℕ) → v < 10 ^ 20 → value (decimal v) ≡ v
 unfolding decimal
 decimal_value v h = bare_value (digits 20 v) ∙ read_written 20 v h
 
--- ---- the loop that counts the digits
+-- ---- how many digits it has
 
--- n digits are counted, and the rest is what stands before them
-pub record Counted (v n rest : ℕ) : Type 0 where
-  pub some : 1 ≤ n
-  pub few : n ≤ 20
-  pub left : rest ≡ v / 10 ^ n
-  pub high : 1 < n → 10 ^ (n - 1) ≤ v
+pub one_digit : (v : ℕ) → v ≡ 0 → digits 1 v ≡ decimal v
+one_digit v e = least_width 1 v (omega arith) (omega arith) (omega (arith, e)) (λ l. absurd (omega arith))
 
-pub counted_one : (v : ℕ) → Counted v 1 (v / 10)
-counted_one v = record { some = omega arith; few = omega arith; left = refl; high = λ l. absurd (omega arith) }
-
-pub counted_more : (v n rest : ℕ) → v < 10 ^ 20 → Counted v n rest → 0 < rest → Counted v (n + 1) (rest / 10)
-counted_more v n rest w k p =
-    let l : 1 ≤ v / 10 ^ n = omega (arith, k.left) in
-    let h : 10 ^ n ≤ v = omega (arith, (le-div_iff_mul-le (ten_pos n)).0 l) in
+-- one more than stand before the last
+pub digits_before : (n v : ℕ) → n < 20 → 10 ^ n ≤ v → v < 10 * 10 ^ n → digits (n + 1) v ≡ decimal v
+digits_before n v h l u =
     let e : n + 1 - 1 ≡ n = omega arith in
-    record {
-      some = omega arith;
-      few = go h (leb n 19) refl;
-      left = rw (k.left, add-one, pow-suc, ← div-div-eq-div-mul);
-      high = λ _. rw e h;
-    }
-  where
-    go : 10 ^ n ≤ v → (t : Bool) → leb n 19 ≡ t → n + 1 ≤ 20
-    go h true q = omega (arith, leb-true n 19 q)
-    go h false q = let g : 20 ≤ n = leb-false n 19 q in absurd (omega (arith, pow-le-pow_right {n = 10} (omega arith) g))
-
-pub counted_all : (v n rest : ℕ) → Counted v n rest → rest ≤ 0 → (n ≤ 20) × (digits n v ≡ decimal v)
-counted_all v n rest k z =
-    let l : v / 10 ^ n < 1 = omega (arith, k.left) in
-    let h : v < 10 ^ n = omega (arith, (div-lt_iff_lt-mul (ten_pos n)).0 l) in
-    (k.few, least_width n v k.some k.few h k.high)
+    least_width (n + 1) v (omega arith) (omega arith) (rw (add-one, pow-succ') u) (λ _. rw e l)

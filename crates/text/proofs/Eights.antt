@@ -2,12 +2,11 @@
 use mathlib.Core.Path.{◌≡◌, refl, sym, ap, ap₂, ◌∙◌}
 use mathlib.Core.Bool.{Bool, true, false, not, ◌&&◌, ◌||◌, or-false, not-not}
 use mathlib.Core.List.{List, [], ◌∷◌, ◌++◌}
-use Prim.Native.Nat.{ℕ, suc, ◌+◌, ◌-◌, ◌<◌, ◌≤◌}
-use native.Mathlib.Nat.{add-zero}
+use Prim.Native.Nat.{ℕ, suc, ◌+◌, ◌-◌, ◌*◌, ◌<◌, ◌≤◌, min}
 use native.Mathlib.Omega.{arith}
-use lib.ListN.{length, take, drop, get_or, length-drop}
-use mathlib.Core.Logic.{◌⊎◌, inl, inr}
-use lib.Seq.{take-add, take_all, take-suc, get_or-drop}
+use lib.ListN.{length, take, drop, get_or, length-drop, length-append}
+use lib.Seq.{take-add, take_all, take-suc, take-take, take_at, drop_at, drop-drop, length-take-le}
+use Rattle.std.proofs.lemmas.List.{take_min, drop-take}
 use Rattle.laws.specs.Lists.{any_of}
 use Rattle.laws.proofs.Any.{any_append}
 
@@ -30,14 +29,6 @@ module _ (f : ℕ → Bool) where
   none_more s n h p q =
       none_append (take n s) (get_or s n 0 ∷ []) p (q ∙ ap not (sym (or-false (f (get_or s n 0))))) ∙ ap (λ (l : List ℕ). not (any_of f l)) (sym (take-suc s n 0 h))
 
-  -- the same from i on
-  pub none_from : (s : List ℕ) (i n : ℕ) {a b : Bool} → i + n < length s → a ≡ not (any_of f (take n (drop i s))) → b ≡ not (f (get_or s (i + n) 0)) → (a && b) ≡ not (any_of f (take (suc n) (drop i s)))
-  none_from s i n h p q = none_more (drop i s) n (omega (arith, length-drop i s)) p (q ∙ ap (λ (x : ℕ). not (f x)) (sym (get_or-drop i s n 0)))
-
-  pub none_first : (s : List ℕ) (i : ℕ) {b : Bool} → i < length s → b ≡ not (f (get_or s i 0)) → b ≡ not (any_of f (take 1 (drop i s)))
-  unfolding any_of
-  none_first s i h q = none_from s i 0 (rw add-zero h) refl (rw add-zero q)
-
   pub none_all : (s : List ℕ) (i : ℕ) {a : Bool} → length s ≤ i → a ≡ not (any_of f (take i s)) → not a ≡ any_of f s
   none_all s i h p = ap not p ∙ not-not _ ∙ ap (any_of f) (take_all i s h)
 
@@ -55,12 +46,18 @@ module _ (f : ℕ → Bool) where
       parts : (l : List ℕ) (i n : ℕ) → any_of f (take (i + n) l) ≡ (any_of f (take i l) || any_of f (take n (drop i l)))
       parts l i n = ap (any_of f) (take-add i n l) ∙ any_append f (take i l) (take n (drop i l))
 
--- where eights begin that are as far on as they can be: each no later than the one before it ends
-abbrev pub Least : ℕ → ℕ → ℕ → Type 0
-Least r a b = (r ≤ a) × (r ≤ b) × ((r ≡ a) ⊎ (r ≡ b))
+  -- the k-th eight, or the last where that would go over the end
+  pub none_eight : (s : List ℕ) (k j : ℕ) {a b : Bool} → 8 ≤ length s → j ≡ min (length s - 8) (8 * k) → a ≡ not (any_of f (take (8 * k) s)) → b ≡ not (any_of f (take 8 (drop j s))) → (a && b) ≡ not (any_of f (take (8 * (k + 1)) s))
+  none_eight s k j l e p q =
+      let u : j + 8 ≡ min (8 * (k + 1)) (length s) = omega (arith, e) in
+      none_on s (min (8 * k) (length s)) j 8 (omega (arith, e)) (omega (arith, e)) (rw take_min p) q ∙ rw (u, take_min)
 
-pub near : (a last j k : ℕ) → Least j a last → Least k (a + 8) last → (k ≤ j + 8) × (j + 8 ≤ k + 8)
-near a last j k (p, q, inl e) (u, v, inl d) = (omega arith, omega arith)
-near a last j k (p, q, inl e) (u, v, inr d) = (omega arith, omega arith)
-near a last j k (p, q, inr e) (u, v, inl d) = (omega arith, omega arith)
-near a last j k (p, q, inr e) (u, v, inr d) = (omega arith, omega arith)
+-- eight bytes that come off what is left of the first n
+pub eight_off : (s eight rest : List ℕ) (at n : ℕ) → n ≤ length s → at ≤ n → drop at (take n s) ≡ eight ++ rest → length eight ≡ 8 → (at + 8 ≤ n) × (eight ≡ take 8 (drop at s)) × (rest ≡ drop (at + 8) (take n s))
+eight_off s eight rest at n l h e k =
+    let m : at + 8 ≤ n = omega (arith, k, length-append eight rest, ap length e, length-drop at (take n s), length-take-le n s l) in
+    let o : n ≡ at + (8 + (n - at - 8)) = omega arith in (
+      m,
+      sym (take_at eight rest 8 k) ∙ ap (take 8) (sym e ∙ ap (λ (x : ℕ). drop at (take x s)) o ∙ drop-take at (8 + (n - at - 8)) s) ∙ take-take 8 (8 + (n - at - 8)) (drop at s) (omega arith),
+      sym (drop_at eight rest 8 k) ∙ ap (drop 8) (sym e) ∙ drop-drop 8 at (take n s),
+    )

@@ -1,12 +1,11 @@
--- A loop that compares a text with a template: at place i, the text has the form just where it has had it so far and what is left has
--- the form of what is left of the template.
-use mathlib.Core.Path.{◌≡◌, refl, ◌∙◌, sym}
+-- A loop that compares a text with a template: the text has the form just where it has had it so far and what is left has the form of
+-- what is left of the template.
+use mathlib.Core.Path.{◌≡◌, refl, ap, ◌∙◌, sym}
 use mathlib.Core.Bool.{Bool, true, false, ◌&&◌, and_assoc, and-true}
-use mathlib.Core.List.{List}
-use Prim.Native.Nat.{ℕ, suc, ◌+◌, ◌≤◌, ◌<◌}
-use native.Mathlib.Numerals.{add-one}
-use lib.ListN.{length, drop, get_or, drop_of_length-le}
-use lib.Seq.{drop-cons}
+use mathlib.Core.List.{List, [], ◌∷◌}
+use Prim.Native.Nat.{ℕ}
+use native.Mathlib.Omega.{arith}
+use lib.ListN.{length}
 use Rattle.text.specs.Forms.{fits_byte, has_form}
 use Rattle.text.proofs.Pieces.{form_length}
 
@@ -17,11 +16,14 @@ unequal t s h = go (has_form t s) refl
     go true e = absurd (h (form_length t s e))
     go false e = refl
 
-module _ (t s : List ℕ) (i : ℕ) (so : Bool) (known : has_form t s ≡ (so && has_form (drop i t) (drop i s))) where
-  pub goes_on : i < length t → i < length s → has_form t s ≡ ((so && fits_byte (get_or t i 0) (get_or s i 0)) && has_form (drop (i + 1) t) (drop (i + 1) s))
-  unfolding has_form
-  goes_on a b = known ∙ rw (add-one, drop-cons t i 0, drop-cons s i 0) (sym (and_assoc so (fits_byte (get_or t i 0) (get_or s i 0)) (has_form (drop (suc i) t) (drop (suc i) s))))
+pub as_long : (ts bs : List ℕ) (t b : ℕ) (us cs : List ℕ) → ts ≡ t ∷ us → bs ≡ b ∷ cs → length ts ≡ length bs → length us ≡ length cs
+as_long ts bs t b us cs e f h = omega (arith, ap length e, ap length f, h)
 
-  pub whole : length t ≤ i → length s ≤ i → so ≡ has_form t s
+module _ (form so : Bool) (ts bs : List ℕ) (known : form ≡ (so && has_form ts bs)) where
+  pub goes_on : (t b : ℕ) (us cs : List ℕ) → ts ≡ t ∷ us → bs ≡ b ∷ cs → form ≡ ((so && fits_byte t b) && has_form us cs)
   unfolding has_form
-  whole a b = sym (known ∙ rw (drop_of_length-le t a, drop_of_length-le s b) (and-true so))
+  goes_on t b us cs e f = known ∙ rw (e, f) (sym (and_assoc so (fits_byte t b) (has_form us cs)))
+
+  pub ended : ts ≡ [] → bs ≡ [] → so ≡ form
+  unfolding has_form
+  ended e f = sym (known ∙ rw (e, f) (and-true so))

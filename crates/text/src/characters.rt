@@ -1,12 +1,12 @@
 // Admissible bytes (document 01; 000, 2.1): one test, the table of all answers, and the look over a part of a slice.
-ghost use Rattle.std.specs.Prelude.{◌≡◌, not, ◌&&◌, ◌+◌, ◌≤◌, length, take, drop};
+ghost use Rattle.std.specs.Prelude.{◌≡◌, not, ◌&&◌, ◌≤◌, length};
 ghost use Rattle.laws.specs.Lists.{any_of, tabulate};
 ghost use Rattle.text.specs.Characters.{is_plain, is_admissible, is_inadmissible, answers};
 
 pub fn is_plain(b: u8) -> bool
     ensures { result ≡ is_plain b }
 {
-    (0x20 <= b) & (b <= 0x7E)
+    matches!(b, 0x20..=0x7E)
 }
 
 // Of the bytes from 80 on, 64 to a word, one bit each.
@@ -21,7 +21,7 @@ pub fn is_admissible(b: u8) -> bool
     } else {
         0x3000_37E5_4174_0000
     };
-    (word >> ((b % 64) as u64)) % 2 == 1
+    (word >> (b % 64)) % 2 == 1
 }
 
 // 20 to 7E.
@@ -29,11 +29,7 @@ fn plain_table() -> [bool; 256]
     ensures { result ≡ tabulate is_plain 0 256 }
 {
     let mut t = [false; 256];
-    let mut b: usize = 0x20;
-    while b < 0x7F {
-        t[b] = true;
-        b += 1;
-    }
+    t[0x20..0x7F].fill(true);
     t
 }
 
@@ -45,48 +41,22 @@ pub fn table() -> [bool; 256]
     let others =
         b"\x81\x82\x84\x85\x8E\x90\x91\x92\x93\x94\x95\x96\x99\x9A\x9B\x9C\x9F\xA0\xA1\xA2\xA3\xA6\xA7\xAC\xAD\xB5\xB7\xD2\xD4\xD5\xD6\xD8\xDE\xE0\xE2\xE5\xE6\xE7\xE8\xE9\xEA\xEC\xED\xFC\xFD";
     let mut t = plain_table();
-    let mut k: usize = 0;
-    while k < 45 {
-        t[others[k] as usize] = true;
-        k += 1;
+    for b in others {
+        t[usize::from(*b)] = true;
     }
     t
 }
 
-fn is_good(t: &[bool; 256], b: u8) -> bool
+// Whether each byte is admissible. No byte ends the loop early: by `all`, which does, texts of 40 bytes and more took half as long again.
+fn all_good(t: &[bool; 256], s: &[u8]) -> bool
     requires { t.now ≡ answers }
-    ensures { result ≡ not (is_inadmissible b) }
-{
-    t[b as usize]
-}
-
-// The eight bytes from a place on.
-fn good_at(t: &[bool; 256], s: &[u8], i: usize) -> bool
-    requires { (t.now ≡ answers) × (i + 8 ≤ length s.now) }
-    ensures { result ≡ not (any_of is_inadmissible (take 8 (drop i s.now))) }
-{
-    is_good(t, s[i])
-        & is_good(t, s[i + 1])
-        & is_good(t, s[i + 2])
-        & is_good(t, s[i + 3])
-        & is_good(t, s[i + 4])
-        & is_good(t, s[i + 5])
-        & is_good(t, s[i + 6])
-        & is_good(t, s[i + 7])
-}
-
-// A short text, byte by byte.
-fn few_bad(t: &[bool; 256], s: &[u8]) -> bool
-    requires { t.now ≡ answers }
-    ensures { result ≡ any_of is_inadmissible s.now }
+    ensures { result ≡ not (any_of is_inadmissible s.now) }
 {
     let mut good = true;
-    let mut i = 0;
-    while i < s.len() {
-        good = good & is_good(t, s[i]);
-        i += 1;
+    for b in s {
+        good &= t[usize::from(*b)];
     }
-    !good
+    good
 }
 
 // A text of 8 to 40 bytes by five eights, each as far on as it can be: most texts are so long, and how many eights there are is not guessed.
@@ -95,14 +65,12 @@ fn five_good(t: &[bool; 256], s: &[u8]) -> bool
     ensures { result ≡ not (any_of is_inadmissible s.now) }
 {
     let last = s.len() - 8;
-    let second = crate::least(8, last);
-    let third = crate::least(16, last);
-    let fourth = crate::least(24, last);
-    good_at(t, s, 0)
-        & good_at(t, s, second)
-        & good_at(t, s, third)
-        & good_at(t, s, fourth)
-        & good_at(t, s, last)
+    let mut good = true;
+    for k in 0..5 {
+        let at = last.min(8 * k);
+        good &= all_good(t, &s[at..at + 8]);
+    }
+    good
 }
 
 // By eights; the last eight may have been looked at in part.
@@ -112,19 +80,16 @@ fn holds_bad(t: &[bool; 256], s: &[u8]) -> bool
 {
     let n = s.len();
     if n < 8 {
-        return few_bad(t, s);
+        return !all_good(t, s);
     }
     if n <= 40 {
         return !five_good(t, s);
     }
-    let last = n - 8;
     let mut good = true;
-    let mut i = 0;
-    while i < last {
-        good = good & good_at(t, s, i);
-        i += 8;
+    for eight in s[..n - 1].chunks_exact(8) {
+        good &= all_good(t, eight);
     }
-    !(good & good_at(t, s, last))
+    !(good & all_good(t, &s[n - 8..]))
 }
 
 // Whether a text holds an inadmissible byte (rule 1): where none is odd, that is not plain, the table is not asked.
@@ -132,8 +97,5 @@ pub fn holds_inadmissible(t: &[bool; 256], s: &[u8], odd: bool) -> bool
     requires { t.now ≡ answers }
     ensures { result ≡ (odd && any_of is_inadmissible s.now) }
 {
-    if odd {
-        return holds_bad(t, s);
-    }
-    false
+    odd && holds_bad(t, s)
 }

@@ -11,13 +11,10 @@ fn width(v: u64) -> usize
     ensures few { result ≤ 20 }
     ensures enough { digits result v ≡ decimal v }
 {
-    let mut n = 1;
-    let mut rest = v / 10;
-    while 0 < rest {
-        rest = rest / 10;
-        n += 1;
+    match v.checked_ilog10() {
+        Some(before) => before as usize + 1,
+        None => 1,
     }
-    n
 }
 
 // Writes a number from a place on and answers the place after it.

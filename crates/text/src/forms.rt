@@ -10,10 +10,11 @@ use super::{digits, strings};
 fn fits_byte(t: u8, b: u8) -> bool
     ensures { result ≡ fits_byte t b }
 {
-    (b == t) | ((t == 48) & ((48 <= b) & (b <= 57)))
+    (b == t) | ((t == b'0') & b.is_ascii_digit())
 }
 
-// Whether a text has the form of a template, a text with 0 for each digit. No byte ends the loop early, so that many are compared at once.
+// Whether a text has the form of a template, a text with 0 for each digit. No byte ends the loop early, so that many are compared at once:
+// by `all`, which ends it, a heading took ten times as long.
 pub fn has_form(template: &[u8], s: &[u8]) -> bool
     ensures { result ≡ has_form template.now s.now }
 {
@@ -21,10 +22,8 @@ pub fn has_form(template: &[u8], s: &[u8]) -> bool
         return false;
     }
     let mut all = true;
-    let mut i = 0;
-    while i < template.len() {
-        all = all & fits_byte(template[i], s[i]);
-        i += 1;
+    for (t, b) in template.iter().zip(s) {
+        all &= fits_byte(*t, *b);
     }
     all
 }

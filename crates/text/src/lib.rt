@@ -15,8 +15,5 @@ pub mod strings;
 pub fn least(a: usize, b: usize) -> usize
     ensures { (result ≤ a) × (result ≤ b) × ((result ≡ a) ⊎ (result ≡ b)) }
 {
-    if a < b {
-        return a;
-    }
-    b
+    a.min(b)
 }

@@ -5,17 +5,7 @@ ghost use Rattle.text.specs.Strings.{begins, Wrote};
 pub fn starts(s: &[u8], x: &[u8]) -> bool
     ensures { result ≡ begins s.now x.now }
 {
-    let mut i = 0;
-    while i < x.len() {
-        if s.len() <= i {
-            return false;
-        }
-        if s[i] != x[i] {
-            return false;
-        }
-        i += 1;
-    }
-    true
+    s.starts_with(x)
 }
 
 // Writes x from a place on and answers the place after it.
@@ -23,10 +13,7 @@ pub fn put(out: &mut [u8], at: usize, x: &[u8]) -> usize
     requires { at + length x.now ≤ length out.old }
     ensures { Wrote out.old at x.now out.new result }
 {
-    let mut i = 0;
-    while i < x.len() {
-        out[at + i] = x[i];
-        i += 1;
-    }
-    at + i
+    let end = at + x.len();
+    out[at..end].copy_from_slice(x);
+    end
 }

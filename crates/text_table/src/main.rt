@@ -11,14 +11,10 @@ fn flag(b: bool) -> u64 {
     if b { 1 } else { 0 }
 }
 
-fn admissible_bytes() -> u64 {
-    let mut n: u64 = 0;
-    let mut b: usize = 0;
-    while b < 256 {
-        n = std::num::wrapping_add_u64(n, flag(text::characters::is_admissible(b as u8)));
-        b += 1;
-    }
-    n
+fn admissible_bytes() -> usize {
+    (0..=255u8)
+        .filter(|&b| text::characters::is_admissible(b))
+        .count()
 }
 
 fn bad_byte(rt: &impl Print, name: &str, s: &[u8]) -> io::Result<()> {
@@ -35,7 +31,7 @@ fn admissible(rt: &impl Print, name: &str, b: u8) -> io::Result<()> {
 }
 
 fn characters(rt: &impl Print) -> io::Result<()> {
-    show(rt, "admissible bytes", admissible_bytes())?;
+    show(rt, "admissible bytes", admissible_bytes() as u64)?;
     admissible(rt, "admissible 1F", 0x1F)?;
     admissible(rt, "admissible 20", 0x20)?;
     admissible(rt, "admissible 7E", 0x7E)?;

@@ -1,14 +1,14 @@
 -- The first step of deriving (document 01, amended by A12): its refusals in their order, and the outgoing type and codes. Below, o is an
 -- outcome, p the sender's standing (1 direct, 2 third party).
-use Rattle.std.specs.Prelude.{ℕ, Bool, not, ◌&&◌, ◌||◌, List, [], ◌∷◌, leb, eqb}
+use Rattle.std.specs.Prelude.{ℕ, Bool, not, ◌&&◌, ◌||◌, List, [], ◌∷◌, leb, eqb, Result, Ok, Err}
 use Rattle.laws.specs.Refusals.{Refusal, ◌if◌}
 use Rattle.headings.specs.declared.Heading.{Heading}
 use Rattle.headings.specs.ItemTypes.{is_closing, is_trilateral}
 use Rattle.headings.specs.HeadRules.{rule10, rule13, rule14}
 use Rattle.outcome_tables.specs.declared.Codes.{Codes}
 use Rattle.outcome_tables.specs.Outcomes.{outgoing, codes}
-use Rattle.turning.specs.declared.Turned.{Turned}
-use Rattle.turning.specs.declared.Turned.TheVariants as turning
+use Rattle.turning.specs.declared.TurnError.{TurnError}
+use Rattle.turning.specs.declared.TurnError.TheVariants.{Barred, NotOutcome, Nowhere}
 
 -- '12: a 51, or breaks rule 10, 13 or 14'
 unfoldable pub barred : Heading → Bool
@@ -47,16 +47,18 @@ turned h o = coded (outgoing h.kind o) (codes (is_trilateral h.kind) o h.first h
 abbrev pub turn_refusals : Heading → ℕ → ℕ → List Refusal
 turn_refusals h o p = (12 if barred_to p h) ∷ (13 if not (is_outcome o && is_standing p)) ∷ (14 if is_missing p h.kind o) ∷ []
 
--- document 01's number for each answer of the first step
-abbrev pub turn_number : Turned → ℕ
-turn_number (turning.To g) = 0
-turn_number turning.Barred = 12
-turn_number turning.NotOutcome = 13
-turn_number turning.Nowhere = 14
+-- document 01's number for each refusal of the first step
+abbrev pub refusal_number : TurnError → ℕ
+refusal_number Barred = 12
+refusal_number NotOutcome = 13
+refusal_number Nowhere = 14
+
+-- and for each answer
+abbrev pub turn_number : Result Heading TurnError → ℕ
+turn_number (Ok g) = 0
+turn_number (Err e) = refusal_number e
 
 -- the heading that an answer of the first step carries, or the one given where it carries none
-abbrev pub turn_heading : Turned → Heading → Heading
-turn_heading (turning.To g) h = g
-turn_heading turning.Barred h = h
-turn_heading turning.NotOutcome h = h
-turn_heading turning.Nowhere h = h
+abbrev pub turn_heading : Result Heading TurnError → Heading → Heading
+turn_heading (Ok g) h = g
+turn_heading (Err e) h = h

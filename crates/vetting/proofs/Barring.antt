@@ -9,7 +9,6 @@ use Rattle.laws.proofs.Truth.{by_test}
 use Rattle.laws.specs.Lists.{any_of}
 use Rattle.laws.specs.Tests.{mark}
 use Rattle.headings.specs.declared.Heading.{Heading}
-use Rattle.headings.specs.declared.Read.TheVariants.{Reads}
 use Rattle.figures.specs.declared.parts.Number.{Number}
 use Rattle.figures.specs.declared.parts.Number.TheVariants.{Good, Failing, Zero}
 use Rattle.fields.specs.declared.readings.Reading.{Reading}
@@ -31,6 +30,7 @@ use Rattle.account.proofs.Accounting.{same_eight}
 use Rattle.judging.specs.Opening.{said_marks, kc_marks}
 use Rattle.vetting.specs.Vetting.{bars, any_barred}
 use Rattle.vetting.specs.Parts.{own_breaks, field_barred}
+use Rattle.std.specs.Prelude.{Some}
 
 -- what a list of tests bars
 abbrev pub barring : List Test → Bool
@@ -74,10 +74,10 @@ low_more l ls =
 -- by what it says, where `first` says whether it is the first KC: 6 to 9, 23 or 24
 abbrev pub said_bad : Terms → Bool → Heading → Reading → Bool
 said_bad terms first h said =
-    is_broken said || (of_party prefix_fails said || ((first && late terms (Reads h) said) || ((first && large (Reads h) said) || (of_party number_fails said || of_party number_zero said))))
+    is_broken said || (of_party prefix_fails said || ((first && late terms (Some h) said) || ((first && large (Some h) said) || (of_party number_fails said || of_party number_zero said))))
 
 -- as marks, which the code asks for
-pub marks_bad : (terms : Terms) (first : Bool) (h : Heading) (said : Reading) → not (eqb (said_marks (basis_of terms) first (Reads h) said) 0) ≡ said_bad terms first h said
+pub marks_bad : (terms : Terms) (first : Bool) (h : Heading) (said : Reading) → not (eqb (said_marks (basis_of terms) first (Some h) said) 0) ≡ said_bad terms first h said
 unfolding said_marks kc_marks
 marks_bad terms true h Broken = refl
 marks_bad terms false h Broken = refl
@@ -129,13 +129,13 @@ first_again terms h ident above said = go (eqb ident (named "KC")) refl
     go false e = refl
 
 field_tests_lem : (terms : Terms) (h : Heading) (above : List (Owned FieldRow)) (g : Owned FieldRow)
-    → barring (field_tests terms (Reads h) above g)
+    → barring (field_tests terms (Some h) above g)
     ≡ ((bad_row g.owner.row || stands g.owner.ident above) || said_bad terms (eqb g.owner.ident (named "KC")) h (says g))
 unfolding field_tests says
 field_tests_lem terms h above g =
-    tested_is (field_tests terms (Reads h) above g)
-    ∙ ap (λ (t : Bool). rule1 g.owner.row || (rule4 g.owner.row || (rule5 above g || (rule6 g || (rule7 g || (rule8_at terms (Reads h) above g || (rule9_at (Reads h) above g || (rule23 g || t)))))))) (or-false (rule24 g))
-    ∙ ap (λ (t : Bool). rule1 g.owner.row || (rule4 g.owner.row || (rule5 above g || (t || (rule7 g || (rule8_at terms (Reads h) above g || (rule9_at (Reads h) above g || (rule23 g || rule24 g)))))))) (sym broken_is)
+    tested_is (field_tests terms (Some h) above g)
+    ∙ ap (λ (t : Bool). rule1 g.owner.row || (rule4 g.owner.row || (rule5 above g || (rule6 g || (rule7 g || (rule8_at terms (Some h) above g || (rule9_at (Some h) above g || (rule23 g || t)))))))) (or-false (rule24 g))
+    ∙ ap (λ (t : Bool). rule1 g.owner.row || (rule4 g.owner.row || (rule5 above g || (t || (rule7 g || (rule8_at terms (Some h) above g || (rule9_at (Some h) above g || (rule23 g || rule24 g)))))))) (sym broken_is)
     ∙ ap (λ (t : Bool). rule1 g.owner.row || (rule4 g.owner.row || t)) (first_again terms h g.owner.ident above (says g))
     ∙ turn (rule1 g.owner.row) (rule4 g.owner.row) (rule5 above g) (said_bad terms (eqb g.owner.ident (named "KC")) h (says g))
   where

@@ -9,33 +9,34 @@ use lib.ListN.{length, drop, get_or, set, replicate, length-set, length-replicat
 use lib.Seq.{get_or-set_same, get_or-set_other}
 use borrow.Author.Tests.{eq-eqb, ne_eqb, eqb-true, eqb-false}
 use Rattle.headings.specs.declared.Heading.{Heading}
-use Rattle.rules.specs.declared.FirstKc.{FirstKc}
-use Rattle.rules.specs.declared.FirstKc.TheVariants.{NoKc, BrokenKc, Pays}
+use Rattle.rules.specs.declared.First.{First}
+use Rattle.rules.specs.declared.First.TheVariants.{Missing, Unread, Says}
+use Rattle.rules.specs.declared.Payment.{Payment}
 use Rattle.rules.specs.Terms.{Terms}
 use Rattle.rules.specs.Rows.{FieldRow}
 use Rattle.rules.specs.Tree.{Owned}
 use Rattle.rules.specs.Said.{stands, first_said}
-use Rattle.items.specs.Claims.{kc_kept}
+use Rattle.items.specs.Claims.{first_of}
 use Rattle.item_reader.specs.Slips.{kc_among, file_from}
 use Rattle.vetting.specs.Vetting.{Stamped}
 use Rattle.vetting.specs.Parts.{fields_barred, Sure, FieldAt, FieldsAt}
 use Rattle.vetting.proofs.Here.{Ends}
 
 -- ---- the first KC
-kept_none : (k : FirstKc) → kc_kept k NoKc ≡ k
-kept_none NoKc = refl
-kept_none BrokenKc = refl
-kept_none (Pays a d) = refl
+kept_none : (k : First Payment) → first_of k Missing ≡ k
+kept_none Missing = refl
+kept_none Unread = refl
+kept_none (Says p) = refl
 
-kept_assoc : (a b c : FirstKc) → kc_kept a (kc_kept b c) ≡ kc_kept (kc_kept a b) c
-kept_assoc NoKc b c = refl
-kept_assoc BrokenKc b c = refl
-kept_assoc (Pays a d) b c = refl
+kept_assoc : (a b c : First Payment) → first_of a (first_of b c) ≡ first_of (first_of a b) c
+kept_assoc Missing b c = refl
+kept_assoc Unread b c = refl
+kept_assoc (Says p) b c = refl
 
-kept_sure : (a b : FirstKc) → Sure a → Sure b → Sure (kc_kept a b)
-kept_sure NoKc b p q = q
-kept_sure BrokenKc b p q = p
-kept_sure (Pays a d) b p q = p
+kept_sure : (a b : First Payment) → Sure a → Sure b → Sure (first_of a b)
+kept_sure Missing b p q = q
+kept_sure Unread b p q = p
+kept_sure (Says said) b p q = p
 
 -- ---- stamps
 abbrev pub StampedIn : List ℕ → ℕ → List (Owned FieldRow) → Type 0
@@ -75,16 +76,16 @@ pub stamped_none : Stamped (replicate 1296 0) 1
 stamped_none = (length-replicate {A = ℕ} 1296 0, λ i l. let z : ◌≡◌ {A = ℕ} (get_or (replicate 1296 0) i 0) 0 = get_or-replicate 1296 i 0 0 l in omega (arith, z))
 
 -- ---- what is known at a place below some fields, nearest first
-pub record Fielding (terms : Terms) (h : Heading) (s : List ℕ) (at n stamp : ℕ) (stood : List ℕ) (kc : FirstKc) (p : ℕ) : Type 0 where
+pub record Fielding (terms : Terms) (h : Heading) (s : List ℕ) (at n stamp : ℕ) (stood : List ℕ) (kc : First Payment) (p : ℕ) : Type 0 where
   pub below : ℕ
   pub above : List (Owned FieldRow)
   pub items : (file_from n (drop at s)).items ≡ (file_from below (drop p s)).items
   pub left : fields_barred terms h [] (file_from n (drop at s)).loose ≡ fields_barred terms h above (file_from below (drop p s)).loose
-  pub states : kc_among (file_from n (drop at s)).loose ≡ kc_kept kc (kc_among (file_from below (drop p s)).loose)
+  pub states : kc_among (file_from n (drop at s)).loose ≡ first_of kc (kc_among (file_from below (drop p s)).loose)
   pub stamped : StampedIn stood stamp above
   pub known : Sure kc
 
-pub fields_start : (terms : Terms) (h : Heading) (s : List ℕ) (at n stamp : ℕ) (stood : List ℕ) → Stamped stood stamp → Fielding terms h s at n stamp stood NoKc at
+pub fields_start : (terms : Terms) (h : Heading) (s : List ℕ) (at n stamp : ℕ) (stood : List ℕ) → Stamped stood stamp → Fielding terms h s at n stamp stood Missing at
 fields_start terms h s at n stamp stood S = record {
   below = n;
   above = [];
@@ -95,10 +96,10 @@ fields_start terms h s at n stamp stood S = record {
   known = tt;
 }
 
-module _ {terms : Terms} {h : Heading} {s : List ℕ} {at n stamp : ℕ} {stood : List ℕ} {kc : FirstKc} {p : ℕ} (F : Fielding terms h s at n stamp stood kc p) where
+module _ {terms : Terms} {h : Heading} {s : List ℕ} {at n stamp : ℕ} {stood : List ℕ} {kc : First Payment} {p : ℕ} (F : Fielding terms h s at n stamp stood kc p) where
   -- a field that breaks nothing
-  pub fields_more : {ident : ℕ} {again : Bool} {own : FirstKc} {next : ℕ} → ident < 1296 → ident < length stood → again ≡ eqb (get_or stood ident 0) stamp
-      → FieldAt terms h s p F.below ident again own next → Sure own → Fielding terms h s at n stamp (set stood ident stamp) (kc_kept kc own) next
+  pub fields_more : {ident : ℕ} {again : Bool} {own : First Payment} {next : ℕ} → ident < 1296 → ident < length stood → again ≡ eqb (get_or stood ident 0) stamp
+      → FieldAt terms h s p F.below ident again own next → Sure own → Fielding terms h s at n stamp (set stood ident stamp) (first_of kc own) next
   unfolding fields_barred
   fields_more {ident} {again} {own} {next} l k e A w = record {
     below = A.below;
@@ -107,7 +108,7 @@ module _ {terms : Terms} {h : Heading} {s : List ℕ} {at n stamp : ℕ} {stood 
     left =
         F.left ∙ ap (fields_barred terms h F.above) A.loose
         ∙ ap (λ (t : Bool). t || fields_barred terms h (A.field ∷ F.above) (file_from A.below (drop next s)).loose) (A.sound F.above (sym (F.stamped ident l) ∙ sym e));
-    states = F.states ∙ ap (kc_kept kc) (ap kc_among A.loose ∙ A.states (file_from A.below (drop next s)).loose) ∙ kept_assoc kc own (kc_among (file_from A.below (drop next s)).loose);
+    states = F.states ∙ ap (first_of kc) (ap kc_among A.loose ∙ A.states (file_from A.below (drop next s)).loose) ∙ kept_assoc kc own (kc_among (file_from A.below (drop next s)).loose);
     stamped = stamped_more stood stamp ident F.above A.field k A.ident_is F.stamped;
     known = kept_sure kc own F.known w;
   }
@@ -125,5 +126,5 @@ module _ {terms : Terms} {h : Heading} {s : List ℕ} {at n stamp : ℕ} {stood 
     below = F.below;
     items = F.items;
     sound = F.left ∙ ap (fields_barred terms h F.above) (E.loose F.below);
-    states = F.states ∙ ap (λ (gs : List (Owned FieldRow)). kc_kept kc (kc_among gs)) (E.loose F.below) ∙ kept_none kc;
+    states = F.states ∙ ap (λ (gs : List (Owned FieldRow)). first_of kc (kc_among gs)) (E.loose F.below) ∙ kept_none kc;
   }

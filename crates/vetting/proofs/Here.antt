@@ -24,7 +24,7 @@ use Rattle.rules.specs.Tree.{File, no_lines, tree, ◌▹◌}
 use Rattle.item_reader.specs.Slips.{file_from, Headed}
 use Rattle.item_reader.proofs.Starts.{kind_told}
 use Rattle.vetting.specs.declared.own_line.Judged.{Judged}
-use Rattle.vetting.specs.Parts.{judged_at, is_low, ident_by, low_at}
+use Rattle.vetting.specs.Parts.{judged_at, is_low, low_at}
 
 abbrev pub row_at : List ℕ → ℕ → ℕ → Row
 row_at s p n = record { no = n; bytes = span p (line_at s p).end s; ended = (line_at s p).ended }
@@ -72,30 +72,20 @@ pub record Ends (s : List ℕ) (p : ℕ) : Type 0 where
   pub headed : p < length s → Headed s p
   pub loose : (n : ℕ) → (file_from n (drop p s)).loose ≡ []
 
-pub ends : (s : List ℕ) (p : ℕ) → low_at s p ≡ false → 1296 ≤ ident_by (kind_of (drop p s)) → Ends s p
+pub ends : (s : List ℕ) (p : ℕ) → low_at s p ≡ false → ((i : ℕ) → kind_of (drop p s) ≡ Field i → ⊥) → Ends s p
 ends s p e g = go (ltb p (length s)) refl
   where
-    by_kind : p < length s → (k : Kind) → kind_of (drop p s) ≡ k → is_low k ≡ false → 1296 ≤ ident_by k → Ends s p
-    by_kind h Heading q w l = record { headed = λ _. headed_here s p h q; loose = λ n. ap (λ (f : File). f.loose) (file_at s p h Heading q n) }
-    by_kind h Continuation q w l = absurd (true≢false w)
-    by_kind h (Field i) q w l = absurd (omega (arith, (field_is (drop p s) i q).2))
-    by_kind h Other q w l = absurd (true≢false w)
+    by_kind : p < length s → (k : Kind) → kind_of (drop p s) ≡ k → is_low k ≡ false → Ends s p
+    by_kind h Heading q w = record { headed = λ _. headed_here s p h q; loose = λ n. ap (λ (f : File). f.loose) (file_at s p h Heading q n) }
+    by_kind h Continuation q w = absurd (true≢false w)
+    by_kind h (Field i) q w = absurd (g i q)
+    by_kind h Other q w = absurd (true≢false w)
 
     go : (t : Bool) → ltb p (length s) ≡ t → Ends s p
-    go true q = by_kind (ltb-true p (length s) q) (kind_of (drop p s)) refl (ap (λ (t : Bool). t && is_low (kind_of (drop p s))) (sym q) ∙ e) g
+    go true q = by_kind (ltb-true p (length s) q) (kind_of (drop p s)) refl (ap (λ (t : Bool). t && is_low (kind_of (drop p s))) (sym q) ∙ e)
     go false q =
         let past = ltb-false p (length s) q in
         record { headed = λ h. absurd (omega arith); loose = λ n. ap (λ (f : File). f.loose) (none_here s p past n) }
-
--- a field stands where an identifier was told
-pub field_here : (s : List ℕ) (p i : ℕ) → i ≡ ident_by (kind_of (drop p s)) → i < 1296 → kind_of (drop p s) ≡ Field i
-field_here s p i e l = go (kind_of (drop p s)) refl e
-  where
-    go : (k : Kind) → kind_of (drop p s) ≡ k → i ≡ ident_by k → kind_of (drop p s) ≡ Field i
-    go Heading q w = absurd (omega arith)
-    go Continuation q w = absurd (omega arith)
-    go (Field j) q w = q ∙ ap Field (sym w)
-    go Other q w = absurd (omega arith)
 
 -- a line is judged: where none of its bytes is odd the table need not be asked
 pub judged_is : (s : List ℕ) (at : ℕ) {f : Found} {b : Bool} → f ≡ line_at s at → at < length s → b ≡ (f.odd && any_of is_inadmissible (span at f.end s))
@@ -105,5 +95,6 @@ judged_is s at {f} {b} e h q =
     ap (λ (t : Bool). record { end = f.end; next = f.next; bad = t || not f.ended }) asked
     ∙ ap (λ (g : Found). record { end = g.end; next = g.next; bad = any_of is_inadmissible (span at g.end s) || not g.ended }) e
 
-pub field_in : (s : List ℕ) (p i : ℕ) → kind_of (drop p s) ≡ Field i → p < length s
-field_in s p i e = omega (arith, (field_is (drop p s) i e).0, length-drop p s)
+-- a field has bytes, and a number below 1296
+pub field_in : (s : List ℕ) (p i : ℕ) → kind_of (drop p s) ≡ Field i → (p < length s) × (i < 1296)
+field_in s p i e = let f = field_is (drop p s) i e in (omega (arith, f.0, length-drop p s), f.2)

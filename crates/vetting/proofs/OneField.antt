@@ -20,7 +20,7 @@ use Rattle.fields.specs.Classes.{class_of}
 use Rattle.fields.specs.Codes.{code_of}
 use Rattle.fields.specs.Readings.{text_of, layout_of, said_by, reading_of, if_fits}
 use Rattle.fields.specs.Tails.{takes, says_of, is_broken}
-use Rattle.rules.specs.declared.FirstKc.TheVariants.{NoKc}
+use Rattle.rules.specs.declared.First.TheVariants.{Missing}
 use Rattle.rules.specs.Terms.{Terms}
 use Rattle.rules.specs.LineRules.{inside, rule1}
 use Rattle.rules.specs.Rows.{FieldRow, LowRow, field}
@@ -28,7 +28,7 @@ use Rattle.rules.specs.Tree.{Owned, File, ◌▹◌}
 use Rattle.rules.specs.Said.{continuations, says, stands, or_else, if_there, first_said, is, kc_by, kc_of}
 use Rattle.rules.specs.Spots.{lows}
 use Rattle.own_rules.specs.Model.{basis_of}
-use Rattle.items.specs.Claims.{kc_kept}
+use Rattle.items.specs.Claims.{first_of}
 use Rattle.items.proofs.Firsts.{kc_first}
 use Rattle.judging.proofs.OpenField.{says_own}
 use Rattle.item_reader.specs.Slips.{kc_among, file_from}
@@ -144,7 +144,7 @@ module _ (s : List ℕ) (at ident : ℕ) (l : at < length s) (e : kind_of (drop 
               ∙ kept (eqb ident (named "KC")) gs;
         }
       where
-        kept : (t : Bool) (gs : List (Owned FieldRow)) → kc_of (or_else (if_there t said) (first_said (is (named "KC")) gs)) ≡ kc_kept (cond t (kc_by said) NoKc) (kc_among gs)
+        kept : (t : Bool) (gs : List (Owned FieldRow)) → kc_of (or_else (if_there t said) (first_said (is (named "KC")) gs)) ≡ first_of (cond t (kc_by said) Missing) (kc_among gs)
         kept true gs = sym (kc_first said (kc_among gs))
         kept false gs = refl
 
@@ -154,7 +154,7 @@ module _ (s : List ℕ) (at ident : ℕ) (l : at < length s) (e : kind_of (drop 
         reads : is_broken said ≡ false
         reads = unbroken terms h ident again (bad_at s at) said q
 
-        go : (t : Bool) → eqb ident (named "KC") ≡ t → Sure (cond t (kc_by said) NoKc)
+        go : (t : Bool) → eqb ident (named "KC") ≡ t → Sure (cond t (kc_by said) Missing)
         go true k =
             let m : said ≡ reading_of Money (text_of (span at (line_at s at).end s)) = S ∙ ap (λ (c : Class). reading_of c (text_of (span at (line_at s at).end s))) (ap class_of (eqb-true ident (named "KC") k) ∙ kc_class) in
             subst (λ (r : Reading). Sure (kc_by r)) (sym m) (paid_sure (text_of (span at (line_at s at).end s)) (ap is_broken (sym m) ∙ reads))

@@ -18,25 +18,26 @@ ghost use Rattle.vetting.specs.Vetting.{Stamped, Takes};
 ghost use Rattle.vetting.specs.Parts.{low_at, FieldsTo};
 
 use fields::classes;
+use fields::kinds::Kind;
 use headings::{Amount, Heading};
 use items::claiming;
-use own_heading::Started;
-use own_line::{ident_of, kind_at, stood_in};
+use own_line::{kind_at, stood_in};
 use own_rules::{Basis, breaks_fifteen};
-use rules::FirstKc;
+use rules::{First, Payment};
 
-// What is taken of an item: its heading, the amount of its first KC, and the place of the next item; or that a line of it bars it.
+// What is taken of an item that no line of it bars: its heading, the amount of its first KC, and the place of the next item.
 #[derive(Clone, Copy)]
-pub enum Taken {
-    Sound(Heading, Amount, usize),
-    Barred,
+pub struct Taken {
+    pub heading: Heading,
+    pub amount: Amount,
+    pub next: usize,
 }
 
-// Fields that break nothing: the first KC among them, and the place below them; or that a line of them bars the item.
+// Fields that break nothing: the first KC among them, and the place below them.
 #[derive(Clone, Copy)]
-pub enum Passed {
-    By(FirstKc, usize),
-    Bars,
+pub struct Passed {
+    pub kc: First<Payment>,
+    pub next: usize,
 }
 
 // No identifier stood in any item: what the first item's stamp, 1, is above.
@@ -46,7 +47,7 @@ pub fn unstamped() -> [usize; 1296]
     [0; 1296]
 }
 
-// The fields from a place on, down to the next heading.
+// The fields from a place on, down to the next heading; none where a line of them bars the item.
 fn fields_from(
     table: &[bool; 256],
     stood: &mut [usize; 1296],
@@ -55,43 +56,33 @@ fn fields_from(
     stamp: usize,
     basis: Basis,
     h: Heading,
-) -> Passed
+) -> Option<Passed>
     requires { (table.now ≡ answers) × (at ≤ length s.now) × (low_at s.now at ≡ false) × Stamped stood.old stamp }
     ensures fields_to { (terms : Terms) → basis ≡ basis_of terms → FieldsTo terms h s.now at result }
     ensures stamped { Stamped stood.new (stamp + 1) }
 {
     let codes = classes::codes();
-    let mut kc = FirstKc::NoKc;
-    let mut p = at;
-    let mut ident = ident_of(kind_at(s, p));
-    while ident < 1296 {
+    let mut kc = First::Missing;
+    let mut next = at;
+    while let Kind::Field(ident) = kind_at(s, next) {
         let again = stood_in(stood, ident, stamp);
-        let class = codes[ident];
-        match own_field::field_at(table, s, p, ident, class, again, basis, h) {
-            Passed::By(own, next) => {
-                kc = claiming::kc_kept(kc, own);
-                p = next;
-                ident = ident_of(kind_at(s, next));
-            }
-            Passed::Bars => {
-                return Passed::Bars;
-            }
-        }
+        let field = own_field::field_at(table, s, next, ident, codes[ident], again, basis, h)?;
+        kc = claiming::first_of(kc, field.kc);
+        next = field.next;
     }
-    Passed::By(kc, p)
+    Some(Passed { kc, next })
 }
 
-fn amount_of(kc: FirstKc) -> Amount
+fn amount_of(kc: First<Payment>) -> Amount
     ensures { result.0 ≡ amount_of kc }
 {
     match kc {
-        FirstKc::NoKc => Amount(0),
-        FirstKc::BrokenKc => Amount(0),
-        FirstKc::Pays(amount, _) => amount,
+        First::Says(paid) => paid.amount,
+        _ => Amount(0),
     }
 }
 
-// The item whose heading stands at a place. The stamp is that of no item before it.
+// The item whose heading stands at a place; none where a line of it bars it. The stamp is that of no item before it.
 pub fn take_item(
     table: &[bool; 256],
     stood: &mut [usize; 1296],
@@ -99,24 +90,20 @@ pub fn take_item(
     at: usize,
     stamp: usize,
     basis: Basis,
-) -> Taken
+) -> Option<Taken>
     requires { (table.now ≡ answers) × (at < length s.now) × Headed s.now at × Stamped stood.old stamp }
     ensures takes { (terms : Terms) → basis ≡ basis_of terms → Takes terms s.now at result }
     ensures stamped { Stamped stood.new (stamp + 1) }
 {
-    let head = own_heading::head_at(table, s, at, basis);
-    match head {
-        Started::With(h, first) => {
-            match fields_from(table, stood, s, first, stamp, basis, h) {
-                Passed::By(kc, next) => {
-                    if breaks_fifteen(h.kind, kc) {
-                        return Taken::Barred;
-                    }
-                    Taken::Sound(h, amount_of(kc), next)
-                }
-                Passed::Bars => Taken::Barred,
-            }
-        }
-        Started::Bars => Taken::Barred,
+    let head = own_heading::head_at(table, s, at, basis)?;
+    let h = head.heading;
+    let fields = fields_from(table, stood, s, head.next, stamp, basis, h)?;
+    if breaks_fifteen(h.kind, fields.kc) {
+        return None;
     }
+    Some(Taken {
+        heading: h,
+        amount: amount_of(fields.kc),
+        next: fields.next,
+    })
 }

@@ -18,44 +18,36 @@ use headings::Heading;
 use items::claiming;
 use judging::opening;
 use own_rules::Basis;
-use rules::FirstKc;
-
-// Where a field's continuations stop, or that they break it, or one of the lines a rule of its own.
-#[derive(Clone, Copy)]
-pub enum Stop {
-    At(usize),
-    Breaks,
-}
+use rules::{First, Payment};
 
 // One more, four standing for more than three.
 fn one_more(n: u32) -> u32
     ensures { result ≡ min 4 (suc n) }
 {
-    if 3 < n {
-        return 4;
-    }
-    n + 1
+    n.min(3) + 1
 }
 
-// The lines from a place on down to the next heading or field, below a field of a class.
-fn tail_end(table: &[bool; 256], s: &[u8], at: usize, class: u8) -> Stop
+// Where the lines from a place on, below a field of a class, come to the next heading or field; none where they break the field, or one of
+// them a rule of its own.
+fn tail_end(table: &[bool; 256], s: &[u8], at: usize, class: u8) -> Option<usize>
     requires { (table.now ≡ answers) × (at ≤ length s.now) }
     ensures { TailTo s.now at class result }
 {
     let mut p = at;
     let mut tail: u32 = 0;
+    // A `while`: each line tells where the next one starts.
     while continues(kind_at(s, p)) {
         let l = judged_at(table, s, p);
         tail = one_more(tail);
         if l.bad | opening::breaks_tail(class, tail, l.end - p) {
-            return Stop::Breaks;
+            return None;
         }
         p = l.next;
     }
     if low_at(s, p) {
-        return Stop::Breaks;
+        return None;
     }
-    Stop::At(p)
+    Some(p)
 }
 
 // What a field line says by its own text.
@@ -76,16 +68,16 @@ fn own_breaks(basis: Basis, h: Heading, ident: usize, again: bool, bad: bool, sa
 }
 
 // The KC that a field is.
-fn kc_of(ident: usize, said: Reading) -> FirstKc
+fn kc_of(ident: usize, said: Reading) -> First<Payment>
     ensures { result ≡ kc_here ident said }
 {
     if ident == classes::KC {
         return claiming::kc_by(said);
     }
-    FirstKc::NoKc
+    First::Missing
 }
 
-// The field at a place; `again` says whether its identifier stood already in the item.
+// The field at a place; none where a line of it bars the item. `again` says whether its identifier stood already in the item.
 pub fn field_at(
     table: &[bool; 256],
     s: &[u8],
@@ -95,7 +87,7 @@ pub fn field_at(
     again: bool,
     basis: Basis,
     h: Heading,
-) -> Passed
+) -> Option<Passed>
     requires { (table.now ≡ answers) × (at < length s.now) × (kind_of (drop at s.now) ≡ Field ident) × (class ≡ code_of ident) }
     ensures field_to { (terms : Terms) → basis ≡ basis_of terms → FieldTo terms h s.now at ident again result }
     ensures field_leads { FieldLeads s.now at result }
@@ -104,11 +96,11 @@ pub fn field_at(
     let end = l.end;
     let said = said_at(class, &s[at..end]);
     if own_breaks(basis, h, ident, again, l.bad, said) {
-        return Passed::Bars;
+        return None;
     }
-    let stop = tail_end(table, s, l.next, class);
-    match stop {
-        Stop::At(next) => Passed::By(kc_of(ident, said), next),
-        Stop::Breaks => Passed::Bars,
-    }
+    let next = tail_end(table, s, l.next, class)?;
+    Some(Passed {
+        kc: kc_of(ident, said),
+        next,
+    })
 }

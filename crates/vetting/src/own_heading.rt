@@ -7,15 +7,15 @@ ghost use Rattle.item_reader.specs.Slips.{Headed};
 ghost use Rattle.vetting.specs.Parts.{head_breaks, HeadTo, HeadLeads};
 
 use crate::own_line::{judged_at, low_at};
+use headings::Heading;
 use headings::head_rules::{breaks_fourteen, breaks_ten, breaks_thirteen};
-use headings::{Heading, Read};
 use own_rules::{Basis, breaks_eleven};
 
 // A heading that breaks nothing so far, and where the line below it starts.
 #[derive(Clone, Copy)]
-pub enum Started {
-    With(Heading, usize),
-    Bars,
+pub struct Started {
+    pub heading: Heading,
+    pub next: usize,
 }
 
 fn head_breaks(basis: Basis, h: Heading) -> bool
@@ -24,9 +24,9 @@ fn head_breaks(basis: Basis, h: Heading) -> bool
     breaks_ten(h) | breaks_eleven(basis, h.day) | breaks_thirteen(h) | breaks_fourteen(h)
 }
 
-// The heading at a place. A continuation of it makes it unreadable, and a line of no kind breaks 2: nothing may stand between it and the
-// next field or heading.
-pub fn head_at(table: &[bool; 256], s: &[u8], at: usize, basis: Basis) -> Started
+// The heading at a place; none where it bars its item. A continuation of it makes it unreadable, and a line of no kind breaks 2: nothing may
+// stand between it and the next field or heading.
+pub fn head_at(table: &[bool; 256], s: &[u8], at: usize, basis: Basis) -> Option<Started>
     requires { (table.now ≡ answers) × (at < length s.now) × Headed s.now at }
     ensures head_to { (terms : Terms) → basis ≡ basis_of terms → HeadTo terms s.now at result }
     ensures head_leads { HeadLeads s.now at result }
@@ -35,15 +35,10 @@ pub fn head_at(table: &[bool; 256], s: &[u8], at: usize, basis: Basis) -> Starte
     let end = l.end;
     let next = l.next;
     let low = low_at(s, next);
-    let read = headings::reading::read(&s[at..end]);
-    match read {
-        Read::Reads(h) => {
-            let breaks = l.bad | low | head_breaks(basis, h);
-            if breaks {
-                return Started::Bars;
-            }
-            Started::With(h, next)
-        }
-        Read::Unreadable => Started::Bars,
+    let heading = headings::reading::read(&s[at..end])?;
+    let breaks = l.bad | low | head_breaks(basis, heading);
+    if breaks {
+        return None;
     }
+    Some(Started { heading, next })
 }

@@ -2,7 +2,7 @@
 ghost use Rattle.std.specs.Prelude.{◌≡◌, ◌≤◌, ◌<◌, eqb, length, drop, get_or, set};
 ghost use Rattle.text.specs.Characters.{answers};
 ghost use Rattle.fields.specs.Kinds.{kind_of};
-ghost use Rattle.vetting.specs.Parts.{judged_at, is_continuation, is_low, ident_by, low_at};
+ghost use Rattle.vetting.specs.Parts.{judged_at, is_continuation, is_low, low_at};
 
 use fields::kinds;
 use fields::kinds::Kind;
@@ -51,35 +51,13 @@ pub fn kind_at(s: &[u8], at: usize) -> Kind
 pub fn continues(k: Kind) -> bool
     ensures { result ≡ is_continuation k }
 {
-    match k {
-        Kind::Heading => false,
-        Kind::Continuation => true,
-        Kind::Field(_) => false,
-        Kind::Other => false,
-    }
+    matches!(k, Kind::Continuation)
 }
 
 fn is_low(k: Kind) -> bool
     ensures { result ≡ is_low k }
 {
-    match k {
-        Kind::Heading => false,
-        Kind::Continuation => true,
-        Kind::Field(_) => false,
-        Kind::Other => true,
-    }
-}
-
-// The identifier of a field, and 1296 for any other line.
-pub fn ident_of(k: Kind) -> usize
-    ensures { result ≡ ident_by k }
-{
-    match k {
-        Kind::Heading => 1296,
-        Kind::Continuation => 1296,
-        Kind::Field(ident) => ident,
-        Kind::Other => 1296,
-    }
+    matches!(k, Kind::Continuation | Kind::Other)
 }
 
 // Whether a line stands at a place that is no heading and no field.

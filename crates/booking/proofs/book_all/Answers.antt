@@ -1,4 +1,3 @@
-use Prim.Native.Nat.{◌-◌}
 use native.Mathlib.Omega.{arith}
 use Rattle.booking.proofs.Soundness.{sound}
 use Rattle.booking.proofs.Walks.{walk_start, walk_on, walk_end}

@@ -1,14 +1,7 @@
-use Rattle.text.proofs.Bare.{room_for}
 use Rattle.text.proofs.Wrote.{then}
 use Rattle.closing_lines.proofs.Rows.{same_text, in_row}
 use borrow.Author.Rules.{rules}
 use Rattle.closing_lines.proofs.put_in.Goals as goal
-
-pub put_decimal-next-requires : goal.put_decimal-next-requires
-put_decimal-next-requires c = room_for _ _ _ (search rules)
-
-pub put_decimal-next-requires-2 : goal.put_decimal-next-requires-2
-put_decimal-next-requires-2 c = room_for _ _ _ (search rules)
 
 pub returns : goal.returns
 returns c = record { text = same_text (in_row _ _) (then (then (then (then c.put-next.ensures c.put_decimal-next.ensures.text) c.put-next-2.ensures) c.put_decimal-next-2.ensures.text) c.put.ensures); end = search rules }

@@ -1,14 +1,11 @@
-use Rattle.data_file.proofs.Searching.{begun, ended, hit, goes_on}
+use Rattle.std.proofs.Common.{eqb, rules, tests}
+use Rattle.std.proofs.lemmas.Iterator.{YieldsList-from_slice}
+use Rattle.std.proofs.lemmas.Iterator.Search.{position_from_yields_List}
+use Rattle.data_file.proofs.Searching.{answered}
 use Rattle.data_file.proofs.find.Goals as goal
 
-pub loop-i-init : goal.loop-i-init
-loop-i-init c = begun _ _ _ c.requires
-
-pub returns-then-s-i : goal.returns-then-s-i
-returns-then-s-i c = hit _ _ _ _ c.loop-i.invariant c.loop-i-test.true c.if-s-i.true
-
-pub loop-i-preserved : goal.loop-i-preserved
-loop-i-preserved c = goes_on _ _ _ _ c.loop-i.invariant c.loop-i-test.true c.if-s-i.false
-
 pub returns : goal.returns
-returns c = ended _ _ _ _ c.loop-i.invariant c.loop-i-test.false
+returns c = let x = c.args.x in
+    answered c.args.s.now c.args.at x c.requires
+    (position_from_yields_List (λ b. eqb b x) _ _ c.position.result c.position.ensures.ran (YieldsList-from_slice _ c.iter.ensures.rest) (λ x b q k. search (rules, tests)))
+    c.unwrap_or.ensures

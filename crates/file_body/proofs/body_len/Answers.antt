@@ -1,16 +1,26 @@
-use Rattle.std.proofs.Common.{arith, ◌≡◌, sym, ◌∙◌, true}
-use Rattle.file_body.specs.Blocks.{clear}
-use Rattle.file_body.proofs.Blocks.{clear_fits, clear_none}
-use Rattle.file_body.proofs.Body.{pass_block}
+use Rattle.std.proofs.Common.{arith, sym, ap, ◌∙◌, ◌≡◌, ◌+◌, ◌≤◌, ℕ, Option, length}
+use Rattle.std.specs.Option.{unwrap_or}
+use Rattle.lines.specs.Lines.{body}
+use Rattle.file_body.proofs.Body.{pass_block, body_le, body_at}
 use Rattle.file_body.proofs.body_len.Goals as goal
 
-pub overflow_add-i : goal.overflow_add-i
-overflow_add-i c = omega (arith, clear_fits c.args.file.now c.loop-i.i 64 0x1a (sym c.clear_of.ensures ∙ c.loop-i-test.true))
+pub loop-block-preserved : goal.loop-block-preserved
+loop-block-preserved c =
+    let parts = c.in-Some.ensures.cases in
+    let more : 64 ≤ length c.loop-block.rest.now = omega (arith, parts.2) in
+    record {
+      within = omega (arith, parts.2, c.loop-block.invariant.within);
+      same = omega (arith, pass_block c.args.file.now c.loop-block.rest.now c.in-Some.block.now c.in-Some.after.now 64 c.loop-block.invariant.same more parts.0 parts.1 (sym c.contains.ensures.value ∙ c.if-contains.false));
+    }
 
-pub loop-i-smaller : goal.loop-i-smaller
-loop-i-smaller c = omega (arith, clear_fits c.args.file.now c.loop-i.i 64 0x1a (sym c.clear_of.ensures ∙ c.loop-i-test.true))
+pub overflow_add-result : goal.overflow_add-result
+overflow_add-result c =
+    let rest = c.loop-block.rest.now in
+    let found : c.unwrap_or.result ≡ length (body rest) = c.unwrap_or.ensures ∙ ap (λ (r : Option ℕ). unwrap_or r (length rest)) c.first_mark.ensures ∙ body_at rest in
+    omega (arith, body_le rest, c.loop-block.invariant.within)
 
-pub loop-i-preserved : goal.loop-i-preserved
-loop-i-preserved c =
-    let e : clear c.args.file.now c.loop-i.i 64 0x1a ≡ true = sym c.clear_of.ensures ∙ c.loop-i-test.true in
-    pass_block _ _ _ 64 c.loop-i.invariant (clear_fits _ _ _ _ e) (clear_none _ _ _ _ e)
+pub returns : goal.returns
+returns c =
+    let rest = c.loop-block.rest.now in
+    let found : c.unwrap_or.result ≡ length (body rest) = c.unwrap_or.ensures ∙ ap (λ (r : Option ℕ). unwrap_or r (length rest)) c.first_mark.ensures ∙ body_at rest in
+    omega (arith, c.loop-block.invariant.within, c.loop-block.invariant.same)

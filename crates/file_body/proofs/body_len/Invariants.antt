@@ -1,9 +1,9 @@
-use Rattle.std.proofs.Common.{◌-◌, length}
-use Rattle.file_body.proofs.Body.{Passed}
+use Rattle.std.proofs.Common.{◌≡◌, length, ◌+◌, ◌≤◌}
+use Rattle.lines.specs.Lines.{body}
 use Rattle.file_body.proofs.body_len.Given as goal
 
-abbrev pub invariant-loop-i : goal.invariant-loop-i
-invariant-loop-i l = Passed l.file 0 l.i
+abbrev pub invariant-loop-block : goal.invariant-loop-block
+invariant-loop-block l = record { within : length l.rest ≤ length l.file; same : length (body l.file) + length l.rest ≡ length l.file + length (body l.rest) }
 
-abbrev pub decreases-loop-i : goal.decreases-loop-i
-decreases-loop-i l = length l.file - l.i
+abbrev pub decreases-loop-block : goal.decreases-loop-block
+decreases-loop-block l = length l.rest

@@ -1,5 +1,4 @@
-use mathlib.Core.Path.{refl}
 use Rattle.gathering.proofs.put_in_order.Goals as goal
 
-pub returns-then-ascends : goal.returns-then-ascends
-returns-then-ascends c = record { rises = c.ascends.ensures c.if-ascends.true; same = λ x. refl }
+pub returns : goal.returns
+returns c = c.sort.ensures 0 1000000000000000 c.requires

@@ -2,9 +2,6 @@ use Prim.Native.Nat.{◌/◌}
 use native.Mathlib.Omega.{arith}
 use borrow.Author.Tests.{lt-ltb, le-ltb}
 use Rattle.group_sums.specs.Model.{plus_at}
-use Rattle.group_sums.proofs.add_amount.Reads as reads
-use Rattle.group_sums.proofs.add_amount.Lts as lts
-use Rattle.blocks.proofs.groups.capped.Reads as capped-reads
 use Rattle.group_sums.proofs.add_amount.Goals as goal
 
 pub returns-then-d-lt10 : goal.returns-then-d-lt10

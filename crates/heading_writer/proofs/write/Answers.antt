@@ -1,12 +1,6 @@
 use mathlib.Core.Path.{sym, ◌∙◌}
-use Rattle.heading_writer.proofs.Answers.{at_start, too_large, too_short, done}
+use Rattle.heading_writer.proofs.Answers.{at_start, done}
 use Rattle.heading_writer.proofs.write.Goals as goal
-
-pub returns-then-not-fits : goal.returns-then-not-fits
-returns-then-not-fits c = too_large _ _ (sym c.fits.ensures ∙ c.if-not-fits.true)
-
-pub returns-then-target-lt54 : goal.returns-then-target-lt54
-returns-then-target-lt54 c = too_short _ _ (sym c.fits.ensures ∙ c.if-not-fits.false) c.if-target-lt54.true
 
 pub returns : goal.returns
 returns c =

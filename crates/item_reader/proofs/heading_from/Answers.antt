@@ -2,4 +2,4 @@ use Rattle.item_reader.proofs.Slips.{gap_first}
 use Rattle.item_reader.proofs.heading_from.Goals as goal
 
 pub returns : goal.returns
-returns c = gap_first _ _ c.requires c.gap_from-g.ensures
+returns c = gap_first _ _ c.requires c.gap_from.ensures

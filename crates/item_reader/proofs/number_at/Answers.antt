@@ -10,9 +10,6 @@ line_past-requires c = room _ _ c.requires.0 c.requires.1 c.requires.2
 pub heading_from-next-requires : goal.heading_from-next-requires
 heading_from-next-requires c = past_within _ _ c.requires.0 c.requires.1 c.requires.2 c.line_past.ensures
 
-pub word-digits-requires : goal.word-digits-requires
-word-digits-requires c = omega (arith, room _ _ c.requires.0 c.requires.1 c.requires.2)
-
 pub day_by-day-requires : goal.day_by-day-requires
 unfolding template
 day_by-day-requires c = (digits_at _ _ c.requires.0 c.requires.1 c.requires.2 _ 8 refl refl (omega arith) (omega arith), c.word-digits.ensures, c.requires.3)

@@ -1,12 +1,10 @@
-use Rattle.joining.proofs.Padded.{bare_none, bare_cr, bare_other}
-use borrow.Author.Rules.{rules}
+use Rattle.std.proofs.Common.{arith, sym, ◌∙◌}
+use mathlib.Core.Bool.{true, false}
+use Rattle.joining.proofs.Padded.{bare_ended}
 use Rattle.joining.proofs.bare_len.Goals as goal
 
-pub returns-then-n-eq0 : goal.returns-then-n-eq0
-returns-then-n-eq0 c = bare_none c.args.s.now c.if-n-eq0.true
-
-pub returns-then-s-n-eq13 : goal.returns-then-s-n-eq13
-returns-then-s-n-eq13 c = bare_cr c.args.s.now (search rules) c.if-s-n-eq13.true
+pub returns-then-ends_with : goal.returns-then-ends_with
+returns-then-ends_with c = bare_ended _ true (sym c.if-ends_with.true ∙ c.ends_with.ensures.value)
 
 pub returns : goal.returns
-returns c = bare_other c.args.s.now (search rules) c.if-s-n-eq13.false
+returns c = omega (arith, bare_ended c.args.s.now false (sym c.if-ends_with.false ∙ c.ends_with.ensures.value))

@@ -8,12 +8,12 @@ use Rattle.joining.specs.Held.{as_text}
 use Rattle.joining.proofs.start_of.Goals as goal
 
 pub slice_bounds-put-end-2 : goal.slice_bounds-put-end-2
-slice_bounds-put-end-2 c = fits _ _ _ c.least-n.ensures
+slice_bounds-put-end-2 c = fits _ _ _ c.min-n.ensures
 
 pub put-end-requires : goal.put-end-requires
-put-end-requires c = simp length-take (omega (arith, c.least-n.ensures, c.least.ensures))
+put-end-requires c = simp length-take (omega (arith, c.min-n.ensures, c.min.ensures))
 
 pub returns : goal.returns
 returns c = let a = c.args in
-    let n = c.least-n.ensures ∙ ap (λ (k : ℕ). min k (length a.s.now)) c.least.ensures in
+    let n = c.min-n.ensures ∙ ap (λ (k : ℕ). min k (length a.s.now)) c.min.ensures in
     text_start c.put-end.ensures ∙ ap as_text (ap (λ (k : ℕ). take k a.s.now) n ∙ take_min (min 65 a.len) a.s.now)

@@ -8,4 +8,4 @@ returns-then-p-room c = record { put = keep_full c.requires.ready c.place-p.ensu
 pub returns : goal.returns
 returns c = let R = c.requires.ready in
     let inside = c.if-p-room.false in
-    record { put = keep_room R c.place-p.ensures.within inside c.place-p.ensures.split c.last_of-last.ensures c.open_at.ensures c.open_at-2.ensures; placed = kept_room c.requires.lines_len R.room c.place-p.ensures.within inside c.last_of-last.ensures c.open_at.ensures c.open_at-3.ensures }
+    record { put = keep_room R c.place-p.ensures.within inside c.place-p.ensures.split c.min-last.ensures c.open_at.ensures c.open_at-2.ensures; placed = kept_room c.requires.lines_len R.room c.place-p.ensures.within inside c.min-last.ensures c.open_at.ensures c.open_at-3.ensures }

@@ -1,19 +1,5 @@
-use Rattle.std.proofs.Common.{refl, sym}
-use Rattle.outcomes.specs.declared.Told.TheVariants.{NotInput, NoOutcome, NoEntry}
-use Rattle.outcomes.proofs.Telling.{unread, stops, goes}
+use Rattle.outcomes.proofs.Telling.{goes}
 use Rattle.outcomes.proofs.tell.Goals as goal
 
-pub returns-in-Unreadable : goal.returns-in-Unreadable
-returns-in-Unreadable c = unread _ _ _ (sym c.in-Unreadable.ensures.1)
-
-pub returns-in-Barred : goal.returns-in-Barred
-returns-in-Barred c = stops _ _ _ c.in-Reads.h (sym c.in-Reads.ensures.1) NotInput refl (λ old. refl) (λ old. refl) c.in-Barred.ensures.number
-
-pub returns-in-NotOutcome : goal.returns-in-NotOutcome
-returns-in-NotOutcome c = stops _ _ _ c.in-Reads.h (sym c.in-Reads.ensures.1) NoOutcome refl (λ old. refl) (λ old. refl) c.in-NotOutcome.ensures.number
-
-pub returns-in-Nowhere : goal.returns-in-Nowhere
-returns-in-Nowhere c = stops _ _ _ c.in-Reads.h (sym c.in-Reads.ensures.1) NoEntry refl (λ old. refl) (λ old. refl) c.in-Nowhere.ensures.number
-
-pub returns-in-To : goal.returns-in-To
-returns-in-To c = goes _ _ _ c.in-Reads.h (sym c.in-Reads.ensures.1) c.in-To.g c.in-To.ensures.number c.in-To.ensures.heading
+pub returns : goal.returns
+returns c = goes _ _ _ c.in_ok-g.field-0-0 c.in_ok-g.ensures.said c.in_ok-g.g c.in_ok-g.ensures.number c.in_ok-g.ensures.goes

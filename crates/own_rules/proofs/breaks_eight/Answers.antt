@@ -8,4 +8,4 @@ returns-then-day-basis c = simp (eq-eqb _ _ c.if-day-basis.true, c.is_payment-pa
 
 pub returns : goal.returns
 unfolding breaks8
-returns c = simp (ne_eqb _ _ c.if-day-basis.false, c.until_thirty-by_thirty.ensures, c.until_today-by_today.ensures, c.is_real-real.ensures, c.is_payment-paying.ensures)
+returns c = simp (ne_eqb _ _ c.if-day-basis.false, c.until_thirty.ensures, c.until_today.ensures, c.is_real.ensures, c.is_payment-paying.ensures)

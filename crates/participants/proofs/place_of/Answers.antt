@@ -1,15 +1,8 @@
-use Prim.Native.Nat.{◌-◌}
-use Rattle.participants.proofs.Listing.{seek_start, seek_more, seek_hit, seek_end}
+use Rattle.std.proofs.Common.{rules, ◌≡◌, ◌<◌, MatchOption, length, ℕ, get_or}
+use Rattle.participants.proofs.Listing.{placed}
 use Rattle.participants.proofs.place_of.Goals as goal
 
-pub loop-i-init : goal.loop-i-init
-loop-i-init c = seek_start _ _
-
-pub returns-then-codes-i : goal.returns-then-codes-i
-returns-then-codes-i c = seek_hit c.loop-i.invariant c.loop-i-test.true c.if-codes-i.true
-
-pub loop-i-preserved : goal.loop-i-preserved
-loop-i-preserved c = seek_more c.loop-i.invariant c.loop-i-test.true c.if-codes-i.false
-
 pub returns : goal.returns
-returns c = seek_end c.loop-i.invariant c.loop-i-test.false
+returns c = let codes = c.args.codes.now in
+    let first : MatchOption c.position.result ((k : ℕ) → k < length codes → get_or codes k 0 ≡ c.args.code → ⊥) (λ p. (p < length codes) × (get_or codes p 0 ≡ c.args.code) × ((k : ℕ) → k < p → get_or codes k 0 ≡ c.args.code → ⊥)) = search rules in
+    placed c.args.code codes c.position.result first

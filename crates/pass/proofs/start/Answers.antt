@@ -1,6 +1,5 @@
 use mathlib.Core.Bool.{false}
-use Rattle.rules.specs.declared.FirstKc.TheVariants.{NoKc}
-use Rattle.rules.specs.declared.FirstIn.TheVariants.{NoIn}
+use Rattle.rules.specs.declared.First.TheVariants.{Missing}
 use Rattle.pass.proofs.start.Goals as goal
 
 pub returns : goal.returns
@@ -12,8 +11,8 @@ returns c = λ i. record {
   top = 0;
   reads = false;
   heading = c.no_heading-heading.result;
-  kc = NoKc;
-  span = NoIn;
+  kc = Missing;
+  span = Missing;
   stated = c.no_sums-stated.ensures i;
   block = c.start-block.ensures i;
   wait = c.no_wait-wait.ensures i;

@@ -10,4 +10,4 @@ pub returns-then-not-is_accounting_day : goal.returns-then-not-is_accounting_day
 returns-then-not-is_accounting_day c = bad_day _ _ _ (ap not (sym c.is_code.ensures ∙ c.if-not-is_code.false)) (ap not (sym c.is_accounting_day.ensures ∙ c.if-not-is_accounting_day.true))
 
 pub returns : goal.returns
-returns c = opened _ _ _ (ap not (sym c.is_code.ensures ∙ c.if-not-is_code.false)) (ap not (sym c.is_accounting_day.ensures ∙ c.if-not-is_accounting_day.false)) c.begun-2.ensures c.unseen.ensures
+returns c = opened _ _ _ (ap not (sym c.is_code.ensures ∙ c.if-not-is_code.false)) (ap not (sym c.is_accounting_day.ensures ∙ c.if-not-is_accounting_day.false)) c.begun.ensures c.unseen.ensures

@@ -4,7 +4,6 @@ use Rattle.ledger.proofs.Marks.{marked_few}
 use Rattle.ledger.proofs.Entering.{entered_both}
 use Rattle.closing.specs.Closing.{close_by, by_faults}
 use Rattle.shutting.proofs.Waiting.{entered_list}
-use borrow.Author.Rules.{rules}
 use Rattle.shutting.proofs.shut_all.Goals as goal
 
 pub enter-g1-requires : goal.enter-g1-requires

@@ -19,5 +19,5 @@ returns c = let a = c.args in
           (entered_list (ap (λ (x : Shut). marked a.no x.marks) e) c.enter-ledger.ensures.entered);
       course_value = (ap (λ (x : Shut). x.course) e, ap (λ (x : Shut). x.wait) e, c.close_item-s.ensures.1);
       kept = λ off ps₀ S B. c.enter-ledger.ensures.placed off ps₀ S.at_head (c.enter-first.ensures.placed off ps₀ S.at_wait B);
-      waits_at = waits_at a.basis a.c a.w a.no a.own a.read a.kc a.span a.groups a.starts (ap (λ (x : Shut). x.wait) e) c.start_of-start.ensures;
+      waits_at = waits_at a.basis a.c a.w a.no a.own a.read a.kc a.span a.groups a.starts (ap (λ (x : Shut). x.wait) e) c.start_of.ensures;
     }

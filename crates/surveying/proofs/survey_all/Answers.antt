@@ -19,10 +19,11 @@ one_item-requires c = (
   omega (arith, some_left _ _ _ _ c.loop-at.invariant.0 c.loop-at-test.true, c.requires.2),
 )
 
-pub returns-in-Stops : goal.returns-in-Stops
-returns-in-Stops c =
-    walk_stops _ _ _ _ c.loop-at.invariant.0
-    (c.in-Stops.ensures.steps _ _ c.basis_of-basis.ensures (record { outcome = sym c.at_or_zero-outcome.ensures; standing = sym c.at_or_zero-standing.ensures; number = refl }))
+pub returns-in_err-step : goal.returns-in_err-step
+returns-in_err-step c =
+    rw c.from_residual.ensures
+    (walk_stops _ _ _ _ c.loop-at.invariant.0
+    (c.in_err-step.ensures.steps _ _ c.basis_of-basis.ensures (record { outcome = sym c.at_or_zero-outcome.ensures; standing = sym c.at_or_zero-standing.ensures; number = refl })))
 
 pub overflow_add-k : goal.overflow_add-k
 overflow_add-k c =
@@ -31,13 +32,13 @@ overflow_add-k c =
 pub loop-at-smaller : goal.loop-at-smaller
 loop-at-smaller c =
     let q : Orders = record { outcomes = c.args.outcomes.now; standings = c.args.standings.now; start = c.args.start } in
-    let g = c.in-On.ensures.steps q _ c.basis_of-basis.ensures (record { outcome = sym c.at_or_zero-outcome.ensures; standing = sym c.at_or_zero-standing.ensures; number = refl }) in
+    let g = c.in_ok-step.ensures.steps q _ c.basis_of-basis.ensures (record { outcome = sym c.at_or_zero-outcome.ensures; standing = sym c.at_or_zero-standing.ensures; number = refl }) in
     omega (arith, g.1, g.2)
 
 pub loop-at-preserved : goal.loop-at-preserved
 loop-at-preserved c =
     let q : Orders = record { outcomes = c.args.outcomes.now; standings = c.args.standings.now; start = c.args.start } in
-    let g = c.in-On.ensures.steps q _ c.basis_of-basis.ensures (record { outcome = sym c.at_or_zero-outcome.ensures; standing = sym c.at_or_zero-standing.ensures; number = refl }) in
+    let g = c.in_ok-step.ensures.steps q _ c.basis_of-basis.ensures (record { outcome = sym c.at_or_zero-outcome.ensures; standing = sym c.at_or_zero-standing.ensures; number = refl }) in
     (walk_on _ _ _ _ c.loop-at.invariant.0 g.0 g.2 g.3, (c.one_item.ensures.stamped.0, λ i l. omega (arith, c.one_item.ensures.stamped.1 i l)))
 
 pub returns : goal.returns

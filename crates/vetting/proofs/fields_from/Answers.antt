@@ -1,10 +1,8 @@
-use Rattle.std.proofs.Common.{arith, ◌≡◌, ◌+◌, ◌<◌, sym, ap, subst, ◌∙◌, drop, ℕ, List, slice_set}
-use Rattle.fields.specs.declared.kinds.Kind.TheVariants.{Field}
-use Rattle.fields.specs.Kinds.{kind_of}
-use Rattle.rules.specs.declared.FirstKc.{FirstKc}
+use Rattle.std.proofs.Common.{arith, ◌≡◌, ◌+◌, ◌<◌, sym, subst, ◌∙◌, ℕ, List, slice_set}
+use Rattle.rules.specs.declared.First.{First}
+use Rattle.rules.specs.declared.Payment.{Payment}
 use Rattle.vetting.specs.Vetting.{Stamped}
-use Rattle.vetting.specs.Parts.{ident_by}
-use Rattle.vetting.proofs.Here.{ends, field_here, field_in}
+use Rattle.vetting.proofs.Here.{ends, field_in}
 use Rattle.vetting.proofs.Fields.{Fielding, fields_start, fields_more, fields_bar, fields_end, stamped_after, stamped_set}
 use Rattle.vetting.proofs.fields_from.Goals as goal
 
@@ -19,20 +17,33 @@ loop-ident-init c =
       from = omega arith;
       within = c.requires.1;
       clear = c.requires.2;
-      told = c.ident_of-ident.ensures ∙ ap ident_by c.kind_at.ensures;
       stamped = stamped_after a.stood.now a.stamp c.requires.3;
       fielding = λ terms q n. fields_start terms a.h a.s.now a.at n a.stamp a.stood.now c.requires.3;
     }
 
+pub stood_in-again-requires : goal.stood_in-again-requires
+stood_in-again-requires c = (field_in c.args.s.now c.loop-ident.next c.in-Field.ident (sym c.in-Field.ensures)).1
+
+pub bounds-codes-ident : goal.bounds-codes-ident
+bounds-codes-ident c = (field_in c.args.s.now c.loop-ident.next c.in-Field.ident (sym c.in-Field.ensures)).1
+
 pub field_at-requires : goal.field_at-requires
 field_at-requires c =
-    let l = c.loop-ident in
-    let here : kind_of (drop l.p c.args.s.now) ≡ Field l.ident = field_here c.args.s.now l.p l.ident l.invariant.told c.loop-ident-test.true in
-    (c.requires.0, field_in c.args.s.now l.p l.ident here, here, c.codes-codes.ensures l.ident c.loop-ident-test.true)
+    let h = field_in c.args.s.now c.loop-ident.next c.in-Field.ident (sym c.in-Field.ensures) in
+    (c.requires.0, h.0, sym c.in-Field.ensures, c.codes-codes.ensures c.in-Field.ident h.1)
+
+pub returns-in_err-field-clause-fields_to : goal.returns-in_err-field-clause-fields_to
+returns-in_err-field-clause-fields_to c =
+    rw c.from_residual.ensures
+    (λ terms q n. fields_bar (c.loop-ident.invariant.fielding terms q n) (field_in c.args.s.now c.loop-ident.next c.in-Field.ident (sym c.in-Field.ensures)).1 c.stood_in-again.ensures.value (c.in_err-field.ensures.field_to terms q))
+
+pub returns-in_err-field-clause-stamped : goal.returns-in_err-field-clause-stamped
+returns-in_err-field-clause-stamped c =
+    stamped_still c.loop-ident.stood _ c.args.stamp c.in-Field.ident c.stood_in-again.ensures.stood_after (field_in c.args.s.now c.loop-ident.next c.in-Field.ident (sym c.in-Field.ensures)).1 c.loop-ident.invariant.stamped
 
 pub loop-ident-smaller : goal.loop-ident-smaller
 loop-ident-smaller c =
-    let r = c.in-By.ensures.field_leads in
+    let r = c.in_ok-field.ensures.field_leads in
     omega (arith, r.0, r.1)
 
 pub loop-ident-preserved : goal.loop-ident-preserved
@@ -40,34 +51,26 @@ loop-ident-preserved c =
     let a = c.args in
     let l = c.loop-ident in
     let I = l.invariant in
-    let r = c.in-By.ensures.field_leads in
+    let next = c.in_ok-field.field.next in
+    let h = field_in a.s.now l.next c.in-Field.ident (sym c.in-Field.ensures) in
+    let r = c.in_ok-field.ensures.field_leads in
     let stood = c.stood_in-again.ensures.stood_after in
     record {
       from = omega (arith, r.0, I.from);
       within = r.1;
       clear = r.2;
-      told = c.ident_of-ident-in-By.ensures ∙ ap ident_by c.kind_at-in-By.ensures;
-      stamped = stamped_still l.stood _ a.stamp l.ident stood c.loop-ident-test.true I.stamped;
+      stamped = stamped_still l.stood _ a.stamp c.in-Field.ident stood h.1 I.stamped;
       fielding = λ terms q n.
-          let A = c.in-By.ensures.field_to terms q in
+          let A = c.in_ok-field.ensures.field_to terms q in
           let F = I.fielding terms q n in
-          subst (λ (x : List ℕ). Fielding terms a.h a.s.now a.at n a.stamp x c.kc_kept-kc.result c.in-By.next) (sym stood)
-          (subst (λ (k : FirstKc). Fielding terms a.h a.s.now a.at n a.stamp (slice_set l.stood l.ident a.stamp) k c.in-By.next) (sym c.kc_kept-kc.ensures)
-          (fields_more F c.loop-ident-test.true (omega (arith, c.loop-ident-test.true, I.stamped.0)) c.stood_in-again.ensures.value (A.0 F.below) A.1));
+          subst (λ (x : List ℕ). Fielding terms a.h a.s.now a.at n a.stamp x c.first_of-kc.result next) (sym stood)
+          (subst (λ (k : First Payment). Fielding terms a.h a.s.now a.at n a.stamp (slice_set l.stood c.in-Field.ident a.stamp) k next) (sym c.first_of-kc.ensures)
+          (fields_more F h.1 (omega (arith, h.1, I.stamped.0)) c.stood_in-again.ensures.value (A.0 F.below) A.1));
     }
-
-pub returns-in-Bars-clause-fields_to : goal.returns-in-Bars-clause-fields_to
-returns-in-Bars-clause-fields_to c =
-    let I = c.loop-ident.invariant in
-    λ terms q n. fields_bar (I.fielding terms q n) c.loop-ident-test.true c.stood_in-again.ensures.value (c.in-Bars.ensures.field_to terms q)
-
-pub returns-in-Bars-clause-stamped : goal.returns-in-Bars-clause-stamped
-returns-in-Bars-clause-stamped c =
-    stamped_still c.loop-ident.stood _ c.args.stamp c.loop-ident.ident c.stood_in-again.ensures.stood_after c.loop-ident-test.true c.loop-ident.invariant.stamped
 
 pub returns-clause-fields_to : goal.returns-clause-fields_to
 returns-clause-fields_to c =
     let l = c.loop-ident in
     let I = l.invariant in
-    let E = ends c.args.s.now l.p I.clear (omega (arith, I.told, c.loop-ident-test.false)) in
+    let E = ends c.args.s.now l.next I.clear (λ i e. c.in_default.not-Field i (c.kind_at.ensures ∙ e)) in
     λ terms q. (λ n. fields_end (I.fielding terms q n) E, I.from, I.within, E.headed, (I.fielding terms q 0).known)

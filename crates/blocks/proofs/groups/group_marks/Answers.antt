@@ -1,7 +1,18 @@
-use native.Mathlib.Omega.{arith}
-use Rattle.blocks.specs.Model.{group_marks}
+use Rattle.std.proofs.Common.{◌≡◌, ◌+◌, ◌*◌, ◌%◌, ◌^◌, ◌≤◌, sym, ◌∙◌, arith}
+use Rattle.blocks.proofs.Ten.{no_marks, marks_more, marks_of_ten, moved, twice}
 use Rattle.blocks.proofs.groups.group_marks.Goals as goal
 
+pub loop-d-init : goal.loop-d-init
+loop-d-init c = (no_marks c.args.counts c.args.sums c.args.groups, omega arith)
+
+pub loop-d-preserved : goal.loop-d-preserved
+loop-d-preserved c =
+    let d = c.loop-d.d in
+    let bit : 2 ^ 30 * 2 ^ d % 2 ^ 64 ≡ 2 ^ (30 + d) = moved d c.loop-d-test.true in
+    (rw (marks_more c.args.counts c.args.sums c.args.groups d, sym c.loop-d.invariant.0, c.flag-marks.ensures.0, bit, c.group_breaks.ensures), omega (arith, c.loop-d.invariant.1, c.flag-marks.ensures.1, twice d))
+
 pub returns : goal.returns
-unfolding group_marks
-returns c = (simp (c.group_mark.ensures.0, c.group_mark-2.ensures.0, c.group_mark-3.ensures.0, c.group_mark-4.ensures.0, c.group_mark-5.ensures.0, c.group_mark-6.ensures.0, c.group_mark-7.ensures.0, c.group_mark-8.ensures.0, c.group_mark-9.ensures.0, c.group_mark-10.ensures.0), omega arith)
+returns c =
+    let ten : c.loop-d.d ≡ 10 = omega arith in
+    let m = c.loop-d.invariant in
+    let few : c.loop-d.marks + 2 ^ 30 ≤ 2 ^ 40 = rw ten at m.1 in (m.0 ∙ rw ten (marks_of_ten c.args.counts c.args.sums c.args.groups), omega (arith, few))

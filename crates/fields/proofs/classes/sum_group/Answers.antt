@@ -10,5 +10,5 @@ overflow_sub-result c = omega (arith, leb-true 1008 c.args.ident (and_parts _ _ 
 pub returns-then-ident : goal.returns-then-ident
 returns-then-ident c = group_in _ c.if-ident.true
 
-pub returns : goal.returns
-returns c = group_out _ c.if-ident.false
+pub returns-else-ident : goal.returns-else-ident
+returns-else-ident c = group_out _ c.if-ident.false

@@ -1,22 +1,19 @@
-use native.Mathlib.Omega.{arith}
+use Rattle.std.proofs.Common.{◌∙◌, ap, ℕ, ◌+◌, arith}
 use borrow.Author.Rules.{rules}
-use Rattle.figures.proofs.Tests.{between}
-use Rattle.fields.proofs.Places.{symbol_at}
+use Rattle.fields.proofs.Places.{digit_at, letter_at, no_symbol}
 use Rattle.fields.proofs.kinds.place_of.Goals as goal
 
-pub overflow_sub-result : goal.overflow_sub-result
-overflow_sub-result c = omega (arith, between 48 c.args.b 57 c.if-n.true)
+pub returns-then-is_ascii_digit : goal.returns-then-is_ascii_digit
+returns-then-is_ascii_digit c =
+    let d = c.if-is_ascii_digit.ensures.cases in
+    (c.from.ensures ∙ digit_at c.args.b (omega (arith, d)) (omega (arith, d)), omega (arith, d, c.from.ensures))
 
-pub returns-then-n : goal.returns-then-n
-returns-then-n c = let b = c.args.b in
-    (rw c.if-n.true at (symbol_at b (search rules)), omega (arith, between 48 b 57 c.if-n.true))
+pub returns-then-is_ascii_uppercase : goal.returns-then-is_ascii_uppercase
+returns-then-is_ascii_uppercase c =
+    let l = c.if-is_ascii_uppercase.ensures.cases in
+    let e = c.from-then-is_ascii_uppercase.ensures in
+    (ap (λ (n : ℕ). n + 10) e ∙ letter_at c.args.b (omega (arith, l)) (omega (arith, l)), omega (arith, l, e))
 
-pub overflow_sub-result-then-n-2 : goal.overflow_sub-result-then-n-2
-overflow_sub-result-then-n-2 c = omega (arith, between 65 c.args.b 90 c.if-n-2.true)
-
-pub returns-then-n-2 : goal.returns-then-n-2
-returns-then-n-2 c = let b = c.args.b in
-    (rw (c.if-n.false, c.if-n-2.true) at (symbol_at b (search rules)), omega (arith, between 65 b 90 c.if-n-2.true))
-
-pub returns : goal.returns
-returns c = (rw (c.if-n.false, c.if-n-2.false) at (symbol_at c.args.b (search rules)), omega arith)
+pub returns-else-is_ascii_uppercase : goal.returns-else-is_ascii_uppercase
+returns-else-is_ascii_uppercase c =
+    (no_symbol c.args.b (search rules) (λ p q. omega (arith, c.if-is_ascii_digit.ensures.cases)) (λ p q. omega (arith, c.if-is_ascii_uppercase.ensures.cases)), omega arith)

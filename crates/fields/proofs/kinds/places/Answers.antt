@@ -1,25 +1,16 @@
-use Prim.Native.Nat.{ℕ, suc, ◌+◌, ◌-◌}
-use mathlib.Core.List.{List}
-use mathlib.Core.Path.{◌≡◌, refl, ap, ◌∙◌}
-use native.Mathlib.Omega.{arith}
-use lib.ListN.{get_or, set}
+use Rattle.std.proofs.Common.{◌≡◌, ℕ, ◌+◌, suc, List, get_or, refl, ap, ◌∙◌, arith}
+use lib.ListN.{set}
 use Rattle.fields.specs.Kinds.{symbols}
-use Rattle.fields.proofs.Places.{filled, filled_is, symbol_few}
+use Rattle.fields.proofs.Places.{filled, filled_is}
 use Rattle.fields.proofs.kinds.places.Goals as goal
 
 pub loop-k-init : goal.loop-k-init
 loop-k-init c = (omega arith, refl)
 
-pub overflow_cast-t-in-loop-k : goal.overflow_cast-t-in-loop-k
-overflow_cast-t-in-loop-k c = omega (arith, symbol_few c.loop-k.k c.loop-k-test.true)
-
-pub bounds-t-symbols : goal.bounds-t-symbols
-bounds-t-symbols c = symbol_few c.loop-k.k c.loop-k-test.true
-
 pub loop-k-preserved : goal.loop-k-preserved
 loop-k-preserved c = let k = c.loop-k.k in
     let e : suc k ≡ k + 1 = omega arith in
-    (omega arith, ap (λ (l : List ℕ). set l (get_or symbols k 0) k) c.loop-k.invariant.1 ∙ ap filled e)
+    (omega arith, ap (λ (i : ℕ). set c.loop-k.t i k) c.from.ensures ∙ ap (λ (l : List ℕ). set l (get_or symbols k 0) k) c.loop-k.invariant.1 ∙ ap filled e)
 
 pub returns : goal.returns
 returns c b h = let l = c.loop-k in

@@ -1,5 +1,4 @@
-use native.Mathlib.Omega.{arith}
-use mathlib.Core.Path.{refl, sym, ◌∙◌}
+use Rattle.std.proofs.Common.{sym, refl, ◌∙◌, arith}
 use Rattle.fields.specs.declared.classes.Class.TheVariants.{Range}
 use Rattle.fields.specs.declared.readings.Reading.TheVariants.{Span}
 use Rattle.figures.specs.Layouts.{no_more}
@@ -7,15 +6,15 @@ use Rattle.number_reader.proofs.Told.{first_lt, second_lt}
 use Rattle.fields.proofs.Says.{not_two, made_by}
 use Rattle.fields.proofs.readings.read_range.Goals as goal
 
-pub overflow_cast-first : goal.overflow_cast-first
-overflow_cast-first c = omega (arith, first_lt _ _ _ _ c.args.t.now _ _ _ _ (sym c.read_two.ensures ∙ c.in-Found.is))
+pub overflow_cast-two : goal.overflow_cast-two
+overflow_cast-two c = omega (arith, first_lt _ _ _ _ c.args.t.now _ (sym c.read_two.ensures ∙ c.in-Some.is))
 
-pub overflow_cast-second : goal.overflow_cast-second
-overflow_cast-second c = omega (arith, second_lt _ _ _ _ c.args.t.now _ _ _ _ (sym c.read_two.ensures ∙ c.in-Found.is))
+pub overflow_cast-two-2 : goal.overflow_cast-two-2
+overflow_cast-two-2 c = omega (arith, second_lt _ _ _ _ c.args.t.now _ (sym c.read_two.ensures ∙ c.in-Some.is))
 
-pub returns-in-Found : goal.returns-in-Found
-returns-in-Found c = c.if_fits.ensures
-    ∙ made_by Range 1 7 1 7 no_more c.args.t.now refl _ _ _ _ (sym c.read_two.ensures ∙ c.in-Found.is) (λ v w. Span (record { 0 = v }) (record { 0 = w })) _ c.ends.ensures refl
+pub returns-in_default : goal.returns-in_default
+returns-in_default c = not_two Range 1 7 1 7 no_more c.args.t.now refl (sym c.read_two.ensures ∙ c.in_default.is)
 
-pub returns-in-NotTwo : goal.returns-in-NotTwo
-returns-in-NotTwo c = not_two Range 1 7 1 7 no_more c.args.t.now refl (sym c.read_two.ensures ∙ c.in-NotTwo.is)
+pub returns : goal.returns
+returns c = c.if_fits.ensures
+    ∙ made_by Range 1 7 1 7 no_more c.args.t.now refl _ (sym c.read_two.ensures ∙ c.in-Some.is) (λ v w. Span (record { 0 = v }) (record { 0 = w })) _ c.ends.ensures refl

@@ -1,4 +1,3 @@
-use Prim.Native.Nat.{◌-◌}
 use borrow.Author.Rules.{rules}
 use Rattle.handing.proofs.Order.{too_few, unequal, look_start, look_falls, look_more, look_end}
 use Rattle.handing.proofs.ready.is_ready.Goals as goal

@@ -8,4 +8,4 @@ returns-then-d-ge10 c = rw (le-leb 10 _ c.if-d-ge10.true)
 
 pub returns : goal.returns
 unfolding group_claims
-returns c = rw (lt-leb 10 _ c.if-d-ge10.false, c.stated_kept-stated.ensures, c.stated_by.ensures)
+returns c = rw (lt-leb 10 _ c.if-d-ge10.false, c.first_of-stated.ensures, c.stated_by.ensures)

@@ -1,5 +1,3 @@
-use Rattle.judging.proofs.opening.broken_by.Reads as reads
-use Rattle.judging.proofs.opening.broken_by.Lts as lts
 use Rattle.judging.proofs.opening.broken_by.Goals as goal
 
 pub returns-then-breaks : goal.returns-then-breaks

@@ -9,6 +9,3 @@ use Rattle.listing_texts.proofs.printing.put_listing.Given as goal
 
 abbrev pub invariant-loop-i : goal.invariant-loop-i
 invariant-loop-i l = (l.i ≤ l.n) × (l.at ≤ l.initial.at + 52 * l.i) × (length l.out ≡ length l.initial.out) × Wrote l.initial.out l.initial.at (row_texts (held l.i l.lines l.rules)) l.out l.at
-
-abbrev pub decreases-loop-i : goal.decreases-loop-i
-decreases-loop-i l = l.n - l.i

@@ -9,13 +9,13 @@ pub returns-then-input-gt65536 : goal.returns-then-input-gt65536
 returns-then-input-gt65536 c = begins_same (too_long _ _ _ c.if-input-gt65536.true) c.put_refused.ensures
 
 pub slice_bounds-list_file-count : goal.slice_bounds-list_file-count
-slice_bounds-list_file-count c = omega (arith, whole _ _ _ (sym c.in-Of.ensures))
+slice_bounds-list_file-count c = omega (arith, whole _ _ (sym c.in-Some.ensures))
 
 pub slice_bounds-list_file-start : goal.slice_bounds-list_file-start
-slice_bounds-list_file-start c = omega (arith, whole _ _ _ (sym c.in-Of.ensures))
+slice_bounds-list_file-start c = omega (arith, whole _ _ (sym c.in-Some.ensures))
 
-pub returns-in-Of : goal.returns-in-Of
-returns-in-Of c = begins_same (has_job _ _ _ c.if-input-gt65536.false _ _ (sym c.in-Of.ensures)) c.list_file.ensures
+pub returns-in-Some : goal.returns-in-Some
+returns-in-Some c = begins_same (has_job _ _ _ c.if-input-gt65536.false _ (sym c.in-Some.ensures)) c.list_file.ensures
 
-pub returns-in-NoJob : goal.returns-in-NoJob
-returns-in-NoJob c = begins_same (no_job _ _ _ c.if-input-gt65536.false (sym c.in-NoJob.ensures)) c.put_refused-in-NoJob.ensures
+pub returns-in-None : goal.returns-in-None
+returns-in-None c = begins_same (no_job _ _ _ c.if-input-gt65536.false (sym c.in-None.ensures)) c.put_refused-in-None.ensures

@@ -5,5 +5,5 @@ use Rattle.report.proofs.program.list_file.Goals as goal
 
 pub returns : goal.returns
 returns c = let a = c.args in
-    let k = c.check-c in
-    begins_same (shown a.file.now a.code a.day _ _ _ _ _ _ k.result _ _ k.ensures c.number_of.ensures c.total_or.ensures refl refl refl) c.put_answer.ensures
+    let k = c.check-answer in
+    begins_same (shown a.file.now a.job _ _ _ _ _ _ k.result _ _ k.ensures c.number_of.ensures c.unwrap_or.ensures refl refl refl) c.put_answer.ensures

@@ -1,12 +1,8 @@
-use native.Mathlib.Omega.{arith}
-use Rattle.text.proofs.Bare.{counted_one, counted_more, counted_all}
+use Rattle.text.proofs.Bare.{digits_before, one_digit}
 use Rattle.text.proofs.decimals.width.Goals as goal
 
-pub loop-rest-init : goal.loop-rest-init
-loop-rest-init c = counted_one _
+pub returns-in-Some-clause-enough : goal.returns-in-Some-clause-enough
+returns-in-Some-clause-enough c = let h = c.in-Some.ensures in digits_before c.in-Some.before c.args.v h.bound h.power_le h.next_power_gt
 
-pub loop-rest-preserved : goal.loop-rest-preserved
-loop-rest-preserved c = counted_more _ _ _ (omega (arith, c.ranges.v.fits)) c.loop-rest.invariant c.loop-rest-test.true
-
-pub returns : goal.returns
-returns c = record { few = (counted_all _ _ _ c.loop-rest.invariant c.loop-rest-test.false).0; enough = (counted_all _ _ _ c.loop-rest.invariant c.loop-rest-test.false).1 }
+pub returns-in-None-clause-enough : goal.returns-in-None-clause-enough
+returns-in-None-clause-enough c = one_digit c.args.v c.in-None.ensures.none

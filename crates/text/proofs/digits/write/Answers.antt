@@ -1,27 +1,24 @@
-use native.Mathlib.Omega.{arith}
-use Prim.Native.Nat.{◌+◌, ◌-◌, ◌<◌}
-use mathlib.Core.Path.{◌≡◌, refl, ◌∙◌}
+use Prim.Native.Nat.{◌+◌, ◌<◌}
+use mathlib.Core.Path.{◌≡◌, ◌∙◌}
 use native.Mathlib.Nat.{sub_self, div-one}
-use lib.ListN.{length-set}
+use native.Mathlib.Omega.{arith}
 use Rattle.text.proofs.Writing.{none, store, left, all}
 use Rattle.text.proofs.digits.write.Goals as goal
 
-pub loop-p-init : goal.loop-p-init
-loop-p-init c = (omega arith, omega arith, refl, none c.args.s.now (c.args.at + c.args.n) c.args.value, rw (sub_self, div-one))
+pub loop-i-init : goal.loop-i-init
+loop-i-init c = record { from = omega arith; text = none c.args.s.now (c.args.at + c.args.n) c.args.value; left = rw (sub_self, div-one) }
 
-pub loop-p-preserved : goal.loop-p-preserved
-loop-p-preserved c = let a = c.args in
-    let e = a.at + a.n in
-    let p = c.loop-p.p in
-    let pos : 0 < p = omega arith in (
-      omega arith,
-      omega arith,
-      rw length-set c.loop-p.invariant.2,
-      rw (c.loop-p.invariant.3, c.loop-p.invariant.4) (store a.s.now e p a.value pos c.loop-p.invariant.1 (omega arith)),
-      rw c.loop-p.invariant.4 (left e p a.value pos c.loop-p.invariant.1),
-    )
+pub loop-i-preserved : goal.loop-i-preserved
+loop-i-preserved c = let a = c.args in
+    let l = c.loop-i in
+    let pos : 0 < l.i = omega (arith, c.loop-i-test.true) in record {
+      from = omega (arith, c.loop-i-test.true);
+      text = rw (l.invariant.text, l.invariant.left) (store a.s.now (a.at + a.n) l.i a.value pos l.auto.i c.requires);
+      left = rw l.invariant.left (left (a.at + a.n) l.i a.value pos l.auto.i);
+    }
 
 pub returns : goal.returns
 returns c = let a = c.args in
-    let e : c.loop-p.p ≡ a.at = omega arith in
-    c.loop-p.invariant.3 ∙ rw e (all a.s.now a.at a.n a.value)
+    let l = c.loop-i in
+    let e : l.i ≡ a.at = omega (arith, l.invariant.from, c.loop-i-test.false) in
+    l.invariant.text ∙ rw e (all a.s.now a.at a.n a.value)

@@ -1,11 +1,11 @@
 use Prim.Native.Nat.{◌+◌, ◌-◌, ◌/◌, ◌^◌, ◌≤◌}
 use mathlib.Core.Path.{◌≡◌}
-use lib.ListN.{length}
 use Rattle.text.proofs.Writing.{written}
 use Rattle.text.proofs.digits.write.Given as goal
 
-abbrev pub invariant-loop-p : goal.invariant-loop-p
-invariant-loop-p l = (l.at ≤ l.p) × (l.p ≤ l.at + l.n) × (length l.s ≡ length l.initial.s) × (l.s ≡ written l.initial.s (l.at + l.n) l.p l.value) × (l.v ≡ l.value / 10 ^ (l.at + l.n - l.p))
-
-abbrev pub decreases-loop-p : goal.decreases-loop-p
-decreases-loop-p l = l.p
+abbrev pub invariant-loop-i : goal.invariant-loop-i
+invariant-loop-i l = record {
+  from : l.at ≤ l.i;
+  text : l.s ≡ written l.initial.s (l.at + l.n) l.i l.value;
+  left : l.rest ≡ l.value / 10 ^ (l.at + l.n - l.i);
+}

@@ -1,21 +1,18 @@
-use Prim.Native.Nat.{◌-◌}
-use mathlib.Core.Path.{refl}
-use native.Mathlib.Omega.{arith}
-use Rattle.text.proofs.Matching.{unequal, goes_on, whole}
+use Rattle.std.proofs.lemmas.Iterator.{empty_from_Zip}
+use Rattle.text.proofs.Matching.{unequal, goes_on, ended, as_long}
 use Rattle.text.proofs.forms.has_form.Goals as goal
 
 pub returns-then-template-s : goal.returns-then-template-s
 returns-then-template-s c = unequal _ _ c.if-template-s.true
 
-pub loop-i-init : goal.loop-i-init
-loop-i-init c = (omega arith, c.if-template-s.false, refl)
-
-pub loop-i-preserved : goal.loop-i-preserved
-loop-i-preserved c = let h = c.loop-i-test.true in (
-  omega arith,
-  c.loop-i.invariant.1,
-  rw c.fits_byte-all.ensures (goes_on c.args.template.now c.args.s.now c.loop-i.i c.loop-i.all c.loop-i.invariant.2 h (omega (arith, h, c.loop-i.invariant.1))),
-)
+pub loop-t-preserved : goal.loop-t-preserved
+loop-t-preserved c = let h = c.in-Some.ensures.steps in
+    rw c.fits_byte-all.ensures record {
+      alike = as_long _ _ _ _ _ _ h.0 h.1 c.loop-t.invariant.alike;
+      so_far = goes_on _ _ _ _ c.loop-t.invariant.so_far _ _ _ _ h.0 h.1;
+    }
 
 pub returns : goal.returns
-returns c = whole c.args.template.now c.args.s.now c.loop-i.i c.loop-i.all c.loop-i.invariant.2 c.loop-i-test.false (omega (arith, c.loop-i.invariant.1))
+returns c =
+    let e = empty_from_Zip c.loop-t.t-iterator c.next.new.self _ c.in-None.is c.next.ensures.steps c.loop-t.invariant.alike in
+    ended _ _ _ _ c.loop-t.invariant.so_far e.0 e.1

@@ -1,12 +1,13 @@
-use Prim.Native.Nat.{◌-◌, ◌≤◌}
 use mathlib.Core.Path.{◌≡◌}
 use mathlib.Core.Bool.{◌&&◌}
-use lib.ListN.{length, drop}
+use lib.ListN.{length}
+use Rattle.std.specs.Iterator.Adapters.{zip_first, zip_second}
+use Rattle.std.specs.Slice.Iter.{iter_rest}
 use Rattle.text.specs.Forms.{has_form}
 use Rattle.text.proofs.forms.has_form.Given as goal
 
-abbrev pub invariant-loop-i : goal.invariant-loop-i
-invariant-loop-i l = (l.i ≤ length l.template) × (length l.template ≡ length l.s) × (has_form l.template l.s ≡ (l.all && has_form (drop l.i l.template) (drop l.i l.s)))
-
-abbrev pub decreases-loop-i : goal.decreases-loop-i
-decreases-loop-i l = length l.template - l.i
+abbrev pub invariant-loop-t : goal.invariant-loop-t
+invariant-loop-t l = record {
+  alike : length (iter_rest (zip_first l.t-iterator)) ≡ length (iter_rest (zip_second l.t-iterator));
+  so_far : has_form l.template l.s ≡ (l.all && has_form (iter_rest (zip_first l.t-iterator)) (iter_rest (zip_second l.t-iterator)));
+}

@@ -1,8 +1,7 @@
-use Rattle.std.proofs.Common.{arith, ◌≡◌, ◌≤◌, sym, ap, subst, ◌∙◌, length, ℕ, Bool, false, List}
+use Rattle.std.proofs.Common.{arith, ◌≡◌, ◌≤◌, sym, ap, subst, ◌∙◌, length, ℕ, Bool, false, List, Option}
 use Rattle.std.proofs.Math.Bool.{◌||◌}
 use Rattle.lines.specs.Reading.{line_at, span, IsNext}
 use Rattle.headings.specs.declared.Heading.{Heading}
-use Rattle.headings.specs.declared.Read.{Read}
 use Rattle.headings.specs.Reading.{heading_of}
 use Rattle.laws.proofs.Any.{or_left, or_right}
 use Rattle.rules.specs.Terms.{Terms}
@@ -15,7 +14,7 @@ use Rattle.vetting.proofs.Head.{falls_unread, falls, starts}
 use Rattle.vetting.proofs.own_heading.head_at.Goals as goal
 
 -- what its line reads as
-read_is : (s : List ℕ) (at : ℕ) {j : Judged} {r : Read} → j ≡ judged_at s at → r ≡ heading_of (span at j.end s)
+read_is : (s : List ℕ) (at : ℕ) {j : Judged} {r : Option Heading} → j ≡ judged_at s at → r ≡ heading_of (span at j.end s)
     → heading_of (span at (line_at s at).end s) ≡ r
 read_is s at e w = sym (w ∙ ap (λ (j : Judged). heading_of (span at j.end s)) e)
 
@@ -43,19 +42,19 @@ pub returns-then-breaks-clause-head_to : goal.returns-then-breaks-clause-head_to
 returns-then-breaks-clause-head_to c =
     let a = c.args in
     λ terms q.
-    falls a.s.now a.at c.requires.1 c.requires.2 terms c.in-Reads.h (read_is a.s.now a.at c.judged_at-l.ensures c.read-read.ensures.1 ∙ c.in-Reads.is)
-    (sym (asked_is a.s.now a.at c.in-Reads.h terms c.judged_at-l.ensures c.low_at-low.ensures q c.head_breaks.ensures) ∙ c.if-breaks.true)
+    falls a.s.now a.at c.requires.1 c.requires.2 terms c.in_ok-heading.heading (read_is a.s.now a.at c.judged_at-l.ensures c.in_ok-heading.ensures.1)
+    (sym (asked_is a.s.now a.at c.in_ok-heading.heading terms c.judged_at-l.ensures c.low_at-low.ensures q c.head_breaks.ensures) ∙ c.if-breaks.true)
 
-pub returns-else-breaks-clause-head_to : goal.returns-else-breaks-clause-head_to
-returns-else-breaks-clause-head_to c =
+pub returns-clause-head_to : goal.returns-clause-head_to
+returns-clause-head_to c =
     let a = c.args in
     λ terms q.
-    subst (λ (k : ℕ). (n : ℕ) → HeadAt terms c.in-Reads.h a.s.now a.at n k) (sym (ap (λ (j : Judged). j.next) c.judged_at-l.ensures))
-    (starts a.s.now a.at c.requires.1 c.requires.2 terms c.in-Reads.h (read_is a.s.now a.at c.judged_at-l.ensures c.read-read.ensures.1 ∙ c.in-Reads.is)
-    (sym (asked_is a.s.now a.at c.in-Reads.h terms c.judged_at-l.ensures c.low_at-low.ensures q c.head_breaks.ensures) ∙ c.if-breaks.false))
+    subst (λ (k : ℕ). (n : ℕ) → HeadAt terms c.in_ok-heading.heading a.s.now a.at n k) (sym (ap (λ (j : Judged). j.next) c.judged_at-l.ensures))
+    (starts a.s.now a.at c.requires.1 c.requires.2 terms c.in_ok-heading.heading (read_is a.s.now a.at c.judged_at-l.ensures c.in_ok-heading.ensures.1)
+    (sym (asked_is a.s.now a.at c.in_ok-heading.heading terms c.judged_at-l.ensures c.low_at-low.ensures q c.head_breaks.ensures) ∙ c.if-breaks.false))
 
-pub returns-else-breaks-clause-head_leads : goal.returns-else-breaks-clause-head_leads
-returns-else-breaks-clause-head_leads c =
+pub returns-clause-head_leads : goal.returns-clause-head_leads
+returns-clause-head_leads c =
     let next : IsNext c.args.s.now c.args.at (line_at c.args.s.now c.args.at) = here _ _ c.requires.1 in
     let e = ap (λ (j : Judged). j.next) c.judged_at-l.ensures in
     let bad = c.judged_at-l.result.bad in
@@ -66,7 +65,7 @@ returns-else-breaks-clause-head_leads c =
       sym c.low_at-low.ensures ∙ or_right bad low fine,
     )
 
-pub returns-in-Unreadable-clause-head_to : goal.returns-in-Unreadable-clause-head_to
-returns-in-Unreadable-clause-head_to c =
+pub returns-in_err-heading-clause-head_to : goal.returns-in_err-heading-clause-head_to
+returns-in_err-heading-clause-head_to c =
     let a = c.args in
-    λ terms q. falls_unread a.s.now a.at c.requires.1 c.requires.2 terms (read_is a.s.now a.at c.judged_at-l.ensures c.read-read.ensures.1 ∙ c.in-Unreadable.is)
+    rw c.from_residual.ensures (λ terms q. falls_unread a.s.now a.at c.requires.1 c.requires.2 terms (read_is a.s.now a.at c.judged_at-l.ensures c.in_err-heading.ensures.1))
