@@ -21,7 +21,7 @@ use Rattle.rules.specs.Spots.{spots_in}
 use Rattle.vetting.specs.Vetting.{any_barred}
 use Rattle.surveying.specs.declared.Lead.{Lead}
 use Rattle.surveying.specs.Items.{items_of, first_to, any_unsent, mixed, sums_out}
-use Rattle.surveying.specs.Model.{items_barred, Surveys, Leads}
+use Rattle.surveying.specs.Model.{items_barred, Surveys, LeadsIf}
 use Rattle.surveying.proofs.Leading.{headed_barred}
 use Rattle.std.specs.Prelude.{Result, Err}
 use Rattle.delivery.specs.declared.DeliverError.{DeliverError}
@@ -59,13 +59,13 @@ module _ (s : List ℕ) (q : Orders) (certis day : ℕ) (before : List ℕ) (l :
   refusal = first (items_refusals s q certis day (length before))
 
   -- the first is refused by deriving
-  pub first_unsent : Leads q (items_of s) None → Answers refusal file before (Err NotSent) before
+  pub first_unsent : LeadsIf q (items_of s) None → Answers refusal file before (Err NotSent) before
   first_unsent L =
       let e : unsent ≡ true =
       ap (λ (t : Bool). any_barred (spots_in terms s) || t) (first_refused q (first_to q (items_of s)) (items_of s) many L) ∙ or-true (any_barred (spots_in terms s)) in
       refused (Err NotSent) (sym (ap (λ (a : Bool). by a mixes large short) e)) (omega arith) (λ old. refl)
 
-  module _ (lead : Lead) (L : Leads q (items_of s) (Some lead)) where
+  module _ (lead : Lead) (L : LeadsIf q (items_of s) (Some lead)) where
     to : lead.to ≡ first_to q (items_of s)
     to = same_to q (items_of s) lead many L
 

@@ -15,22 +15,22 @@ use Rattle.outgoing_lines.proofs.Items.{any_items}
 use Rattle.surveying.specs.declared.Lead.{Lead}
 use Rattle.rules.specs.Terms.{is_code}
 use Rattle.surveying.specs.Items.{items_of, head_text, goes_to, first_to, unsent, any_unsent, any_mixes, mixed}
-use Rattle.surveying.specs.Model.{Leads}
+use Rattle.surveying.specs.Model.{LeadsIf}
 use Rattle.std.specs.Prelude.{None, Some}
 
 module _ (q : Orders) where
   -- the first is refused by deriving: then it is not sent, whoever the others go to
-  pub first_refused : (to : ℕ) (is : List Item) → 1 ≤ length is → Leads q is None → any_unsent q to 0 is ≡ true
+  pub first_refused : (to : ℕ) (is : List Item) → 1 ≤ length is → LeadsIf q is None → any_unsent q to 0 is ≡ true
   unfolding any_unsent
   first_refused to [] h e = absurd (omega arith)
   first_refused to (i ∷ is) h e = rw e
 
   -- it is not: then the recipient and the class are the first one's
-  pub same_to : (is : List Item) (lead : Lead) → 1 ≤ length is → Leads q is (Some lead) → lead.to ≡ first_to q is
+  pub same_to : (is : List Item) (lead : Lead) → 1 ≤ length is → LeadsIf q is (Some lead) → lead.to ≡ first_to q is
   same_to [] lead h L = absurd (omega arith)
   same_to (i ∷ is) lead h L = L.1
 
-  pub same_mixed : (is : List Item) (lead : Lead) → Leads q is (Some lead) → any_mixes q lead.priority lead.alone 0 is ≡ mixed q is
+  pub same_mixed : (is : List Item) (lead : Lead) → LeadsIf q is (Some lead) → any_mixes q lead.priority lead.alone 0 is ≡ mixed q is
   unfolding any_mixes
   same_mixed [] lead L = refl
   same_mixed (i ∷ is) lead L = (λ j. any_mixes q (L.2 j) (L.3 j) 0 (i ∷ is))

@@ -23,7 +23,7 @@ use heading_writer::put_heading;
 use headings::{Code, Heading, ItemNo};
 use listing::checking;
 use outgoing_lines::{at_or_zero, put_lines, size_of};
-use surveying::{count_items, lead_of, survey_all};
+use surveying::{count_items, lead_if_derived, survey_all};
 use text::strings::{put, starts};
 
 // Why no file is written.
@@ -161,7 +161,7 @@ fn deliver_items(
 {
     let outcome = at_or_zero(outcomes, 0);
     let standing = at_or_zero(standings, 0);
-    let Some(lead) = lead_of(items, outcome, standing, start as u64) else {
+    let Some(lead) = lead_if_derived(items, outcome, standing, start as u64) else {
         return Err(DeliverError::NotSent);
     };
     let mut counts = [0u64; 10];

@@ -10,7 +10,7 @@ use Rattle.figures.specs.declared.parts.PartRead.{PartRead}
 use Rattle.figures.specs.declared.parts.Number.{Number}
 use Rattle.figures.specs.declared.parts.Number.TheVariants.{Good, Failing, Zero}
 use Rattle.figures.specs.declared.parts.Halves.{Halves}
-use Rattle.std.specs.Prelude.{Some, None, Ok, Err}
+use Rattle.std.specs.Prelude.{Option, Some, None, Ok, Err}
 use Rattle.std.specs.Result.{IsErr}
 use Rattle.figures.specs.declared.accounts.AccountError.TheVariants.{NotDigits}
 use Rattle.figures.specs.Layouts.{num, run, fits}
@@ -69,10 +69,36 @@ unfolding part_of
 untold h t e = never_true (fits (num 0 h ∷ []) t) (λ d. none-some (record { some = not (eqb (value t) 0); passes = passes t }) (sym e ∙ rw d))
 
 -- the open check, from what was told of its parts
+abbrev told : Bool → List ℕ → Option PartRead
+told t bs = cond t (Some (record { some = not (eqb (value bs) 0); passes = passes bs })) None
+
+abbrev pub told_by : Bool → Option PartRead → Option PartRead → Account
+told_by some None b = Err NotDigits
+told_by some (Some a) None = Err NotDigits
+told_by some (Some a) (Some b) = account_by some (halves_by a b)
+
+pub judged : (p n : List ℕ) {a b : Option PartRead} → a ≡ part_of 6 p → b ≡ part_of 10 n → told_by (leb 1 (length n)) a b ≡ account_of p n
+unfolding part_of account_of
+judged p n ea eb =
+    (λ i. told_by (leb 1 (length n)) (ea i) (eb i))
+    ∙ go (leb 1 (length n)) (fits (num 0 6 ∷ []) p) (fits (num 0 10 ∷ []) n)
+    ∙ ap (λ (t : Bool). account_by (fits (num 0 6 ∷ []) p && t) (halves_of p n)) (sym (some_digits 10 n))
+  where
+    go : (t x y : Bool) → told_by t (told x p) (told y n) ≡ account_by (x && (t && y)) (halves_of p n)
+    go true true true = unfold halves_of in rw (not-not (eqb (value n) 0))
+    go true true false = refl
+    go true false true = refl
+    go true false false = refl
+    go false true true = refl
+    go false true false = refl
+    go false false true = refl
+    go false false false = refl
+
+-- the same by its cases: both parts read, or the number is empty, or one of the two does not read
 module _ (p n : List ℕ) where
-  pub judged : {a b : PartRead} → (length n ≡ 0 → ⊥) → part_of 6 p ≡ Some a → part_of 10 n ≡ Some b → Judges p n (Ok (halves_by a b))
+  pub both_judged : {a b : PartRead} → (length n ≡ 0 → ⊥) → part_of 6 p ≡ Some a → part_of 10 n ≡ Some b → Judges p n (Ok (halves_by a b))
   unfolding account_of halves_of
-  judged l ea eb =
+  both_judged l ea eb =
       let x = told_part 6 p ea in
       let y = told_part 10 n eb in
       answered p n (rw (x.0, some_digits 10 n, y.0, le-leb 1 (length n) (omega arith), ← x.1, ← y.1, not-not (eqb (value n) 0)) refl)

@@ -10,7 +10,7 @@ use lib.Dec.{eqb, ltb}
 use lib.ListN.{length, take, drop, length-take, length-drop}
 use lib.Seq.{drop-cons, drop-drop}
 use borrow.Author.Tests.{lt-ltb, ltb-false, ne_eqb}
-use Rattle.std.specs.List.{list_any, position_or_len, position}
+use Rattle.std.specs.List.{position_or_len, position}
 use Rattle.std.specs.Prelude.{Some, None}
 use Rattle.std.specs.Option.{unwrap_or}
 use Rattle.laws.proofs.Truth.{by_test}
@@ -74,20 +74,20 @@ body_empty (b ∷ s) = go (is_byte 0x1a b)
 -- ---- the search
 
 -- n bytes without 1A
-skip : (n : ℕ) (l : List ℕ) → n ≤ length l → list_any (is_byte 0x1a) (take n l) ≡ false → length (body l) ≡ n + length (body (drop n l))
-unfolding body
+skip : (n : ℕ) (l : List ℕ) → n ≤ length l → any_of (is_byte 0x1a) (take n l) ≡ false → length (body l) ≡ n + length (body (drop n l))
+unfolding body any_of
 skip zero l h e = omega arith
 skip (suc n) [] h e = absurd (omega arith)
 skip (suc n) (b ∷ l) h e =
-    let here : is_byte 0x1a b ≡ false = or_left (is_byte 0x1a b) (list_any (is_byte 0x1a) (take n l)) e in
-    let on : length (body l) ≡ n + length (body (drop n l)) = skip n l (omega arith) (or_right (is_byte 0x1a b) (list_any (is_byte 0x1a) (take n l)) e) in
+    let here : is_byte 0x1a b ≡ false = or_left (is_byte 0x1a b) (any_of (is_byte 0x1a) (take n l)) e in
+    let on : length (body l) ≡ n + length (body (drop n l)) = skip n l (omega arith) (or_right (is_byte 0x1a b) (any_of (is_byte 0x1a) (take n l)) e) in
     rw here (omega arith)
 
 -- a block without 1A is passed by
 pub pass_block : (s rest block after : List ℕ) (n : ℕ) → length (body s) + length rest ≡ length s + length (body rest) → n ≤ length rest → block ≡ take n rest → after ≡ drop n rest
-    → list_any (is_byte 0x1a) block ≡ false → length (body s) + length after ≡ length s + length (body after)
+    → any_of (is_byte 0x1a) block ≡ false → length (body s) + length after ≡ length s + length (body after)
 pass_block s rest block after n h k b a e =
-    let on : length (body rest) ≡ n + length (body after) = skip n rest k (ap (list_any (is_byte 0x1a)) (sym b) ∙ e) ∙ ap (λ (l : List ℕ). n + length (body l)) (sym a) in
+    let on : length (body rest) ≡ n + length (body after) = skip n rest k (ap (any_of (is_byte 0x1a)) (sym b) ∙ e) ∙ ap (λ (l : List ℕ). n + length (body l)) (sym a) in
     let fewer : length after ≡ length rest - n = ap length a ∙ length-drop n rest in
     omega arith
 

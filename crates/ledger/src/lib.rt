@@ -84,7 +84,9 @@ fn keep(
     last + 1
 }
 
-// Enters the rules of a set of marks at a line whose offset is `at`; the empty set enters nothing.
+// Enters the rules of a set of marks at a line whose offset is `at`; the empty set enters nothing. Inline at each call: most lines enter
+// nothing, and a call of it cost them thirty instructions.
+#[inline(always)]
 pub fn enter(
     lines: &mut [u32],
     rules: &mut [u32],

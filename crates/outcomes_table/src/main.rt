@@ -33,7 +33,7 @@ fn heading(kind: u32, output: u32, third: u32) -> Heading {
 // The 54 bytes of a heading, each part of which fits its digits.
 fn text_of(h: Heading) -> [u8; 54] {
     let mut text = [0u8; 54];
-    heading_writer::put_heading(&mut text, 0, h);
+    let _written = heading_writer::write(h, &mut text);
     text
 }
 

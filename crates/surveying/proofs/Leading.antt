@@ -1,7 +1,7 @@
 -- The first line of a slice: a heading, and so the first item's; or another, which bars all.
 use Prim.Native.Nat.{ℕ, ◌<◌}
 use mathlib.Core.Path.{◌≡◌, refl, sym, ap, subst, ◌∙◌}
-use mathlib.Core.Bool.{Bool, true, false, cond, not, ◌||◌}
+use mathlib.Core.Bool.{Bool, true, false, cond, not, ◌||◌, true≢false}
 use mathlib.Core.Option.{none}
 use mathlib.Core.List.{List, [], ◌∷◌, ◌++◌}
 use lib.ListN.{length, drop}
@@ -27,10 +27,16 @@ use Rattle.outgoing_lines.specs.Outgoing.{Orders}
 use Rattle.surveying.specs.declared.Lead.{Lead}
 use Rattle.surveying.specs.declared.Way.{Way}
 use Rattle.surveying.specs.Items.{items_of, type_in, is_alone, out_kind, goes_to}
-use Rattle.surveying.specs.Model.{way_of, Asks, Leads, items_barred}
+use Rattle.surveying.specs.Model.{way_of, Asks, Leads, LeadsIf, items_barred}
 use Rattle.surveying.proofs.Ways.{way_none, way_some, unread_refused, refused_by, kind_by, to_by}
 use Rattle.surveying.proofs.Barring.{items_barred_lem}
-use Rattle.std.specs.Prelude.{None, Option, Some}
+use Rattle.std.specs.Prelude.{None, Option, Some, unwrap_or}
+
+-- what is said of the first item where something is, said of it anyhow
+pub lead_anyhow : (q : Orders) (is : List Item) (r : Option Lead) (l : Lead) → LeadsIf q is r → Leads q is (unwrap_or r l)
+lead_anyhow q [] r l f = f
+lead_anyhow q (i ∷ is) None l f = λ e. absurd (true≢false (sym f ∙ e))
+lead_anyhow q (i ∷ is) (Some x) l f = λ e. (f.1, f.2, f.3)
 
 module _ (s : List ℕ) (l : 0 < length s) where
   abbrev text : List ℕ
@@ -63,17 +69,17 @@ module _ (s : List ℕ) (l : 0 < length s) where
       abbrev item : Item
       item = item_of row below
 
-      leads_by : (lead : Option Lead) → Leads q (item ∷ below.items) lead → Leads q (items_of s) lead
-      leads_by lead f = subst (λ (is : List Item). Leads q is lead) (sym first_item) f
+      leads_by : (lead : Option Lead) → LeadsIf q (item ∷ below.items) lead → LeadsIf q (items_of s) lead
+      leads_by lead f = subst (λ (is : List Item). LeadsIf q is lead) (sym first_item) f
 
-      pub lead_unread : heading_of text ≡ None → Leads q (items_of s) None
+      pub lead_unread : heading_of text ≡ None → LeadsIf q (items_of s) None
       lead_unread e = leads_by None (unread_refused q 0 text e)
 
       module _ (g : Heading) (e : heading_of text ≡ Some g) where
-        pub lead_refused : way_of g o p n ≡ None → Leads q (items_of s) None
+        pub lead_refused : way_of g o p n ≡ None → LeadsIf q (items_of s) None
         lead_refused w = leads_by None (refused_by q 0 A text g e ∙ ap not (way_none g o p n w))
 
-        pub lead_goes : (way : Way) → way_of g o p n ≡ Some way → Leads q (items_of s) (Some (record { to = way.to; priority = is_priority g.kind; alone = is_alone way.kind }))
+        pub lead_goes : (way : Way) → way_of g o p n ≡ Some way → LeadsIf q (items_of s) (Some (record { to = way.to; priority = is_priority g.kind; alone = is_alone way.kind }))
         unfolding out_kind goes_to
         lead_goes way w =
             let x = way_some g o p n way w in

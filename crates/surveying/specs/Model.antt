@@ -80,9 +80,16 @@ Surveys q terms lead s (Some other) counts sums =
     × (sums ≡ ten (λ d. min sum_cap (sum (amounts_out q d 0 (items_of s)))))
 
 -- what the first item says, where deriving does not refuse it
-abbrev pub Leads : Orders → List Item → Option Lead → Type 0
+abbrev pub Leads : Orders → List Item → Lead → Type 0
 Leads q [] lead = Unit {0}
-Leads q (i ∷ is) None = underived q 0 (head_text i) ≡ true
-Leads q (i ∷ is) (Some lead) =
+Leads q (i ∷ is) lead =
+    underived q 0 (head_text i) ≡ false
+    → (lead.to ≡ goes_to q 0 i) × (lead.priority ≡ is_priority (in_kind i)) × (lead.alone ≡ is_alone (out_kind q 0 i))
+
+-- the same, where it is also said whether deriving refuses it
+abbrev pub LeadsIf : Orders → List Item → Option Lead → Type 0
+LeadsIf q [] lead = Unit {0}
+LeadsIf q (i ∷ is) None = underived q 0 (head_text i) ≡ true
+LeadsIf q (i ∷ is) (Some lead) =
     (underived q 0 (head_text i) ≡ false)
     × (lead.to ≡ goes_to q 0 i) × (lead.priority ≡ is_priority (in_kind i)) × (lead.alone ≡ is_alone (out_kind q 0 i))

@@ -13,7 +13,7 @@ ghost use Rattle.item_reader.specs.Slips.{Headed};
 ghost use Rattle.vetting.specs.Vetting.{Stamped};
 ghost use Rattle.outgoing_lines.specs.Outgoing.{Orders};
 ghost use Rattle.surveying.specs.Items.{is_alone, items_of};
-ghost use Rattle.surveying.specs.Model.{strays, way_of, Asks, Steps, Surveys, Leads};
+ghost use Rattle.surveying.specs.Model.{strays, way_of, Asks, Steps, Surveys, Leads, LeadsIf};
 
 use group_sums::add_amount;
 use headings::item_types::is_priority;
@@ -156,9 +156,9 @@ pub fn survey_all(
 }
 
 // What the first item says of all, if deriving does not refuse it.
-pub fn lead_of(s: &[u8], outcome: u32, standing: u32, number: u64) -> Option<Lead>
+pub fn lead_if_derived(s: &[u8], outcome: u32, standing: u32, number: u64) -> Option<Lead>
     requires { Headed s.now 0 × (0 < length s.now) }
-    ensures { (q : Orders) → Asks q 0 outcome standing number → Leads q (items_of s.now) result }
+    ensures { (q : Orders) → Asks q 0 outcome standing number → LeadsIf q (items_of s.now) result }
 {
     let f = lines::line_near(s, 0);
     let end = f.end;
@@ -168,6 +168,18 @@ pub fn lead_of(s: &[u8], outcome: u32, standing: u32, number: u64) -> Option<Lea
         to: way.to,
         priority: is_priority(h.kind),
         alone: is_alone(way.kind),
+    })
+}
+
+// What the first item says of all; zeros, of which nothing is promised, where deriving refuses it.
+pub fn lead_of(s: &[u8], outcome: u32, standing: u32, number: u64) -> Lead
+    requires { Headed s.now 0 × (0 < length s.now) }
+    ensures { (q : Orders) → Asks q 0 outcome standing number → Leads q (items_of s.now) result }
+{
+    lead_if_derived(s, outcome, standing, number).unwrap_or(Lead {
+        to: 0,
+        priority: false,
+        alone: false,
     })
 }
 

@@ -1,11 +1,10 @@
 -- Texts written one after the other are one text.
-use mathlib.Core.Path.{◌≡◌, refl, sym, ap, ◌∙◌}
-use mathlib.Core.List.{List, ◌++◌}
+use mathlib.Core.Path.{◌≡◌, sym, ap, ◌∙◌}
+use mathlib.Core.List.{List, ◌++◌, append_assoc}
 use Prim.Native.Nat.{ℕ, ◌+◌, ◌≤◌}
 use native.Mathlib.Omega.{arith}
 use lib.ListN.{length, length-append}
-use lib.Seq.{drop-drop}
-use borrow.Rule.Slice.PartMut.{put_mid}
+use lib.Seq.{paste, take-length}
 use Rattle.laws.proofs.Put.{put_is, length_put, put_both}
 use Rattle.text.specs.Strings.{Wrote}
 
@@ -19,10 +18,10 @@ then {before} {at} {a} {mid} {next} {b} {after} {end} v w = record {
   holds = w.holds ∙ rw (v.ends, v.holds) (put_both before at a v.room b);
 }
 
--- what `copy_from_slice` leaves, where it writes over the part that a text is long
-pub copied : (before : List ℕ) (at : ℕ) (text : List ℕ) {n : ℕ} {new : List ℕ} → at + length text ≤ length before → n ≡ length text → new ≡ text → Wrote before at text (put_mid at n before new) (at + length text)
-copied before at text h e p = record {
+-- what a loop has pasted, byte by byte
+pub pasted : (before : List ℕ) (at : ℕ) (text : List ℕ) (i : ℕ) {after : List ℕ} → at + length text ≤ length before → i ≡ length text → after ≡ paste before at text i → Wrote before at text after (at + i)
+pasted before at text i h e p = record {
   room = h;
-  ends = refl;
-  holds = rw (p, e, drop-drop) (sym (put_is before at text));
+  ends = ap (λ (n : ℕ). at + n) e;
+  holds = p ∙ rw (e, take-length, append_assoc) (sym (put_is before at text));
 }

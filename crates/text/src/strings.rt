@@ -13,7 +13,9 @@ pub fn put(out: &mut [u8], at: usize, x: &[u8]) -> usize
     requires { at + length x.now ≤ length out.old }
     ensures { Wrote out.old at x.now out.new result }
 {
-    let end = at + x.len();
-    out[at..end].copy_from_slice(x);
-    end
+    // By hand: what `copy_from_slice` copies with would be one more name that the archive needs from outside.
+    for i in 0..x.len() {
+        out[at + i] = x[i];
+    }
+    at + x.len()
 }

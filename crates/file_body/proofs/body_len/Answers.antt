@@ -1,4 +1,5 @@
-use Rattle.std.proofs.Common.{arith, sym, ap, ◌∙◌, ◌≡◌, ◌+◌, ◌≤◌, ℕ, Option, length}
+use Rattle.std.proofs.Common.{arith, sym, ap, ◌∙◌, ◌≡◌, ◌+◌, ◌≤◌, ℕ, Option, length, not}
+use mathlib.Core.Bool.{not-not}
 use Rattle.std.specs.Option.{unwrap_or}
 use Rattle.lines.specs.Lines.{body}
 use Rattle.file_body.proofs.Body.{pass_block, body_le, body_at}
@@ -10,7 +11,7 @@ loop-block-preserved c =
     let more : 64 ≤ length c.loop-block.rest.now = omega (arith, parts.2) in
     record {
       within = omega (arith, parts.2, c.loop-block.invariant.within);
-      same = omega (arith, pass_block c.args.file.now c.loop-block.rest.now c.in-Some.block.now c.in-Some.after.now 64 c.loop-block.invariant.same more parts.0 parts.1 (sym c.contains.ensures.value ∙ c.if-contains.false));
+      same = omega (arith, pass_block c.args.file.now c.loop-block.rest.now c.in-Some.block.now c.in-Some.after.now 64 c.loop-block.invariant.same more parts.0 parts.1 (sym (not-not _) ∙ ap not (sym c.is_clear.ensures ∙ c.if-not-is_clear.false)));
     }
 
 pub overflow_add-result : goal.overflow_add-result

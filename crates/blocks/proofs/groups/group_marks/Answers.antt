@@ -1,4 +1,5 @@
-use Rattle.std.proofs.Common.{◌≡◌, ◌+◌, ◌*◌, ◌%◌, ◌^◌, ◌≤◌, sym, ◌∙◌, arith}
+use Rattle.std.proofs.Common.{◌≡◌, ◌+◌, ◌*◌, ◌%◌, ◌^◌, ◌≤◌, sym, ap, ◌∙◌, arith}
+use Rattle.blocks.specs.Model.{group_breaks}
 use Rattle.blocks.proofs.Ten.{no_marks, marks_more, marks_of_ten, moved, twice}
 use Rattle.blocks.proofs.groups.group_marks.Goals as goal
 
@@ -9,7 +10,9 @@ pub loop-d-preserved : goal.loop-d-preserved
 loop-d-preserved c =
     let d = c.loop-d.d in
     let bit : 2 ^ 30 * 2 ^ d % 2 ^ 64 ≡ 2 ^ (30 + d) = moved d c.loop-d-test.true in
-    (rw (marks_more c.args.counts c.args.sums c.args.groups d, sym c.loop-d.invariant.0, c.flag-marks.ensures.0, bit, c.group_breaks.ensures), omega (arith, c.loop-d.invariant.1, c.flag-marks.ensures.1, twice d))
+    -- whichever group is asked, it must be d
+    let breaks : c.group_breaks.result ≡ group_breaks c.args.counts c.args.sums c.args.groups d = c.group_breaks.ensures ∙ ap (group_breaks c.args.counts c.args.sums c.args.groups) (omega arith) in
+    (rw (marks_more c.args.counts c.args.sums c.args.groups d, sym c.loop-d.invariant.0, c.flag-marks.ensures.0, bit, breaks), omega (arith, c.loop-d.invariant.1, c.flag-marks.ensures.1, twice d))
 
 pub returns : goal.returns
 returns c =

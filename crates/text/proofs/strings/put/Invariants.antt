@@ -1,0 +1,8 @@
+use mathlib.Core.Path.{◌≡◌}
+use Prim.Native.Nat.{◌-◌, ◌≤◌}
+use lib.ListN.{length}
+use lib.Seq.{paste}
+use Rattle.text.proofs.strings.put.Given as goal
+
+abbrev pub invariant-loop-i : goal.invariant-loop-i
+invariant-loop-i l = (l.i ≤ length l.x) × (length l.out ≡ length l.initial.out) × (l.out ≡ paste l.initial.out l.at l.x l.i)
