@@ -26,8 +26,8 @@ fn book_move(codes: &[u32], firsts: &[u8; 1024], ts: &mut [i64; 256], t: Told, m
     ensures value { result ≡ told codes.now t ts.old m }
     ensures kept { Kept codes.now ts.old m result ts.new }
 {
-    let payer = participants::place_by(codes, firsts, m.payer.0);
-    let other = participants::place_by(codes, firsts, m.other.0);
+    let payer = participants::place_if_listed_by(codes, firsts, m.payer.0);
+    let other = participants::place_if_listed_by(codes, firsts, m.other.0);
     let (Some(p), Some(o)) = (payer, other) else {
         return Told {
             unlisted: true,

@@ -11,13 +11,13 @@ use lib.Dec.{leb, ltb, eqb}
 use lib.ListN.{length, get_or, set, take, drop, length-set, length-drop, drop_of_length-le}
 use lib.Seq.{drop-cons, take_all, get_or-set_same, get_or-set_other}
 use borrow.Author.Tests.{eq-eqb, ne_eqb, eqb-true, eqb-false, le-leb, lt-leb, leb-true, ltb-true, ltb-false, lt-ltb}
-use Rattle.std.specs.Prelude.{Option, None, Some, MatchOption}
+use Rattle.std.specs.Prelude.{Option, None, Some, MatchOption, unwrap_or}
 use Rattle.std.proofs.Common.{nat_eq}
 use Rattle.std.specs.List.{list_any}
 use Rattle.laws.specs.Tests.{among}
 use Rattle.laws.proofs.Truth.{both_left, by_test}
 use Rattle.fields.specs.Kinds.{place}
-use Rattle.fields.proofs.Places.{place_in}
+use Rattle.fields.proofs.Places.{place_in, place_most}
 use Rattle.participants.specs.Participants.{is_fit, all_codes, distinct, is_list}
 use Rattle.participants.specs.Firsts.{Firsts}
 
@@ -52,6 +52,13 @@ pub placed : (x : ℕ) (ys : List ℕ) (r : Option ℕ)
     → MatchOption r (among x ys ≡ false) (λ p. (among x ys ≡ true) × (p < length ys) × (p ≡ place x ys))
 placed x ys None h = none_among x ys h
 placed x ys (Some p) h = listed x ys h.0 (first_is x ys p h.0 h.1 (λ j l e. by_test (ltb j p) (λ w. absurd (h.2 j (ltb-true j p w) e)) (λ w. ltb-false j p w)))
+
+-- the place, where the list's length stands for none
+pub placed_or : (x : ℕ) (ys : List ℕ) (r : Option ℕ)
+    → MatchOption r (among x ys ≡ false) (λ p. (among x ys ≡ true) × (p < length ys) × (p ≡ place x ys))
+    → unwrap_or r (length ys) ≡ place x ys
+placed_or x ys None h = omega (arith, place_most x ys, ltb-false _ _ (place_in x ys ∙ h))
+placed_or x ys (Some p) h = h.2
 
 eqb_turned : (x y : ℕ) → eqb y x ≡ eqb x y
 eqb_turned x y = by_test (eqb x y) (λ w. eq-eqb y x (sym (eqb-true x y w)) ∙ sym w) (λ w. ne_eqb y x (λ e. eqb-false x y w (sym e)) ∙ sym w)

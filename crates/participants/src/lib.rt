@@ -8,11 +8,18 @@ ghost use Rattle.fields.specs.Kinds.{place};
 ghost use Rattle.participants.specs.Participants.{is_list, is_fit};
 ghost use Rattle.participants.specs.Firsts.{Firsts};
 
-// The place of a code in the list.
-pub fn place_of(codes: &[u32], code: u32) -> Option<usize>
+// The place of a code in the list, if it stands there.
+pub fn place_if_listed(codes: &[u32], code: u32) -> Option<usize>
     ensures { MatchOption result (among code codes.now ≡ false) (λ p. (among code codes.now ≡ true) × (p < length codes.now) × (p ≡ place code codes.now)) }
 {
     codes.iter().position(|c| *c == code)
+}
+
+// The place of a code in the list, and the list's length where it does not stand there.
+pub fn place_of(codes: &[u32], code: u32) -> usize
+    ensures { result ≡ place code codes.now }
+{
+    place_if_listed(codes, code).unwrap_or(codes.len())
 }
 
 // For each remainder by 1024 the first place whose code has it, and 0 where none has. Made once for a file, it gives most codes their
@@ -28,8 +35,8 @@ pub fn firsts_of(codes: &[u32]) -> [u8; 1024]
     firsts
 }
 
-// The place of a code. Only one that is not listed, or that shares its remainder with one before it, is looked for from the front.
-pub fn place_by(codes: &[u32], firsts: &[u8; 1024], code: u32) -> Option<usize>
+// The place of a code, if it is listed. Only one that is not, or that shares its remainder with one before it, is looked for from the front.
+pub fn place_if_listed_by(codes: &[u32], firsts: &[u8; 1024], code: u32) -> Option<usize>
     requires { Firsts codes.now firsts.now }
     ensures { MatchOption result (among code codes.now ≡ false) (λ p. (among code codes.now ≡ true) × (p < length codes.now) × (p ≡ place code codes.now)) }
 {
@@ -37,7 +44,15 @@ pub fn place_by(codes: &[u32], firsts: &[u8; 1024], code: u32) -> Option<usize>
     if at < codes.len() && codes[at] == code {
         return Some(at);
     }
-    place_of(codes, code)
+    place_if_listed(codes, code)
+}
+
+// The same, and the list's length where it is not listed.
+pub fn place_by(codes: &[u32], firsts: &[u8; 1024], code: u32) -> usize
+    requires { Firsts codes.now firsts.now }
+    ensures { result ≡ place code codes.now }
+{
+    place_if_listed_by(codes, firsts, code).unwrap_or(codes.len())
 }
 
 // A code that can stand before others in a list.

@@ -1,8 +1,6 @@
-use Rattle.std.proofs.Common.{rules, ◌≡◌, ◌<◌, MatchOption, length, ℕ, get_or}
-use Rattle.participants.proofs.Listing.{placed}
+use mathlib.Core.Path.{◌∙◌}
+use Rattle.participants.proofs.Listing.{placed_or}
 use Rattle.participants.proofs.place_of.Goals as goal
 
 pub returns : goal.returns
-returns c = let codes = c.args.codes.now in
-    let first : MatchOption c.position.result ((k : ℕ) → k < length codes → get_or codes k 0 ≡ c.args.code → ⊥) (λ p. (p < length codes) × (get_or codes p 0 ≡ c.args.code) × ((k : ℕ) → k < p → get_or codes k 0 ≡ c.args.code → ⊥)) = search rules in
-    placed c.args.code codes c.position.result first
+returns c = c.unwrap_or.ensures ∙ placed_or _ _ _ c.place_if_listed.ensures
