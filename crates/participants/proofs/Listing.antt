@@ -54,11 +54,11 @@ placed x ys None h = none_among x ys h
 placed x ys (Some p) h = listed x ys h.0 (first_is x ys p h.0 h.1 (λ j l e. by_test (ltb j p) (λ w. absurd (h.2 j (ltb-true j p w) e)) (λ w. ltb-false j p w)))
 
 -- the place, where the list's length stands for none
-pub placed_or : (x : ℕ) (ys : List ℕ) (r : Option ℕ)
+pub placed_or : (x : ℕ) (ys : List ℕ) (r : Option ℕ) (d : ℕ) → d ≡ length ys
     → MatchOption r (among x ys ≡ false) (λ p. (among x ys ≡ true) × (p < length ys) × (p ≡ place x ys))
-    → unwrap_or r (length ys) ≡ place x ys
-placed_or x ys None h = omega (arith, place_most x ys, ltb-false _ _ (place_in x ys ∙ h))
-placed_or x ys (Some p) h = h.2
+    → unwrap_or r d ≡ place x ys
+placed_or x ys None d e h = omega (arith, e, place_most x ys, ltb-false _ _ (place_in x ys ∙ h))
+placed_or x ys (Some p) d e h = h.2
 
 eqb_turned : (x y : ℕ) → eqb y x ≡ eqb x y
 eqb_turned x y = by_test (eqb x y) (λ w. eq-eqb y x (sym (eqb-true x y w)) ∙ sym w) (λ w. ne_eqb y x (λ e. eqb-false x y w (sym e)) ∙ sym w)
